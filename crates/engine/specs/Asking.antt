@@ -1,0 +1,25 @@
+-- Document 01, "What a domain sees": one domain's records so far, called its log, are asked for by number. Assumes nothing.
+use Prim.Native.Nat.{ℕ}
+use mathlib.Core.List.{List, []}
+use lib.ListN.{length}
+use Rattle.plan.specs.declared.Plan.{Plan}
+use Rattle.machine.specs.declared.State.{State}
+use Rattle.machine.specs.Records.{logPart, partRecords}
+use Rattle.machine.specs.World.{recordsAt}
+use Rattle.refusal.specs.declared.Refusal.{Refusal}
+use Rattle.refusal.specs.declared.Verdict.{Verdict}
+use Rattle.refusal.specs.declared.Verdict.the-variants.{Accepted, Refused}
+use Rattle.engine.specs.Checks.{logVerdict}
+
+-- a refused asking hands back an empty part
+abbrev pub logFrom : Verdict → Plan → State → List ℕ → ℕ → List ℕ
+logFrom Accepted plan state log domain = logPart (partRecords plan (length log)) domain (recordsAt state domain) log
+logFrom (Refused refusal) plan state log domain = []
+
+-- the asking: the part of the lent log itself
+unfoldable pub logCallOf : Plan → State → List ℕ → ℕ → List ℕ
+logCallOf plan state log domain = logFrom (logVerdict plan state log domain) plan state log domain
+
+-- the second question, which takes the same things: why the asking is refused, if it is
+unfoldable pub logRefusalOf : Plan → State → List ℕ → ℕ → Verdict
+logRefusalOf plan state log domain = logVerdict plan state log domain

@@ -1,0 +1,69 @@
+-- Document 01, "The plan text": the other entry points refuse with 11, 12, 13, 14, in this order, each only if the call takes that thing.
+-- Assumes nothing.
+use Prim.Native.Nat.{ℕ}
+use mathlib.Core.Bool.{Bool, true, false, _&&_}
+use mathlib.Core.List.{List}
+use lib.Dec.{eqb, ltb}
+use lib.ListN.{length}
+use Rattle.plan.specs.declared.Plan.{Plan}
+use Rattle.plan.specs.Possible.{planPossible}
+use Rattle.cache.specs.Lines.{tableLength}
+use Rattle.machine.specs.declared.State.{State}
+use Rattle.machine.specs.Damage.{tablesSound}
+use Rattle.machine.specs.Impossible.{statePossible}
+use Rattle.machine.specs.Records.{partRecords}
+use Rattle.machine.specs.World.{World, boxesLength}
+use Rattle.refusal.specs.declared.Refusal.{Refusal}
+use Rattle.refusal.specs.declared.Refusal.the-variants.{DamagedTable, ImpossiblePlan, ImpossibleState, WrongDomain, WrongLength}
+use Rattle.refusal.specs.declared.Verdict.{Verdict}
+use Rattle.refusal.specs.declared.Verdict.the-variants.{Accepted, Refused}
+
+-- the script store has 2,048 numbers
+abbrev pub scriptsLength : ℕ
+scriptsLength = 2_048
+
+-- 11: the cache table has 272 numbers and the boxes 64
+abbrev pub tablesFit : List ℕ → List ℕ → Bool
+tablesFit cache boxes = eqb (length cache) tableLength && eqb (length boxes) boxesLength
+
+-- one check, and what comes after it: an earlier refusal goes before a later one
+abbrev pub unless : Bool → Refusal → Verdict → Verdict
+unless true refusal rest = rest
+unless false refusal rest = Refused refusal
+
+-- 14, of a state beside a log
+unfoldable pub stateVerdict : Plan → State → ℕ → Verdict
+stateVerdict plan state logLength = unless (statePossible plan (partRecords plan logLength) state) ImpossibleState Accepted
+
+-- a fresh start takes plan, cache table and boxes, whatever they hold: 11 and 12
+unfoldable pub freshVerdict : Plan → List ℕ → List ℕ → Verdict
+freshVerdict plan cache boxes = unless (tablesFit cache boxes) WrongLength (unless (planPossible plan) ImpossiblePlan Accepted)
+
+-- a step and a run take everything: 11, 12, 13, 14
+unfoldable pub runVerdict : Plan → List ℕ → World → Verdict
+runVerdict plan scripts world =
+    elim (eqb (length scripts) scriptsLength && tablesFit (world .cache) (world .boxes)) [
+      | false ↦ Refused WrongLength
+      | true ↦
+          elim (planPossible plan) [
+            | false ↦ Refused ImpossiblePlan
+            | true ↦
+                elim (tablesSound plan (world .state) (world .cache) (world .boxes)) [
+                  | false ↦ Refused DamagedTable
+                  | true ↦ stateVerdict plan (world .state) (length (world .log))
+                ]
+          ]
+    ]
+
+-- 4, offset 0, last: an undeclared domain's log
+abbrev pub declaredVerdict : Plan → ℕ → Verdict → Verdict
+declaredVerdict plan domain Accepted = unless (ltb domain (plan .domains)) (WrongDomain 0) Accepted
+declaredVerdict plan domain (Refused refusal) = Refused refusal
+
+-- asking for a log takes plan, state, log and a domain: 12, 14, then 4
+unfoldable pub logVerdict : Plan → State → List ℕ → ℕ → Verdict
+logVerdict plan state log domain =
+    elim (planPossible plan) [
+      | false ↦ Refused ImpossiblePlan
+      | true ↦ declaredVerdict plan domain (stateVerdict plan state (length log))
+    ]

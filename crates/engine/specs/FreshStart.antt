@@ -1,0 +1,32 @@
+-- Document 01, "Window, switch, run": a fresh start zeroes state, cache table and boxes. Assumes nothing.
+use Prim.Native.Nat.{ℕ}
+use mathlib.Core.List.{List}
+use lib.ListN.{replicate}
+use Rattle.plan.specs.declared.Plan.{Plan}
+use Rattle.cache.specs.Lines.{tableLength}
+use Rattle.machine.specs.declared.State.{State}
+use Rattle.machine.specs.World.{World, boxesLength, freshState}
+use Rattle.refusal.specs.declared.Refusal.{Refusal}
+use Rattle.refusal.specs.declared.Verdict.{Verdict}
+use Rattle.refusal.specs.declared.Verdict.the-variants.{Accepted, Refused}
+use Rattle.engine.specs.Checks.{freshVerdict}
+
+-- what a fresh start answers and leaves
+pub record Fresh : Type 0 where
+  pub verdict : Verdict
+  pub state : State
+  pub cache : List ℕ
+  pub boxes : List ℕ
+
+abbrev pub freshFrom : Verdict → State → List ℕ → List ℕ → Fresh
+freshFrom Accepted state cache boxes =
+    record { verdict = Accepted; state = freshState; cache = replicate tableLength 0; boxes = replicate boxesLength 0 }
+freshFrom (Refused refusal) state cache boxes = record { verdict = Refused refusal; state = state; cache = cache; boxes = boxes }
+
+-- a fresh start; a refused one changes nothing
+unfoldable pub freshStartOf : Plan → State → List ℕ → List ℕ → Fresh
+freshStartOf plan state cache boxes = freshFrom (freshVerdict plan cache boxes) state cache boxes
+
+-- the world from which a run starts: a fresh start beside a log, which it leaves as it is
+unfoldable pub freshWorld : List ℕ → World
+freshWorld log = record { state = freshState; cache = replicate tableLength 0; boxes = replicate boxesLength 0; log = log }

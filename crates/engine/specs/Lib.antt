@@ -1,0 +1,4 @@
+pub mod Checks
+pub mod FreshStart
+pub mod Running
+pub mod Asking

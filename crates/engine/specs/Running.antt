@@ -1,0 +1,49 @@
+-- Document 01, "Window, switch, run": a single step, and running with a number of steps as its limit. Assumes nothing.
+use Prim.Native.Nat.{ℕ}
+use mathlib.Core.Bool.{Bool, cond}
+use mathlib.Core.List.{List}
+use lib.ListN.{length}
+use Rattle.plan.specs.declared.Plan.{Plan}
+use Rattle.machine.specs.Records.{partRecords}
+use Rattle.machine.specs.Steps.{Ran, runOf}
+use Rattle.machine.specs.World.{World, endedOf}
+use Rattle.refusal.specs.declared.Refusal.{Refusal}
+use Rattle.refusal.specs.declared.Verdict.{Verdict}
+use Rattle.refusal.specs.declared.Verdict.the-variants.{Accepted, Refused}
+use Rattle.engine.specs.declared.Ending.{Ending}
+use Rattle.engine.specs.declared.Ending.the-variants.{Stopped, Ended}
+use Rattle.engine.specs.Checks.{runVerdict}
+
+-- what a run answers and leaves
+pub record Run : Type 0 where
+  pub verdict : Verdict
+  pub steps : ℕ
+  pub ending : Ending
+  pub world : World
+
+-- *ended*, or *stopped*: the limit was reached first
+abbrev pub endingOf : Bool → Ending
+endingOf ended = cond ended Ended Stopped
+
+unfoldable pub ranFrom : Plan → Ran → Run
+ranFrom plan ran =
+    record
+    { verdict = Accepted; steps = ran .done; ending = endingOf (endedOf plan (ran .world .state)); world = ran .world }
+
+-- a refused run changes nothing, and does no step
+abbrev pub runFrom : Verdict → Plan → List ℕ → World → ℕ → Run
+runFrom Accepted plan scripts world limit = ranFrom plan (runOf plan scripts (partRecords plan (length (world .log))) limit world)
+runFrom (Refused refusal) plan scripts world limit = record { verdict = Refused refusal; steps = 0; ending = Stopped; world = world }
+
+-- running with a limit
+unfoldable pub runCallOf : Plan → List ℕ → World → ℕ → Run
+runCallOf plan scripts world limit = runFrom (runVerdict plan scripts world) plan scripts world limit
+
+-- a single step answers as running with limit 1
+unfoldable pub stepCallOf : Plan → List ℕ → World → Run
+stepCallOf plan scripts world = runCallOf plan scripts world 1
+
+-- the number that stands for an ending: 0 for stopped, 1 for ended
+abbrev pub endingNumber : Ending → ℕ
+endingNumber Stopped = 0
+endingNumber Ended = 1

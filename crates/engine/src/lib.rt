@@ -1,0 +1,24 @@
+// The entry points of a run, and what each answers.
+use machine::State;
+use refusal::Verdict;
+
+// How a run came to its end: the limit was reached first, or the run is over.
+pub enum Ending {
+    Stopped,
+    Ended,
+}
+
+// What a fresh start answers, beside the cache table and the boxes.
+pub struct Started {
+    pub verdict: Verdict,
+    pub state: State,
+}
+
+// What a step or a run answers, beside the cache table, the boxes and the log.
+pub struct Progress {
+    pub verdict: Verdict,
+    // the number of steps done
+    pub steps: u64,
+    pub ending: Ending,
+    pub state: State,
+}

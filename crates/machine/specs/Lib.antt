@@ -1,0 +1,7 @@
+pub mod World
+pub mod Records
+pub mod Ops
+pub mod Switch
+pub mod Steps
+pub mod Damage
+pub mod Impossible

@@ -1,0 +1,85 @@
+-- Document 01, "Window, switch, run": one step, so many steps, a run under a limit. Assumes nothing.
+use Prim.Native.Nat.{ℕ, zero, suc, _+_}
+use mathlib.Core.Bool.{Bool, true, false, cond, _||_}
+use mathlib.Core.List.{List}
+use lib.Dec.{leb}
+use lib.ListN.{set}
+use Rattle.plan.specs.declared.Plan.{Plan}
+use Rattle.plan.specs.Windows.{endOf}
+use Rattle.script.specs.declared.Op.{Op}
+use Rattle.script.specs.declared.Fetched.{Fetched}
+use Rattle.script.specs.declared.Fetched.the-variants.{Op as Fetch, End}
+use Rattle.script.specs.Fetch.{fetchOf}
+use Rattle.machine.specs.declared.State.{State}
+use Rattle.machine.specs.World.{World, endedOf, positionAt, recordsAt, runningOf}
+use Rattle.machine.specs.Records.{stored}
+use Rattle.machine.specs.Ops.{Effect, effectOf}
+use Rattle.machine.specs.Switch.{switchOf}
+
+-- one op of a domain: the next position, one record more, the clock after the op, and what the op leaves
+unfoldable pub opStepOf : Plan → ℕ → ℕ → Op → World → World
+opStepOf plan quota domain op world =
+    let effect = effectOf plan domain op (world .cache) (world .boxes) in
+    let clock = world .state .clock + effect .ticks in
+    let count = recordsAt (world .state) domain in
+    record {
+      state =
+          record {
+            windows = world .state .windows;
+            clock = clock;
+            positions = set (world .state .positions) domain (positionAt (world .state) domain + 1);
+            records = set (world .state .records) domain (count + 1);
+          };
+      cache = effect .cache;
+      boxes = effect .boxes;
+      log = stored quota domain count (effect .seen) clock (world .log);
+    }
+
+-- no op begins: the clock has reached the window's end, or the domain's log is full
+unfoldable pub closedOf : Plan → ℕ → State → Bool
+closedOf plan quota state = leb (endOf plan (state .windows)) (state .clock) || leb quota (recordsAt state (runningOf plan state))
+
+-- an op where one stands at the domain's position; a switch where the script has ended
+unfoldable pub fetchedStep : Plan → ℕ → Fetched → World → World
+fetchedStep plan quota (Fetch op) world = opStepOf plan quota (runningOf plan (world .state)) op world
+fetchedStep plan quota End world = switchOf plan world
+
+-- what stands next in the running domain's script
+abbrev pub nextOf : Plan → List ℕ → State → Fetched
+nextOf plan scripts state = fetchOf scripts (runningOf plan state) (positionAt state (runningOf plan state))
+
+-- a step of a run that has not ended: one op or one switch. A switch is taken when the clock has reached the window's end, or the script has
+-- ended, or the domain's log is full.
+unfoldable pub activeStep : Plan → List ℕ → ℕ → World → World
+activeStep plan scripts quota world =
+    elim (closedOf plan quota (world .state)) [
+      | true ↦ switchOf plan world
+      | false ↦ fetchedStep plan quota (nextOf plan scripts (world .state)) world
+    ]
+
+-- one step; an ended run stays as it is. `quota` is the number of records that each domain's part of the log holds.
+unfoldable pub stepOf : Plan → List ℕ → ℕ → World → World
+stepOf plan scripts quota world =
+    elim (endedOf plan (world .state)) [ true ↦ world | false ↦ activeStep plan scripts quota world ]
+
+-- so many steps
+unfoldable pub steps : Plan → List ℕ → ℕ → ℕ → World → World
+steps plan scripts quota zero world = world
+steps plan scripts quota (suc count) world = stepOf plan scripts quota (steps plan scripts quota count world)
+
+-- what a run under a limit leaves, with the number of steps done
+pub record Ran : Type 0 where
+  pub done : ℕ
+  pub world : World
+
+abbrev pub oneMore : Ran → Ran
+oneMore ran = record { done = ran .done + 1; world = ran .world }
+
+-- running takes a number of steps as its limit, and stops before it where the run ends
+unfoldable pub runOf : Plan → List ℕ → ℕ → ℕ → World → Ran
+runOf plan scripts quota zero world = record { done = 0; world = world }
+runOf plan scripts quota (suc limit) world =
+    elim (endedOf plan (world .state)) [
+      | true ↦ record { done = 0; world = world }
+      | false ↦ oneMore (runOf plan scripts quota limit (activeStep plan scripts quota world))
+    ]

@@ -1,0 +1,51 @@
+-- Document 01, "The core and its tables": a domain's share, its colours, its mask and its holding. Assumes nothing.
+use Prim.Native.Nat.{ℕ, _+_, _*_, _-_, _/_, _%_, _^_}
+use mathlib.Core.Bool.{Bool}
+use lib.Count.{ones}
+use lib.Dec.{eqb}
+use lib.ListN.{getD}
+use Rattle.plan.specs.declared.Plan.{Plan}
+use Rattle.plan.specs.Sums.{sumTo}
+
+-- a share in thousandths gives share × 15 / 1,000 colours, rounded down
+unfoldable pub coloursOf : ℕ → ℕ
+coloursOf share = share * 15 / 1_000
+
+-- a domain's share, and the colours that it gives
+abbrev pub shareOf : Plan → ℕ → ℕ
+shareOf plan domain = getD (plan .shares) domain 0
+
+abbrev pub coloursAt : Plan → ℕ → ℕ
+coloursAt plan domain = coloursOf (shareOf plan domain)
+
+-- the shares' total over the first domains
+unfoldable pub sharesTotal : Plan → ℕ → ℕ
+sharesTotal plan count = sumTo (shareOf plan) count
+
+-- colours are given from colour 0 upwards in domain order: a domain's first is the number given to the domains before it
+unfoldable pub firstColour : Plan → ℕ → ℕ
+firstColour plan domain = sumTo (coloursAt plan) domain
+
+-- the 16-bit mask of so many adjacent colours from a first one on
+unfoldable pub maskFrom : ℕ → ℕ → ℕ
+maskFrom first count = (2 ^ count - 1) * 2 ^ first
+
+-- the mask that a domain's share gives it
+unfoldable pub maskOf : Plan → ℕ → ℕ
+maskOf plan domain = maskFrom (firstColour plan domain) (coloursAt plan domain)
+
+-- the mask that a plan keeps for a domain
+abbrev pub maskAt : Plan → ℕ → ℕ
+maskAt plan domain = getD (plan .masks) domain 0
+
+-- a domain's holding is the number of ones in its mask
+unfoldable pub holdingOf : Plan → ℕ → ℕ
+holdingOf plan domain = ones (maskAt plan domain)
+
+-- bit `place` of a mask is set
+unfoldable pub hasBit : ℕ → ℕ → Bool
+hasBit mask place = eqb (mask / 2 ^ place % 2) 1
+
+-- a colour is a domain's
+abbrev pub ownsColour : Plan → ℕ → ℕ → Bool
+ownsColour plan domain colour = hasBit (maskAt plan domain) colour

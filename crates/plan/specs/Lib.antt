@@ -1,0 +1,5 @@
+pub mod Sums
+pub mod Colours
+pub mod Rights
+pub mod Windows
+pub mod Possible

@@ -1,0 +1,148 @@
+-- Document 01, "The plan text": what a good line adds to the plan and the scripts; at a line's end 5 and 10. Assumes nothing.
+use Prim.Native.Nat.{ℕ, _+_, _*_}
+use mathlib.Core.Bool.{Bool, true, false, cond}
+use mathlib.Core.List.{List}
+use lib.Dec.{eqb, leb}
+use lib.ListN.{getD, replicate, set}
+use Rattle.plan.specs.declared.Plan.{Plan}
+use Rattle.refusal.specs.declared.Refusal.{Refusal}
+use Rattle.refusal.specs.declared.Refusal.the-variants.{RepeatedOrMissing, TooMany}
+use Rattle.script.specs.Stored.{storedOf}
+use Rattle.reader.specs.declared.DomainLine.{DomainLine}
+use Rattle.reader.specs.declared.Draft.{Draft}
+use Rattle.reader.specs.declared.Form.{Form}
+use Rattle.reader.specs.declared.Form.the-variants.{Blank, Pad, Run, Domain, Window, Op, Refused}
+use Rattle.reader.specs.declared.Line.{Line}
+use Rattle.reader.specs.declared.OpLine.{OpLine}
+use Rattle.reader.specs.declared.WindowLine.{WindowLine}
+
+-- the plan beside a refused reading, and before the first line: all zeros
+unfoldable pub noPlan : Plan
+noPlan =
+    record {
+      pad = 0;
+      run = 0;
+      domains = 0;
+      windows = 0;
+      shares = replicate 8 0;
+      rights = replicate 8 0;
+      owners = replicate 32 0;
+      lengths = replicate 32 0;
+      masks = replicate 8 0;
+    }
+
+unfoldable pub noDraft : Draft
+noDraft = record { plan = noPlan; ops = replicate 8 0; named = replicate 8 0 }
+
+-- the script store's length, and one of zeros
+abbrev pub storeLength : ℕ
+storeLength = 2_048
+
+unfoldable pub noOps : List ℕ
+noOps = replicate storeLength 0
+
+-- the lines read so far gave a draft and a store, or were refused
+pub data Outcome : Type 0 where
+  refused : Refusal → Outcome
+  kept : Draft → List ℕ → Outcome
+
+abbrev pub withPlan : Draft → Plan → Draft
+withPlan draft plan = record { plan = plan; ops = draft .ops; named = draft .named }
+
+-- ---- a plan with one thing more
+
+unfoldable pub planWithPad : Plan → ℕ → Plan
+planWithPad p ticks =
+    record {
+      pad = ticks;
+      run = p .run;
+      domains = p .domains;
+      windows = p .windows;
+      shares = p .shares;
+      rights = p .rights;
+      owners = p .owners;
+      lengths = p .lengths;
+      masks = p .masks;
+    }
+
+unfoldable pub planWithRun : Plan → ℕ → Plan
+planWithRun p times =
+    record {
+      pad = p .pad;
+      run = times;
+      domains = p .domains;
+      windows = p .windows;
+      shares = p .shares;
+      rights = p .rights;
+      owners = p .owners;
+      lengths = p .lengths;
+      masks = p .masks;
+    }
+
+unfoldable pub planWithDomain : Plan → DomainLine → Plan
+planWithDomain p line =
+    record {
+      pad = p .pad;
+      run = p .run;
+      domains = p .domains + 1;
+      windows = p .windows;
+      shares = set (p .shares) (p .domains) (line .share);
+      rights = set (p .rights) (p .domains) (line .rights);
+      owners = p .owners;
+      lengths = p .lengths;
+      masks = p .masks;
+    }
+
+unfoldable pub planWithWindow : Plan → WindowLine → Plan
+planWithWindow p line =
+    record {
+      pad = p .pad;
+      run = p .run;
+      domains = p .domains;
+      windows = p .windows + 1;
+      shares = p .shares;
+      rights = p .rights;
+      owners = set (p .owners) (p .windows) (line .owner);
+      lengths = set (p .lengths) (p .windows) (line .length);
+      masks = p .masks;
+    }
+
+-- ---- what each form adds, or 5 or 10 with the line's bracket
+
+-- a second pad or run gives 5; the limits keep both above 0, so 0 is none yet
+unfoldable pub takePad : ℕ → ℕ → Draft → List ℕ → Outcome
+takePad ticks bracket draft store =
+    cond (eqb (draft .plan .pad) 0) (kept (withPlan draft (planWithPad (draft .plan) ticks)) store) (refused (RepeatedOrMissing bracket))
+
+unfoldable pub takeRun : ℕ → ℕ → Draft → List ℕ → Outcome
+takeRun times bracket draft store =
+    cond (eqb (draft .plan .run) 0) (kept (withPlan draft (planWithRun (draft .plan) times)) store) (refused (RepeatedOrMissing bracket))
+
+unfoldable pub takeDomain : DomainLine → List ℕ → Draft → List ℕ → Outcome
+takeDomain line named draft store =
+    kept (record { plan = planWithDomain (draft .plan) line; ops = draft .ops; named = named }) store
+
+-- at most 32 windows: the 33rd gives 10
+unfoldable pub takeWindow : WindowLine → ℕ → Draft → List ℕ → Outcome
+takeWindow line bracket draft store =
+    cond (leb 32 (draft .plan .windows)) (refused (TooMany bracket)) (kept (withPlan draft (planWithWindow (draft .plan) line)) store)
+
+-- at most 256 ops a domain: the 257th gives 10. An op is stored at 256 × domain + place.
+unfoldable pub takeOp : OpLine → ℕ → Draft → List ℕ → Outcome
+takeOp line bracket draft store =
+    let place = getD (draft .ops) (line .domain) 0 in
+    cond (leb 256 place) (refused (TooMany bracket))
+    (kept (record { plan = draft .plan; ops = set (draft .ops) (line .domain) (place + 1); named = draft .named })
+    (set store (256 * line .domain + place) (storedOf (line .op))))
+
+abbrev pub takeForm : Form → ℕ → List ℕ → Draft → List ℕ → Outcome
+takeForm Blank bracket named draft store = kept draft store
+takeForm (Pad ticks) bracket named draft store = takePad ticks bracket draft store
+takeForm (Run times) bracket named draft store = takeRun times bracket draft store
+takeForm (Domain line) bracket named draft store = takeDomain line named draft store
+takeForm (Window line) bracket named draft store = takeWindow line bracket draft store
+takeForm (Op line) bracket named draft store = takeOp line bracket draft store
+takeForm (Refused refusal) bracket named draft store = refused refusal
+
+unfoldable pub takeLine : Line → Draft → List ℕ → Outcome
+takeLine line draft store = takeForm (line .form) (line .bracket) (line .named) draft store

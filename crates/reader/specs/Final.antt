@@ -1,0 +1,66 @@
+-- Document 01, "The plan text": after the last line 5, then *may* (4), 7, 6, 9. Assumes nothing.
+use Prim.Native.Nat.{ℕ, zero, suc, _+_, _-_}
+use mathlib.Core.Bool.{Bool, true, false, cond, _&&_, _||_}
+use mathlib.Core.List.{List, [], _∷_}
+use lib.Dec.{eqb, leb, ltb}
+use lib.ListN.{getD}
+use Rattle.plan.specs.declared.Plan.{Plan}
+use Rattle.plan.specs.Colours.{coloursAt, maskOf, sharesTotal}
+use Rattle.plan.specs.Windows.{ticksTotal}
+use Rattle.refusal.specs.declared.Refusal.{Refusal}
+use Rattle.refusal.specs.declared.Refusal.the-variants.{NoColour, RepeatedOrMissing, RunTooLong, SharesOverThousand, WrongDomain}
+use Rattle.refusal.specs.declared.Verdict.{Verdict}
+use Rattle.refusal.specs.declared.Verdict.the-variants.{Accepted, Refused}
+use Rattle.reader.specs.declared.Draft.{Draft}
+
+-- 5: no pad, domain, window or run
+unfoldable pub lacking : Plan → Bool
+lacking plan = eqb (plan .pad) 0 || eqb (plan .domains) 0 || eqb (plan .windows) 0 || eqb (plan .run) 0
+
+-- the lesser of two places, each an offset plus one, or 0 for none
+abbrev pub firstPlace : ℕ → ℕ → ℕ
+firstPlace a b = cond (eqb a 0) b (cond (eqb b 0) a (cond (leb a b) a b))
+
+-- 4: where the text first names, as a recipient, one of the first `count` domains that is not declared; an offset plus one, or 0 for none
+unfoldable pub firstUndeclared : List ℕ → ℕ → ℕ → ℕ
+firstUndeclared named declared zero = 0
+firstUndeclared named declared (suc count) =
+    firstPlace (firstUndeclared named declared count) (cond (ltb count declared) 0 (getD named count 0))
+
+-- 6: the lowest of the domains from `domain` on, `left` in number, whose share gives no colour; past the last where each gives one
+unfoldable pub firstColourless : Plan → ℕ → ℕ → ℕ
+firstColourless plan zero domain = domain
+firstColourless plan (suc left) domain =
+    elim (eqb (coloursAt plan domain) 0) [ true ↦ domain | false ↦ firstColourless plan left (domain + 1) ]
+
+-- the checks after the last line, in their order
+unfoldable pub finalVerdict : ℕ → Draft → Verdict
+finalVerdict textLength draft =
+    let plan = draft .plan in
+    let undeclared = firstUndeclared (draft .named) (plan .domains) 8 in
+    let colourless = firstColourless plan (plan .domains) 0 in
+    cond (lacking plan) (Refused (RepeatedOrMissing textLength))
+    (cond (ltb 0 undeclared) (Refused (WrongDomain (undeclared - 1)))
+    (cond (ltb 1_000 (sharesTotal plan (plan .domains))) (Refused (SharesOverThousand (sharesTotal plan (plan .domains))))
+    (cond (ltb colourless (plan .domains)) (Refused (NoColour colourless))
+    (cond (ltb 4_294_967_295 (ticksTotal plan)) (Refused RunTooLong) Accepted))))
+
+-- the mask of each declared domain, and 0 for the others
+unfoldable pub masksFrom : Plan → ℕ → ℕ → List ℕ
+masksFrom plan zero domain = []
+masksFrom plan (suc left) domain = cond (ltb domain (plan .domains)) (maskOf plan domain) 0 ∷ masksFrom plan left (domain + 1)
+
+-- an accepted plan keeps its colour masks
+unfoldable pub planWithMasks : Plan → Plan
+planWithMasks p =
+    record {
+      pad = p .pad;
+      run = p .run;
+      domains = p .domains;
+      windows = p .windows;
+      shares = p .shares;
+      rights = p .rights;
+      owners = p .owners;
+      lengths = p .lengths;
+      masks = masksFrom p 8 0;
+    }

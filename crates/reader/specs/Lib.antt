@@ -1,0 +1,6 @@
+pub mod Tokens
+pub mod Forms
+pub mod Lines
+pub mod Draft
+pub mod Final
+pub mod Read

@@ -1,0 +1,63 @@
+-- Document 01, "The plan text": reading a plan. 11, then 1; then line by line; then the checks after the last line. Assumes nothing.
+use Prim.Native.Nat.{ℕ, zero, suc, _+_}
+use mathlib.Core.Bool.{Bool, true, false, cond}
+use mathlib.Core.List.{List}
+use lib.Dec.{eqb, ltb}
+use lib.ListN.{length}
+use Rattle.plan.specs.declared.Plan.{Plan}
+use Rattle.refusal.specs.declared.Refusal.{Refusal}
+use Rattle.refusal.specs.declared.Refusal.the-variants.{TextTooLong, WrongLength}
+use Rattle.refusal.specs.declared.Verdict.{Verdict}
+use Rattle.refusal.specs.declared.Verdict.the-variants.{Accepted, Refused}
+use Rattle.reader.specs.declared.Draft.{Draft}
+use Rattle.reader.specs.declared.Line.{Line}
+use Rattle.reader.specs.Draft.{Outcome, refused, kept, noDraft, noOps, noPlan, storeLength, takeLine}
+use Rattle.reader.specs.Final.{finalVerdict, planWithMasks}
+use Rattle.reader.specs.Lines.{lineAt}
+
+-- the line at an offset, after the lines that gave a draft
+abbrev pub lineOf : List ℕ → ℕ → Draft → Line
+lineOf text at draft = lineAt text (draft .plan .domains) (draft .named) at
+
+-- the lines from an offset on, each taken up as it is read. A text has no more lines than bytes, so `lines`, its length, never runs out.
+unfoldable pub walkFrom : ℕ → List ℕ → ℕ → Draft → List ℕ → Outcome
+walkFrom zero text at draft store = kept draft store
+walkFrom (suc lines) text at draft store =
+    elim (ltb at (length text)) [
+      | true ↦
+          elim (takeLine (lineOf text at draft) draft store) [
+            | refused refusal ↦ refused refusal
+            | kept next filled ↦ walkFrom lines text (lineOf text at draft .end + 1) next filled
+          ]
+      | false ↦ kept draft store
+    ]
+
+-- what reading answers, and the script store that it leaves
+pub record Read : Type 0 where
+  pub verdict : Verdict
+  pub plan : Plan
+  pub scripts : List ℕ
+
+-- all buffers stay as given, and the plan beside a refused reading is all zeros
+unfoldable pub refusedRead : Refusal → List ℕ → Read
+refusedRead refusal scripts = record { verdict = Refused refusal; plan = noPlan; scripts = scripts }
+
+abbrev pub judged : Verdict → Draft → List ℕ → List ℕ → Read
+judged Accepted draft store scripts = record { verdict = Accepted; plan = planWithMasks (draft .plan); scripts = store }
+judged (Refused refusal) draft store scripts = refusedRead refusal scripts
+
+abbrev pub finished : ℕ → Outcome → List ℕ → Read
+finished textLength (refused refusal) scripts = refusedRead refusal scripts
+finished textLength (kept draft store) scripts = judged (finalVerdict textLength draft) draft store scripts
+
+-- a text of at most 32,768 bytes, and a store of 2,048 numbers
+unfoldable pub readOf : List ℕ → List ℕ → Read
+readOf text scripts =
+    elim (eqb (length scripts) storeLength) [
+      | false ↦ refusedRead WrongLength scripts
+      | true ↦
+          elim (ltb 32_768 (length text)) [
+            | true ↦ refusedRead TextTooLong scripts
+            | false ↦ finished (length text) (walkFrom (length text) text 0 noDraft noOps) scripts
+          ]
+    ]

@@ -1,0 +1,35 @@
+-- Document 01, "The plan text", the table of refusals: the number that each refusal returns, with its companion, the table's second item.
+-- Assumes nothing.
+use Prim.Native.Nat.{ℕ}
+use Rattle.refusal.specs.declared.Code.{Code}
+use Rattle.refusal.specs.declared.Verdict.{Verdict}
+use Rattle.refusal.specs.declared.Verdict.the-variants.{Accepted, Refused}
+use Rattle.refusal.specs.declared.Refusal.{Refusal}
+use Rattle.refusal.specs.declared.Refusal.the-variants.{TextTooLong, BrokenShape, NumberOutOfLimits, WrongDomain, RepeatedOrMissing}
+use Rattle.refusal.specs.declared.Refusal.the-variants.{NoColour, SharesOverThousand, BadRecipient, RunTooLong, TooMany}
+use Rattle.refusal.specs.declared.Refusal.the-variants.{WrongLength, ImpossiblePlan, DamagedTable, ImpossibleState}
+
+abbrev pub codeWith : ℕ → ℕ → Code
+codeWith number companion = record { number = number; companion = companion }
+
+-- "Returned" and its companion, row by row
+abbrev pub refusalCode : Refusal → Code
+refusalCode TextTooLong = codeWith 1 0
+refusalCode (BrokenShape offset) = codeWith 2 offset
+refusalCode (NumberOutOfLimits offset) = codeWith 3 offset
+refusalCode (WrongDomain offset) = codeWith 4 offset
+refusalCode (RepeatedOrMissing offset) = codeWith 5 offset
+refusalCode (NoColour domain) = codeWith 6 domain
+refusalCode (SharesOverThousand sum) = codeWith 7 sum
+refusalCode (BadRecipient offset) = codeWith 8 offset
+refusalCode RunTooLong = codeWith 9 0
+refusalCode (TooMany offset) = codeWith 10 offset
+refusalCode WrongLength = codeWith 11 0
+refusalCode ImpossiblePlan = codeWith 12 0
+refusalCode DamagedTable = codeWith 13 0
+refusalCode ImpossibleState = codeWith 14 0
+
+-- "Acceptance is 0, 0"; a refusal has its row of the table
+abbrev pub codeOf : Verdict → Code
+codeOf Accepted = codeWith 0 0
+codeOf (Refused refusal) = refusalCode refusal

@@ -1,0 +1,1 @@
+// The printed lines of a run or of a refusal.

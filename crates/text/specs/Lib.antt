@@ -1,0 +1,4 @@
+pub mod Bytes
+pub mod Scan
+pub mod Tokens
+pub mod Decimal

@@ -1,0 +1,64 @@
+-- Document 01, "The plan text": a token is a bracket or a longest run of bytes that are no bracket, space or LF. Assumes nothing.
+use Prim.Native.Nat.{ℕ, _+_, _*_, _-_}
+use mathlib.Core.Bool.{Bool, cond}
+use mathlib.Core.List.{List, [], _∷_}
+use lib.Dec.{leb, ltb}
+use lib.ListN.{length, getD}
+use Rattle.lists.specs.Part.{part}
+use Rattle.text.specs.declared.Token.{Token}
+use Rattle.text.specs.declared.Token.the-variants.{LineEnd, Open, Close, Word, Number, LongNumber, Other}
+use Rattle.text.specs.Bytes.{endsRun, isClose, isDigit, isLetter, isLineFeed, isNoSpace, isOpen}
+use Rattle.text.specs.Scan.{allBytes, scanOf}
+
+-- the number that a run of digits writes, after one that stands before it
+unfoldable pub valueAfter : ℕ → List ℕ → ℕ
+valueAfter before [] = before
+valueAfter before (digit ∷ rest) = valueAfter (before * 10 + (digit - 48)) rest
+
+unfoldable pub valueOf : List ℕ → ℕ
+valueOf digits = valueAfter 0 digits
+
+-- a run of digits: a number of 1 to 10 digits, leading zeros allowed, or one of more
+unfoldable pub digitsToken : List ℕ → ℕ → ℕ → Token
+digitsToken run start end = cond (leb (length run) 10) (Number start end (valueOf run)) (LongNumber start end)
+
+-- a run of bytes: a word of a to z, a number, or neither
+unfoldable pub runToken : List ℕ → ℕ → ℕ → Token
+runToken run start end =
+    cond (allBytes isLetter run) (Word start end) (cond (allBytes isDigit run) (digitsToken run start end) (Other start end))
+
+-- the longest run of bytes that are no bracket, space or LF, from an offset on
+unfoldable pub longestRun : List ℕ → ℕ → Token
+longestRun text start = let end = scanOf endsRun text start in runToken (part start (end - start) text) start end
+
+-- the token whose first byte stands at an offset that holds no space
+unfoldable pub tokenFrom : List ℕ → ℕ → Token
+tokenFrom text start =
+    cond (ltb start (length text))
+    (cond (isLineFeed (getD text start 0)) (LineEnd start)
+    (cond (isOpen (getD text start 0)) (Open start) (cond (isClose (getD text start 0)) (Close start) (longestRun text start))))
+    (LineEnd start)
+
+-- the next token of the line from an offset on: spaces are passed over
+unfoldable pub tokenAt : List ℕ → ℕ → Token
+tokenAt text at = tokenFrom text (scanOf isNoSpace text at)
+
+-- the offset of a token's first byte, or of the line's end
+abbrev pub startOf : Token → ℕ
+startOf (LineEnd at) = at
+startOf (Open at) = at
+startOf (Close at) = at
+startOf (Word start end) = start
+startOf (Number start end value) = start
+startOf (LongNumber start end) = start
+startOf (Other start end) = start
+
+-- the offset past a token's last byte; the line's end itself
+abbrev pub endOf : Token → ℕ
+endOf (LineEnd at) = at
+endOf (Open at) = at + 1
+endOf (Close at) = at + 1
+endOf (Word start end) = end
+endOf (Number start end value) = end
+endOf (LongNumber start end) = end
+endOf (Other start end) = end
