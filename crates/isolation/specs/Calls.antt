@@ -1,0 +1,180 @@
+-- Document 01, "Two lists of calls": a list of calls after a fresh start, what each call was handed, and what it answers and leaves, read off the
+-- definitions that the entry points' contracts cite. Assumes nothing.
+use Prim.Native.Nat.{ℕ, _+_}
+use mathlib.Core.Bool.{Bool, true, false, cond, not}
+use mathlib.Core.List.{List, [], _∷_}
+use mathlib.Core.Logic.{_⊎_}
+use mathlib.Core.Path.{_≡_}
+use lib.Dec.{eqb}
+use Rattle.plan.specs.declared.Plan.{Plan}
+use Rattle.machine.specs.declared.State.{State}
+use Rattle.machine.specs.World.{World}
+use Rattle.refusal.specs.declared.Verdict.{Verdict}
+use Rattle.refusal.specs.Code.{codeOf}
+use Rattle.engine.specs.Asking.{logRefusalOf}
+use Rattle.engine.specs.FreshStart.{freshStartOf, freshWorld}
+use Rattle.engine.specs.Running.{Run, runCallOf, stepCallOf}
+
+-- a call was handed the list's own thing, as the last call left it, or any other
+pub data Handed (A : Type 0) : Type 0 where
+  own : Handed A
+  foreign : A → Handed A
+
+-- the value that a call was handed
+abbrev pub handed : {A : Type 0} → Handed A → A → A
+handed own value = value
+handed (foreign other) value = other
+
+-- the list's own thing after a call that left a value in what it was handed
+abbrev pub leftIn : {A : Type 0} → Handed A → A → A → A
+leftIn own value left = left
+leftIn (foreign other) value left = value
+
+-- it was the list's own thing
+abbrev pub IsOwn : {A : Type 0} → Handed A → Type 0
+IsOwn own = Unit {0}
+IsOwn (foreign other) = ⊥
+
+-- what a step or a run takes, thing by thing
+pub record RunThings : Type 0 where
+  pub plan : Handed Plan
+  pub scripts : Handed (List ℕ)
+  pub state : Handed State
+  pub cache : Handed (List ℕ)
+  pub boxes : Handed (List ℕ)
+  pub log : Handed (List ℕ)
+
+-- what the two askings take, besides a domain's number
+pub record LogThings : Type 0 where
+  pub plan : Handed Plan
+  pub state : Handed State
+  pub log : Handed (List ℕ)
+
+-- single step, running with any limit, asking for a log, the second question about it
+pub data Call : Type 0 where
+  stepCall : RunThings → Call
+  runCall : RunThings → ℕ → Call
+  logCall : LogThings → ℕ → Call
+  logQuestion : LogThings → ℕ → Call
+
+-- a list: the plan, the script store and the log; what the fresh start overwrote; and the calls after it
+pub record CallList : Type 0 where
+  pub plan : Plan
+  pub scripts : List ℕ
+  pub log : List ℕ
+  pub oldState : State
+  pub oldCache : List ℕ
+  pub oldBoxes : List ℕ
+  pub calls : List Call
+
+-- a call is refused exactly when its answer's number is not 0
+abbrev pub isRefused : Verdict → Bool
+isRefused verdict = not (eqb (codeOf verdict .number) 0)
+
+module _ (plan : Plan) (scripts : List ℕ) where
+  -- the world that a step or a run was handed, beside the list's own
+  abbrev pub handedWorld : RunThings → World → World
+  handedWorld things world =
+      record {
+        state = handed (things .state) (world .state);
+        cache = handed (things .cache) (world .cache);
+        boxes = handed (things .boxes) (world .boxes);
+        log = handed (things .log) (world .log);
+      }
+
+  -- what the entry points answer, by their contracts' definitions
+  unfoldable pub runAnswer : RunThings → ℕ → World → Run
+  runAnswer things limit world = runCallOf (handed (things .plan) plan) (handed (things .scripts) scripts) (handedWorld things world) limit
+
+  unfoldable pub stepAnswer : RunThings → World → Run
+  stepAnswer things world = stepCallOf (handed (things .plan) plan) (handed (things .scripts) scripts) (handedWorld things world)
+
+  unfoldable pub logAnswer : LogThings → ℕ → World → Verdict
+  logAnswer things domain world =
+      logRefusalOf (handed (things .plan) plan) (handed (things .state) (world .state)) (handed (things .log) (world .log)) domain
+
+  -- the list's own world after a step or a run: what it was handed of its own is as that call left it
+  abbrev pub leftWorld : RunThings → World → World → World
+  leftWorld things world left =
+      record {
+        state = leftIn (things .state) (world .state) (left .state);
+        cache = leftIn (things .cache) (world .cache) (left .cache);
+        boxes = leftIn (things .boxes) (world .boxes) (left .boxes);
+        log = leftIn (things .log) (world .log) (left .log);
+      }
+
+  -- the list's own world after a call; the askings leave everything
+  unfoldable pub afterCall : Call → World → World
+  afterCall (stepCall things) world = leftWorld things world (stepAnswer things world .world)
+  afterCall (runCall things limit) world = leftWorld things world (runAnswer things limit world .world)
+  afterCall (logCall things domain) world = world
+  afterCall (logQuestion things domain) world = world
+
+  -- a call's verdict on the list's own world; an asking's is had by the second question about it, and a second question is never refused itself:
+  -- what it answers is the asking's verdict
+  unfoldable pub verdictOf : Call → World → Verdict
+  verdictOf (stepCall things) world = stepAnswer things world .verdict
+  verdictOf (runCall things limit) world = runAnswer things limit world .verdict
+  verdictOf (logCall things domain) world = logAnswer things domain world
+  verdictOf (logQuestion things domain) world = logAnswer things domain world
+
+  -- how many steps a call asks for: one for a single step, a running's limit; none where it is refused
+  abbrev pub stepsAsked : Call → ℕ
+  stepsAsked (stepCall things) = 1
+  stepsAsked (runCall things limit) = limit
+  stepsAsked (logCall things domain) = 0
+  stepsAsked (logQuestion things domain) = 0
+
+  unfoldable pub stepsCounted : Call → World → ℕ
+  stepsCounted call world = cond (isRefused (verdictOf call world)) 0 (stepsAsked call)
+
+  -- the list's own world after some calls, and the steps that they counted together
+  unfoldable pub afterCalls : List Call → World → World
+  afterCalls [] world = world
+  afterCalls (call ∷ calls) world = afterCalls calls (afterCall call world)
+
+  unfoldable pub stepsOfCalls : List Call → World → ℕ
+  stepsOfCalls [] world = 0
+  stepsOfCalls (call ∷ calls) world = stepsCounted call world + stepsOfCalls calls (afterCall call world)
+
+  -- every thing that a call was handed is the list's own
+  abbrev pub AllOwn : Call → Type 0
+  AllOwn (stepCall things) =
+      IsOwn (things .plan)
+      × IsOwn (things .scripts)
+      × IsOwn (things .state)
+      × IsOwn (things .cache)
+      × IsOwn (things .boxes)
+      × IsOwn (things .log)
+  AllOwn (runCall things limit) =
+      IsOwn (things .plan)
+      × IsOwn (things .scripts)
+      × IsOwn (things .state)
+      × IsOwn (things .cache)
+      × IsOwn (things .boxes)
+      × IsOwn (things .log)
+  AllOwn (logCall things domain) = IsOwn (things .plan) × IsOwn (things .state) × IsOwn (things .log)
+  AllOwn (logQuestion things domain) = IsOwn (things .plan) × IsOwn (things .state) × IsOwn (things .log)
+
+  -- each call gets the list's own things as the last one left them; a refused call may have been handed anything else
+  unfoldable pub Proper : List Call → World → Type 0
+  Proper [] world = Unit {0}
+  Proper (call ∷ calls) world =
+      ((isRefused (verdictOf call world) ≡ true) ⊎ AllOwn call) × Proper calls (afterCall call world)
+
+-- the world from which the calls of a list start
+abbrev pub startWorld : CallList → World
+startWorld list = freshWorld (list .log)
+
+-- a list begins with a fresh start that was not refused, and its calls are as above
+pub record IsList (list : CallList) : Type 0 where
+  pub started : isRefused (freshStartOf (list .plan) (list .oldState) (list .oldCache) (list .oldBoxes) .verdict) ≡ false
+  pub proper : Proper (list .plan) (list .scripts) (list .calls) (startWorld list)
+
+-- what a list leaves
+abbrev pub leavesOf : CallList → World
+leavesOf list = afterCalls (list .plan) (list .scripts) (list .calls) (startWorld list)
+
+-- the number of steps of a list's run: as many as its unrefused single steps and the limits of its unrefused runnings add up to
+abbrev pub pointOf : CallList → ℕ
+pointOf list = stepsOfCalls (list .plan) (list .scripts) (list .calls) (startWorld list)

@@ -1,0 +1,54 @@
+-- Document 01, "Two lists of calls": the windows of a run so far, their starts and their ops, and the points of two runs that correspond. Assumes nothing.
+use Prim.Native.Nat.{ℕ, zero, suc, _+_, _*_, _<_, _≤_}
+use mathlib.Core.Bool.{Bool, cond, _&&_}
+use mathlib.Core.List.{List}
+use mathlib.Core.Path.{_≡_}
+use lib.Dec.{eqb, ltb}
+use lib.ListN.{getD, length}
+use Rattle.plan.specs.declared.Plan.{Plan}
+use Rattle.plan.specs.Windows.{ownerOf, windowsTotal}
+use Rattle.machine.specs.Ops.{boxPlace}
+use Rattle.machine.specs.Records.{partRecords}
+use Rattle.machine.specs.Steps.{steps}
+use Rattle.machine.specs.World.{World}
+use Rattle.engine.specs.FreshStart.{freshWorld}
+
+-- a run from a fresh start: a plan, a script store and a log
+pub record Run : Type 0 where
+  pub plan : Plan
+  pub scripts : List ℕ
+  pub log : List ℕ
+
+-- the world after so many of its steps
+unfoldable pub worldAfter : Run → ℕ → World
+worldAfter run count =
+    steps (run .plan) (run .scripts) (partRecords (run .plan) (length (run .log))) count (freshWorld (run .log))
+
+-- the windows completed after so many steps
+abbrev pub windowsAfter : Run → ℕ → ℕ
+windowsAfter run count = worldAfter run count .state .windows
+
+-- after `count` steps window k has just started: as many windows are completed for the first time. That is the fresh start, or just after a switch.
+pub record Starts (run : Run) (window count : ℕ) : Type 0 where
+  pub reached : windowsAfter run count ≡ window
+  pub first : (earlier : ℕ) → earlier < count → windowsAfter run earlier < window
+
+-- step number `count`, counted from 0, is an op of window k
+abbrev pub isOpOf : Run → ℕ → ℕ → Bool
+isOpOf run window count =
+    ltb window (windowsTotal (run .plan)) && eqb (windowsAfter run count) window && eqb (windowsAfter run (suc count)) window
+
+-- a window's ops within so many steps: those done from its start to its own switch, or so far
+unfoldable pub opsOf : Run → ℕ → ℕ → ℕ
+opsOf run window zero = 0
+opsOf run window (suc count) = opsOf run window count + cond (isOpOf run window count) 1 0
+
+-- a run is within a window of a domain after so many steps
+pub record Within (run : Run) (domain count : ℕ) : Type 0 where
+  pub notEnded : windowsAfter run count < windowsTotal (run .plan)
+  pub owner : ownerOf (run .plan) (windowsAfter run count) ≡ domain
+
+-- the boxes addressed to a domain, the eight at 8a + its number, are equal
+abbrev pub SameBoxesTo : ℕ → World → World → Type 0
+SameBoxesTo domain one other =
+    (sender : ℕ) → sender < 8 → getD (one .boxes) (boxPlace sender domain) 0 ≡ getD (other .boxes) (boxPlace sender domain) 0
