@@ -1,0 +1,2 @@
+-- The laws of the cache that other crates cite.
+pub mod Ticks
