@@ -1,0 +1,65 @@
+-- The bits of a mask: those of a run of ones, and none past a number's highest. Assumes nothing.
+use mathlib.Core.Path.{_≡_, refl, sym, ap, _∙_, subst}
+use mathlib.Core.Bool.{Bool, true, false, true≢false, false≢true}
+use Prim.Native.Nat.{ℕ, zero, suc, _+_, _*_, _-_, _/_, _%_, _^_, _≤_, _<_}
+use native.Mathlib.Nat.{add-zero, div-eq-of-lt, lt-of-lt-of-le, mul-assoc, zero-mod}
+use native.Mathlib.Omega.{arith}
+use lib.Bits.{shifted-even}
+use lib.Count.{ones, ones-cat, ones-ones}
+use lib.Dec.{eqb, ltb}
+use lib.Pow.{ones-lt, pow-add, pow-mono, pow-pos, shl-lt, shl-shr}
+use borrow.Author.Tests.{eqb-true, le-ltb, lt-ltb, ltb-false, ltb-true, ne-eqb}
+use Rattle.plan.specs.Colours.{hasBit, maskFrom}
+
+-- a number has no bit at or past its width
+pub no-high-bit : (number width place : ℕ) → number < 2 ^ width → width ≤ place → hasBit number place ≡ true → ⊥
+unfolding hasBit
+no-high-bit number width place small past has =
+    let gone : number / 2 ^ place ≡ 0 = div-eq-of-lt (lt-of-lt-of-le small (pow-mono past)) in
+    let none : number / 2 ^ place % 2 ≡ 0 = ap (λ (n : ℕ). n % 2) gone in
+    let one : number / 2 ^ place % 2 ≡ 1 = eqb-true _ _ has in
+    omega arith
+
+-- 0 has no bit
+pub zero-no-bit : (place : ℕ) → hasBit 0 place ≡ true → ⊥
+zero-no-bit place has = no-high-bit 0 0 place (omega arith) (omega arith) has
+
+-- a shifted number has no bit below the shift
+pub no-low-bit : (number shift place : ℕ) → place < shift → hasBit (number * 2 ^ shift) place ≡ true → ⊥
+unfolding hasBit
+no-low-bit number shift place below has =
+    let rest = shift - suc place in
+    let shape : shift ≡ suc rest + place = omega arith in
+    let split : number * 2 ^ shift ≡ number * 2 ^ suc rest * 2 ^ place =
+    ap (λ (n : ℕ). number * 2 ^ n) shape ∙ ap (λ (n : ℕ). number * n) (pow-add 2 (suc rest) place) ∙ sym (mul-assoc number (2 ^ suc rest) (2 ^ place)) in
+    let even : number * 2 ^ shift / 2 ^ place % 2 ≡ 0 =
+    ap (λ (n : ℕ). n / 2 ^ place % 2) split ∙ ap (λ (n : ℕ). n % 2) (shl-shr (number * 2 ^ suc rest) place) ∙ shifted-even number rest in
+    let one : number * 2 ^ shift / 2 ^ place % 2 ≡ 1 = eqb-true _ _ has in
+    omega arith
+
+-- the bits of so many adjacent colours from a first one on
+pub mask-bits : (first count place : ℕ) → hasBit (maskFrom first count) place ≡ true → (first ≤ place) × (place < first + count)
+unfolding maskFrom
+mask-bits first count place has = (low (ltb place first) refl, high (ltb place (first + count)) refl)
+  where
+    low : (b : Bool) → ltb place first ≡ b → first ≤ place
+    low true e = absurd (no-low-bit (2 ^ count - 1) first place (ltb-true place first e) has)
+    low false e = ltb-false place first e
+
+    small : (2 ^ count - 1) * 2 ^ first < 2 ^ (count + first)
+    small = shl-lt count first (ones-lt count)
+
+    high : (b : Bool) → ltb place (first + count) ≡ b → place < first + count
+    high true e = ltb-true place (first + count) e
+    high false e =
+        let past : first + count ≤ place = ltb-false place (first + count) e in
+        absurd (no-high-bit _ (count + first) place small (omega arith) has)
+
+-- as many ones as colours
+pub mask-ones : (first count : ℕ) → ones (maskFrom first count) ≡ count
+unfolding maskFrom ones
+mask-ones first count =
+    ap ones (sym (add-zero ((2 ^ count - 1) * 2 ^ first)))
+    ∙ ones-cat first (2 ^ count - 1) 0 (pow-pos first)
+    ∙ ap (λ (n : ℕ). n + ones 0) (ones-ones count)
+    ∙ add-zero count

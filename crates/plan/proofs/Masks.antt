@@ -1,0 +1,110 @@
+-- The masks of a possible plan: disjoint, within colours 0 to 14, laid from colour 0 upwards, with as many ones as the share gives colours.
+-- Everything above cites these laws and never the rule from shares to colours. Assumes nothing.
+use mathlib.Core.Path.{_≡_, refl, sym, ap, _∙_}
+use mathlib.Core.Bool.{Bool, true, false}
+use Prim.Native.Nat.{ℕ, suc, _+_, _≤_, _<_}
+use native.Mathlib.Omega.{arith}
+use lib.Count.{ones}
+use lib.Dec.{ltb}
+use borrow.Author.Tests.{ltb-true, ltb-false}
+use Rattle.plan.specs.declared.Plan.{Plan}
+use Rattle.plan.specs.Colours.{coloursAt, firstColour, hasBit, holdingOf, maskAt, maskOf, ownsColour}
+use Rattle.plan.specs.Possible.{planPossible}
+use Rattle.plan.specs.Rights.{maySend, rightsAt}
+use Rattle.plan.specs.Sums.{sumTo}
+use Rattle.plan.proofs.Bits.{mask-bits, mask-ones, no-high-bit, zero-no-bit}
+use Rattle.plan.proofs.Possible.{counts, declared, parts, undeclared}
+use Rattle.plan.proofs.Shares.{colours-at-most}
+use Rattle.plan.proofs.Sums.{sum-mono}
+
+-- the colours of a domain lie between its first and the next domain's first
+pub owned-range :
+    (plan : Plan) (domain colour : ℕ)
+    → planPossible plan ≡ true
+    → domain < plan .domains
+    → ownsColour plan domain colour ≡ true
+    → (firstColour plan domain ≤ colour) × (colour < firstColour plan (suc domain))
+unfolding maskOf firstColour sumTo
+owned-range plan domain colour possible below owns =
+    let mask : maskAt plan domain ≡ maskOf plan domain = declared plan domain possible below .mask in
+    let bits = mask-bits (firstColour plan domain) (coloursAt plan domain) colour (rw mask at owns) in
+    (bits .0, bits .1)
+
+-- the first colours rise with the domains
+pub first-mono : (plan : Plan) (one other : ℕ) → one ≤ other → firstColour plan one ≤ firstColour plan other
+unfolding firstColour
+first-mono plan one other within = sum-mono (coloursAt plan) one other within
+
+-- no colour is given past 14
+pub owned-below :
+    (plan : Plan) (domain colour : ℕ) → planPossible plan ≡ true → domain < plan .domains → ownsColour plan domain colour ≡ true → colour < 15
+owned-below plan domain colour possible below owns =
+    let range = owned-range plan domain colour possible below owns in
+    let rising : firstColour plan (suc domain) ≤ firstColour plan (plan .domains) = first-mono plan (suc domain) (plan .domains) below in
+    let total : firstColour plan (plan .domains) ≤ 15 = colours-at-most plan (plan .domains) (parts plan possible .shares) in
+    omega arith
+
+-- a lower domain's colours end before a higher one's begin
+apart :
+    (plan : Plan) (one other colour : ℕ)
+    → planPossible plan ≡ true
+    → one < other
+    → other < plan .domains
+    → ownsColour plan one colour ≡ true
+    → ownsColour plan other colour ≡ true
+    → ⊥
+apart plan one other colour possible less below owns owns′ =
+    let range = owned-range plan one colour possible (omega arith) owns in
+    let range′ = owned-range plan other colour possible below owns′ in
+    let rising : firstColour plan (suc one) ≤ firstColour plan other = first-mono plan (suc one) other less in
+    omega arith
+
+-- two domains have no colour in common
+pub masks-disjoint :
+    (plan : Plan) (one other colour : ℕ)
+    → planPossible plan ≡ true
+    → one < plan .domains
+    → other < plan .domains
+    → (one ≡ other → ⊥)
+    → ownsColour plan one colour ≡ true
+    → ownsColour plan other colour ≡ true
+    → ⊥
+masks-disjoint plan one other colour possible below below′ differ owns owns′ = go (ltb one other) refl
+  where
+    go : (b : Bool) → ltb one other ≡ b → ⊥
+    go true e = apart plan one other colour possible (ltb-true one other e) below′ owns owns′
+    go false e =
+        let past : other ≤ one = ltb-false one other e in
+        apart plan other one colour possible (omega arith) below owns′ owns
+
+-- a domain's holding is what its share gives
+pub holding-is-colours :
+    (plan : Plan) (domain : ℕ) → planPossible plan ≡ true → domain < plan .domains → holdingOf plan domain ≡ coloursAt plan domain
+unfolding holdingOf maskOf
+holding-is-colours plan domain possible below =
+    ap ones (declared plan domain possible below .mask) ∙ mask-ones (firstColour plan domain) (coloursAt plan domain)
+
+-- a right to send is a declared domain's, to a declared domain
+pub right-declared :
+    (plan : Plan) (sender recipient : ℕ)
+    → planPossible plan ≡ true
+    → maySend plan sender recipient ≡ true
+    → sender < 8
+    → (sender < plan .domains) × (recipient < plan .domains)
+right-declared plan sender recipient possible may below = (is-declared, to-declared (ltb recipient (plan .domains)) refl)
+  where
+    from : (b : Bool) → ltb sender (plan .domains) ≡ b → sender < plan .domains
+    from true e = ltb-true sender (plan .domains) e
+    from false e =
+        let none : rightsAt plan sender ≡ 0 = undeclared plan sender possible (ltb-false sender (plan .domains) e) below .rights in
+        absurd (zero-no-bit recipient (rw none at may))
+
+    is-declared : sender < plan .domains
+    is-declared = from (ltb sender (plan .domains)) refl
+
+    to-declared : (b : Bool) → ltb recipient (plan .domains) ≡ b → recipient < plan .domains
+    to-declared true e = ltb-true recipient (plan .domains) e
+    to-declared false e =
+        absurd
+        (no-high-bit (rightsAt plan sender) (plan .domains) recipient (declared plan sender possible is-declared .rights-most)
+        (ltb-false recipient (plan .domains) e) may)

@@ -1,0 +1,18 @@
+-- The rule from shares to colours: shares of at most 1,000 together give at most 15 colours together. Assumes nothing.
+use mathlib.Core.Path.{_≡_}
+use Prim.Native.Nat.{ℕ, zero, suc, _+_, _*_, _≤_}
+use native.Mathlib.Omega.{arith}
+use Rattle.plan.specs.declared.Plan.{Plan}
+use Rattle.plan.specs.Colours.{coloursAt, coloursOf, firstColour, shareOf, sharesTotal}
+use Rattle.plan.specs.Sums.{sumTo}
+
+-- so many colours never go beyond the share that gave them
+in-proportion : (plan : Plan) (count : ℕ) → 1_000 * firstColour plan count ≤ 15 * sharesTotal plan count
+unfolding coloursOf firstColour sharesTotal sumTo
+in-proportion plan zero = omega arith
+in-proportion plan (suc count) =
+    let before : 1_000 * sumTo (coloursAt plan) count ≤ 15 * sumTo (shareOf plan) count = in-proportion plan count in
+    omega arith
+
+pub colours-at-most : (plan : Plan) (count : ℕ) → sharesTotal plan count ≤ 1_000 → firstColour plan count ≤ 15
+colours-at-most plan count total = omega (arith, in-proportion plan count)
