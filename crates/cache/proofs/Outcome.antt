@@ -1,18 +1,16 @@
 -- What an access answers and leaves, from what its steps find. Assumes nothing.
 use Prim.Native.Nat.{ℕ, _+_}
-use mathlib.Core.Path.{_≡_, refl, sym, ap}
+use mathlib.Core.Path.{_≡_, refl}
 use mathlib.Core.Bool.{Bool, true, false, cond}
 use mathlib.Core.List.{List, _++_}
-use lib.ListN.{drop, getD, length, set, take, length-set}
-use lib.Seq.{drop-set-lt}
+use lib.ListN.{drop, getD, set, take}
 use Rattle.lists.specs.Part.{part, splice}
-use Rattle.lists.proofs.Parts.{splice-length, splice-part}
+use Rattle.lists.proofs.Parts.{splice-part}
 use Rattle.cache.specs.declared.Found.{Found}
 use Rattle.cache.specs.declared.Found.the-variants.{Hit1, Hit2, Miss}
 use Rattle.cache.specs.Lines.{cleanEntry, dirtyEntry, entryFor, holdsLine, indexOf, setOf, setPlace, waysOfSet}
 use Rattle.cache.specs.Sets.{has, used}
 use Rattle.cache.specs.Access.{accessOf, lookAt, lookHit1, lookL2, lookOf, replaceTicks}
-use Rattle.cache.proofs.Ways.{used-length}
 
 -- L1 holds a line where its index has the line's number
 abbrev pub inL1 : ℕ → List ℕ → Bool
