@@ -20,7 +20,11 @@ unfolding part
 part-length first count table fits = simp (length-take, length-drop) (omega arith)
 
 -- a part is its first number, then the part that begins one place on
-pub part-next : (first count : ℕ) (table : List ℕ) → first < length table → 0 < count → part first count table ≡ getD table first 0 ∷ part (first + 1) (count - 1) table
+pub part-next :
+    (first count : ℕ) (table : List ℕ)
+    → first < length table
+    → 0 < count
+    → part first count table ≡ getD table first 0 ∷ part (first + 1) (count - 1) table
 unfolding part
 part-next first zero table within some = absurd (not-suc-le-zero some)
 part-next first (suc count) table within some =
@@ -28,7 +32,10 @@ part-next first (suc count) table within some =
     rw (fewer, add-one first, drop-cons table first 0 within)
 
 -- a table whose part is rewritten by as many numbers keeps its length
-pub splice-length : (first count : ℕ) (fresh table : List ℕ) → length fresh ≡ length (part first count table) → length (splice first count fresh table) ≡ length table
+pub splice-length :
+    (first count : ℕ) (fresh table : List ℕ)
+    → length fresh ≡ length (part first count table)
+    → length (splice first count fresh table) ≡ length table
 unfolding part splice
 splice-length first count fresh table same =
     let taken : length fresh ≡ length (take count (drop first table)) = same in
@@ -40,7 +47,10 @@ unfolding part splice
 splice-part first count table = rw (take-append-drop count, take-append-drop first)
 
 -- the numbers of a part are the table's, from its first place on
-pub part-at : (first count place : ℕ) (table : List ℕ) → place < count → getD (part first count table) place 0 ≡ getD table (first + place) 0
+pub part-at :
+    (first count place : ℕ) (table : List ℕ)
+    → place < count
+    → getD (part first count table) place 0 ≡ getD table (first + place) 0
 unfolding part
 part-at first count place table within = rw (getD-take count (drop first table) place 0 within, getD-drop)
 
@@ -58,7 +68,10 @@ module _ (first count : ℕ) (fresh table : List ℕ) (begins : first ≤ length
       )
 
   -- a place of the rewritten part
-  pub splice-within : (place : ℕ) → place < length fresh → getD (splice first count fresh table) (first + place) 0 ≡ getD fresh place 0
+  pub splice-within :
+      (place : ℕ)
+      → place < length fresh
+      → getD (splice first count fresh table) (first + place) 0 ≡ getD fresh place 0
   unfolding splice
   splice-within place within =
       subst (λ (n : ℕ). getD (take first table ++ (fresh ++ drop count (drop first table))) (n + place) 0 ≡ getD fresh place 0) front
@@ -71,7 +84,10 @@ module _ (first count : ℕ) (fresh table : List ℕ) (begins : first ≤ length
       List·getD-append (take first table) (fresh ++ drop count (drop first table)) 0 place (omega (arith, front))
       ∙ getD-take first table place 0 before
 
-  rest-after : (more : ℕ) → length fresh ≡ count → getD (splice first count fresh table) (first + (count + more)) 0 ≡ getD table (first + (count + more)) 0
+  rest-after :
+      (more : ℕ)
+      → length fresh ≡ count
+      → getD (splice first count fresh table) (first + (count + more)) 0 ≡ getD table (first + (count + more)) 0
   unfolding splice
   rest-after more many =
       subst (λ (n : ℕ). getD (take first table ++ (fresh ++ drop count (drop first table))) (n + (count + more)) 0 ≡ getD table (first + (count + more)) 0) front
@@ -80,7 +96,11 @@ module _ (first count : ℕ) (fresh table : List ℕ) (begins : first ≤ length
       (getD-append-add fresh (drop count (drop first table)) more 0 ∙ getD-drop count (drop first table) more 0 ∙ getD-drop first table (count + more) 0))
 
   -- a place after it
-  pub splice-after : (place : ℕ) → length fresh ≡ count → first + count ≤ place → getD (splice first count fresh table) place 0 ≡ getD table place 0
+  pub splice-after :
+      (place : ℕ)
+      → length fresh ≡ count
+      → first + count ≤ place
+      → getD (splice first count fresh table) place 0 ≡ getD table place 0
   splice-after place many after =
       let whole : first + (count + (place - (first + count))) ≡ place = omega arith in
       subst (λ (n : ℕ). getD (splice first count fresh table) n 0 ≡ getD table n 0) whole (rest-after (place - (first + count)) many)

@@ -68,4 +68,7 @@ returns-2 t c =
 
 pub +count-dirty-spec : {M : Type 1} → statement M
 +count-dirty-spec =
-    close μ λ t. lts.spec (claims t) (at t) reads.Post (mul-choose-ticks t) (shared-slice-read-choose-ticks t) (choose-ticks-requires t) (add-count-dirty t) (sub-count-dirty t) (count-dirty-requires t) (add-result t) (returns t) (returns-2 t)
+    close μ λ t. lts.spec (claims t) (at t) reads.Post
+    (mul-choose-ticks t) (shared-slice-read-choose-ticks t) (choose-ticks-requires t)
+    (add-count-dirty t) (sub-count-dirty t) (count-dirty-requires t)
+    (add-result t) (returns t) (returns-2 t)
