@@ -1,0 +1,3 @@
+-- Laws of the machine's definitions.
+pub mod Ticks
+pub mod Reached
