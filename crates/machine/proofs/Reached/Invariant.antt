@@ -1,6 +1,6 @@
 -- What holds along a run: whatever a switch and an op that begins keep holds after any number of steps. Assumes nothing.
 use Prim.Native.Nat.{ℕ, zero, suc, _<_}
-use mathlib.Core.Bool.{Bool, true, false, _||_}
+use mathlib.Core.Bool.{Bool, true, false}
 use mathlib.Core.List.{List}
 use mathlib.Core.Path.{_≡_, refl}
 use lib.Dec.{leb}
@@ -16,6 +16,7 @@ use Rattle.machine.specs.declared.State.{State}
 use Rattle.machine.specs.World.{World, boxesLength, endedOf, freshState, recordsAt, runningOf}
 use Rattle.machine.specs.Steps.{activeStep, closedOf, fetchedStep, nextOf, opStepOf, stepOf, steps}
 use Rattle.machine.specs.Switch.{switchOf}
+use Rattle.machine.proofs.Reached.Tests.{neither}
 
 -- the world that a fresh start beside a log leaves
 abbrev pub freshBeside : List ℕ → World
@@ -27,10 +28,6 @@ pub record Begins (plan : Plan) (scripts : List ℕ) (quota : ℕ) (world : Worl
   pub inTime : world .state .clock < endOf plan (world .state .windows)
   pub room : recordsAt (world .state) (runningOf plan (world .state)) < quota
   pub next : nextOf plan scripts (world .state) ≡ Fetch op
-
-neither : (one other : Bool) → (one || other) ≡ false → (one ≡ false) × (other ≡ false)
-neither true other none = (none, elim other [ true ↦ none | false ↦ refl ])
-neither false other none = (refl, none)
 
 -- a run that has not ended is in a window
 pub in-window : (plan : Plan) (state : State) → endedOf plan state ≡ false → state .windows < windowsTotal plan
