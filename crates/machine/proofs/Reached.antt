@@ -4,7 +4,10 @@ pub mod Cache
 pub mod Cells
 pub mod Counts
 pub mod Decoded
+pub mod Effects
+pub mod Flushes
 pub mod Invariant
+pub mod Lines
 pub mod Parts
 pub mod Possible
 pub mod Schedule

@@ -8,7 +8,7 @@ use lib.ListN.{replicate}
 use Rattle.lists.specs.Part.{part, splice}
 use Rattle.plan.specs.declared.Plan.{Plan}
 use Rattle.plan.specs.Colours.{coloursOf, firstColour, hasBit, maskFrom, maskOf, sharesTotal}
-use Rattle.plan.specs.Possible.{countsPossible, declaredPossible, domainPossible, planPossible, undeclaredPossible, windowPossible}
+use Rattle.plan.specs.Possible.{countsPossible, declaredPossible, domainPossible, maskPossible, planPossible, undeclaredPossible, windowPossible}
 use Rattle.plan.specs.Rights.{maySend}
 use Rattle.plan.specs.Sums.{allBelow, sumTo}
 use Rattle.plan.specs.Windows.{ticksTotal}
@@ -75,7 +75,7 @@ dearestPlan =
     }
 
 pub dearest-possible : planPossible dearestPlan ≡ true
-unfolding planPossible countsPossible domainPossible declaredPossible undeclaredPossible windowPossible allBelow sharesTotal sumTo ticksTotal coloursOf maskOf maskFrom firstColour hasBit
+unfolding planPossible countsPossible domainPossible declaredPossible undeclaredPossible maskPossible windowPossible allBelow sharesTotal sumTo ticksTotal coloursOf maskOf maskFrom firstColour hasBit
 dearest-possible = refl
 
 -- domain 0 writes the lines 12 and 13, whose L1 indexes are those of line 60 and of the box's line, and then sends

@@ -2,7 +2,7 @@
 use Prim.Native.Nat.{ℕ, zero, suc}
 use mathlib.Core.List.{List, [], _∷_}
 use mathlib.Core.Path.{_≡_, refl, ap}
-use lib.ListN.{getD, replicate, set}
+use lib.ListN.{getD, length, replicate, set, length-replicate}
 
 -- what holds of a cell, and of the number stored if it is stored there, holds of the cell after the store
 pub cell-holds : (Holds : ℕ → Type 0) (cells : List ℕ) (place cell number : ℕ)
@@ -21,3 +21,6 @@ pub cell-zeros : (count cell : ℕ) → _≡_ {A = ℕ} (getD (replicate count 0
 cell-zeros zero cell = refl
 cell-zeros (suc count) zero = refl
 cell-zeros (suc count) (suc cell) = cell-zeros count cell
+
+pub zeros-length : (count : ℕ) → length {A = ℕ} (replicate count 0) ≡ count
+zeros-length count = length-replicate {A = ℕ} count 0
