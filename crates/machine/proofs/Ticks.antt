@@ -14,15 +14,15 @@ use Rattle.plan.specs.Sums.{allBelow, sumTo}
 use Rattle.plan.specs.Windows.{ticksTotal}
 use Rattle.script.specs.declared.Op.{Op}
 use Rattle.script.specs.declared.Op.the-variants.{Read, Write, Send, Receive, Compute}
+use Rattle.script.proofs.Laws.{Within}
 use Rattle.cache.specs.Access.{Accessed, accessOf, lookAt, lookHit1, lookL2, lookOf}
 use Rattle.cache.specs.Lines.{tableLength}
 use Rattle.cache.specs.Sets.{behind, has, used}
+use Rattle.cache.proofs.Ticks.{access-ticks}
 use Rattle.machine.specs.declared.Seen.{Seen}
 use Rattle.machine.specs.declared.Seen.the-variants.{Ran}
 use Rattle.machine.specs.Ops.{Effect, boxLine, boxPlace, computeOf, deniedOf, effectOf, gateLine, ownsLine, passedOf, receiveOf, sendOf, touchOf}
 use Rattle.machine.specs.World.{boxesLength}
-use Rattle.machine.proofs.Reached.Cache.{access-ticks}
-use Rattle.machine.proofs.Reached.Decoded.{Decoded}
 
 -- a choice between two effects keeps a bound of both
 choice-ticks : (test : Bool) (one other : Effect) → one .ticks ≤ 213 → other .ticks ≤ 213 → cond test one other .ticks ≤ 213
@@ -47,15 +47,15 @@ module _ (cache : List ℕ) where
   denied-ticks other boxes = omega (arith, access-ticks false gateLine cache)
 
 -- no op takes more than 213 ticks
-pub effect-ticks : (plan : Plan) (domain : ℕ) (op : Op) (cache boxes : List ℕ) → Decoded op → effectOf plan domain op cache boxes .ticks ≤ 213
-unfolding effectOf sendOf receiveOf computeOf
-effect-ticks plan domain (Read line) cache boxes decoded = touch-ticks plan domain false line cache boxes
-effect-ticks plan domain (Write line) cache boxes decoded = touch-ticks plan domain true line cache boxes
-effect-ticks plan domain (Send recipient word) cache boxes decoded =
+pub effect-ticks : (plan : Plan) (domain : ℕ) (op : Op) (cache boxes : List ℕ) → Within op → effectOf plan domain op cache boxes .ticks ≤ 213
+unfolding effectOf sendOf receiveOf computeOf Within
+effect-ticks plan domain (Read line) cache boxes within = touch-ticks plan domain false line cache boxes
+effect-ticks plan domain (Write line) cache boxes within = touch-ticks plan domain true line cache boxes
+effect-ticks plan domain (Send recipient word) cache boxes within =
     choice-ticks (maySend plan domain recipient) _ _ (passed-ticks cache _ _ _) (denied-ticks cache _ _)
-effect-ticks plan domain (Receive sender) cache boxes decoded =
+effect-ticks plan domain (Receive sender) cache boxes within =
     choice-ticks (maySend plan sender domain) _ _ (passed-ticks cache _ _ _) (denied-ticks cache _ _)
-effect-ticks plan domain (Compute ticks) cache boxes decoded = omega arith
+effect-ticks plan domain (Compute ticks) cache boxes within = omega arith
 
 -- ---- one that takes 213
 

@@ -8,13 +8,15 @@ use lib.Dec.{eqb, ltb}
 use lib.ListN.{getD, length, set, length-set}
 use borrow.Author.Tests.{eqb-false, eqb-true, ltb-false, ltb-true}
 use Rattle.lists.specs.Part.{part, splice}
+use Rattle.lists.proofs.Parts.{part-length}
 use Rattle.cache.specs.Access.{Look, accessOf, lookAt, lookHit1, lookL2, lookOf}
 use Rattle.cache.specs.Lines.{cleanEntry, dirtyEntry, entryFor, holdsLine, indexOf, setOf, setPlace, tableLength, waysOfSet}
 use Rattle.cache.specs.Sets.{used}
+use Rattle.cache.proofs.Ways.{used-length}
 use Rattle.machine.specs.Damage.{setSound, waysSound}
 use Rattle.machine.proofs.Reached.Cells.{cell-holds}
-use Rattle.machine.proofs.Reached.Parts.{part-length, part-same, part-splice, part-stored-before, splice-after, splice-before, splice-length}
-use Rattle.machine.proofs.Reached.Ways.{used-length, used-sound}
+use Rattle.machine.proofs.Reached.Parts.{part-same, part-splice, part-stored-before, splice-after, splice-before, spliced-length}
+use Rattle.machine.proofs.Reached.Ways.{used-sound}
 
 -- ---- a look
 
@@ -66,7 +68,7 @@ module _ (writes : Bool) (line : ℕ) (table : List ℕ) (long : length table �
   ways-length : length waysAfter ≡ waysOfSet
   unfolding lookAt
   ways-length =
-      let four : length waysBefore ≡ waysOfSet = omega (arith, part-length (setPlace (setOf line)) waysOfSet table) in
+      let four : length waysBefore ≡ waysOfSet = part-length (setPlace (setOf line)) waysOfSet table (omega arith) in
       look-ways writes line _ waysBefore (λ left. length left ≡ waysOfSet) four (used-length (cleanEntry line) waysBefore ∙ four)
 
   set-fits : setPlace (setOf line) + waysOfSet ≤ length table
@@ -76,7 +78,7 @@ module _ (writes : Bool) (line : ℕ) (table : List ℕ) (long : length table �
   unfolding accessOf
   access-length =
       length-set setWritten (indexOf line) (lookAt writes line table .entry)
-      ∙ splice-length (setPlace (setOf line)) waysOfSet waysAfter table ways-length set-fits
+      ∙ spliced-length (setPlace (setOf line)) waysOfSet waysAfter table ways-length set-fits
       ∙ long
 
   -- an L1 number is as it was, or, at the line's index, the line's, clean or dirty
@@ -99,12 +101,13 @@ module _ (writes : Bool) (line : ℕ) (table : List ℕ) (long : length table �
       ∙ part-splice (setPlace (setOf line)) waysOfSet waysAfter table ways-length set-fits
 
   -- every other set is as it was
-  pub access-elsewhere : (set : ℕ) → (set ≡ setOf line → ⊥)
+  pub access-elsewhere : (set : ℕ) → set < 64 → (set ≡ setOf line → ⊥)
       → part (setPlace set) waysOfSet (accessOf writes line table .table) ≡ part (setPlace set) waysOfSet table
   unfolding accessOf
-  access-elsewhere set differs =
+  access-elsewhere set below differs =
       part-stored-before (setPlace set) waysOfSet setWritten (indexOf line) (lookAt writes line table .entry) (omega arith)
-      ∙ part-same (setPlace set) waysOfSet setWritten table (splice-length (setPlace (setOf line)) waysOfSet waysAfter table ways-length set-fits)
+      ∙ part-same (setPlace set) waysOfSet setWritten table
+      (omega (arith, spliced-length (setPlace (setOf line)) waysOfSet waysAfter table ways-length set-fits)) (omega arith)
       (λ cell inside. go cell inside (ltb set (setOf line)) refl)
     where
       go : (cell : ℕ) → cell < waysOfSet → (earlier : Bool) → ltb set (setOf line) ≡ earlier
@@ -117,13 +120,13 @@ module _ (writes : Bool) (line : ℕ) (table : List ℕ) (long : length table �
           splice-after (setPlace (setOf line)) waysOfSet waysAfter table ways-length set-fits (setPlace set + cell) (omega arith)
 
   -- sound sets stay sound
-  pub access-sets : line ≤ 4_095 → (set : ℕ) → setSound table set ≡ true → setSound table (setOf line) ≡ true
+  pub access-sets : line ≤ 4_095 → (set : ℕ) → set < 64 → setSound table set ≡ true → setSound table (setOf line) ≡ true
       → setSound (accessOf writes line table .table) set ≡ true
   unfolding setSound lookAt
-  access-sets small set sound here = go (eqb set (setOf line)) refl
+  access-sets small set below sound here = go (eqb set (setOf line)) refl
     where
       go : (same : Bool) → eqb set (setOf line) ≡ same → waysSound set (part (setPlace set) waysOfSet (accessOf writes line table .table)) ≡ true
       go true test =
           rw (eqb-true set (setOf line) test, access-here)
           (look-ways writes line _ waysBefore (λ left. waysSound (setOf line) left ≡ true) here (used-sound line waysBefore small here))
-      go false test = rw (access-elsewhere set (eqb-false set (setOf line) test)) sound
+      go false test = rw (access-elsewhere set below (eqb-false set (setOf line) test)) sound

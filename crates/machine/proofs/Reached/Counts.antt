@@ -15,7 +15,7 @@ use Rattle.machine.specs.World.{World, freshState, positionAt, recordsAt
 use Rattle.machine.specs.Steps.{opStepOf, steps}
 use Rattle.machine.specs.Switch.{switchOf}
 use Rattle.machine.proofs.Reached.Cells.{cell-holds, cell-zeros}
-use Rattle.machine.proofs.Reached.Decoded.{fetched-below}
+use Rattle.machine.proofs.Reached.Fetched.{fetched-below}
 use Rattle.machine.proofs.Reached.Invariant.{Begins, freshBeside, steps-hold}
 
 pub record Counted (plan : Plan) (quota : ℕ) (world : World) : Type 0 where

@@ -13,6 +13,7 @@ use Rattle.plan.specs.Colours.{ownsColour}
 use Rattle.plan.specs.Rights.{maySend}
 use Rattle.script.specs.declared.Op.{Op}
 use Rattle.script.specs.declared.Op.the-variants.{Read, Write, Send, Receive, Compute}
+use Rattle.script.proofs.Laws.{Within}
 use Rattle.cache.specs.Access.{Accessed, accessOf}
 use Rattle.cache.specs.Lines.{colourOf, kernelColour}
 use Rattle.machine.specs.declared.Seen.{Seen}
@@ -21,7 +22,6 @@ use Rattle.machine.specs.Damage.{boxSound, lineAllowed}
 use Rattle.machine.specs.Ops.{Effect, boxLine, boxPlace, computeOf, deniedOf, effectOf, fullBox, gateLine, ownsLine, passedOf, receiveOf, sendOf, touchOf}
 use Rattle.machine.specs.World.{boxesLength, endedOf, runningOf}
 use Rattle.machine.proofs.Reached.Cells.{cell-holds}
-use Rattle.machine.proofs.Reached.Decoded.{Decoded}
 use Rattle.machine.proofs.Reached.Lines.{CacheSound, access-sound}
 use Rattle.machine.proofs.Reached.Tests.{both-pass, first-passes, second-passes}
 
@@ -122,16 +122,16 @@ module _ (plan : Plan) (state : State) (running : endedOf plan state ≡ false) 
       }
 
   -- every op that stands in a script
-  pub effect-sound : domain ≤ 7 → (op : Op) → Decoded op → EffectSound plan state (effectOf plan domain op cache boxes)
-  unfolding effectOf sendOf receiveOf computeOf
-  effect-sound declared (Read line) decoded = touch-sound false line
-  effect-sound declared (Write line) decoded = touch-sound true line
-  effect-sound declared (Send recipient word) decoded =
+  pub effect-sound : domain ≤ 7 → (op : Op) → Within op → EffectSound plan state (effectOf plan domain op cache boxes)
+  unfolding effectOf sendOf receiveOf computeOf Within
+  effect-sound declared (Read line) within = touch-sound false line
+  effect-sound declared (Write line) within = touch-sound true line
+  effect-sound declared (Send recipient word) within =
       choice-sound plan state (maySend plan domain recipient) _ _
-      (λ right. passed-sound _ domain recipient _ declared (decoded .0) (box-filled plan domain recipient boxes full word (decoded .0) (decoded .1) right))
+      (λ right. passed-sound _ domain recipient _ declared (within .0) (box-filled plan domain recipient boxes full word (within .0) (omega arith) right))
       (denied-sound recipient)
-  effect-sound declared (Receive sender) decoded =
+  effect-sound declared (Receive sender) within =
       choice-sound plan state (maySend plan sender domain) _ _
-      (λ right. passed-sound _ sender domain _ decoded declared (box-emptied plan sender domain boxes full))
+      (λ right. passed-sound _ sender domain _ within declared (box-emptied plan sender domain boxes full))
       (denied-sound sender)
-  effect-sound declared (Compute ticks) decoded = record { cache = sound; boxes = full }
+  effect-sound declared (Compute ticks) within = record { cache = sound; boxes = full }

@@ -15,16 +15,16 @@ use Rattle.machine.specs.declared.State.{State}
 use Rattle.machine.specs.Damage.{setSound, waysSound}
 use Rattle.machine.proofs.Reached.Cells.{cell-zeros, zeros-length}
 use Rattle.machine.proofs.Reached.Lines.{CacheSound, zero-entry, zero-set}
-use Rattle.machine.proofs.Reached.Parts.{part-same, splice-after, splice-before, splice-inside, splice-length}
+use Rattle.machine.proofs.Reached.Parts.{part-same, splice-after, splice-before, splice-inside, spliced-length}
 
 module _ (cache : List ℕ) (long : length cache ≡ tableLength) where
   kernel-long : length (kernelFlushed cache) ≡ tableLength
   unfolding kernelFlushed
-  kernel-long = splice-length kernelPlace kernelNumbers (replicate kernelNumbers 0) cache (zeros-length kernelNumbers) (omega arith) ∙ long
+  kernel-long = spliced-length kernelPlace kernelNumbers (replicate kernelNumbers 0) cache (zeros-length kernelNumbers) (omega arith) ∙ long
 
   pub flushed-long : length (l1Flushed (kernelFlushed cache)) ≡ tableLength
   unfolding l1Flushed
-  flushed-long = splice-length 0 indexes (replicate indexes 0) _ (zeros-length indexes) (omega (arith, kernel-long)) ∙ kernel-long
+  flushed-long = spliced-length 0 indexes (replicate indexes 0) _ (zeros-length indexes) (omega (arith, kernel-long)) ∙ kernel-long
 
   -- L1 is empty
   pub flushed-l1 : (index : ℕ) → index < indexes → getD (l1Flushed (kernelFlushed cache)) index 0 ≡ 0
@@ -61,7 +61,7 @@ module _ (cache : List ℕ) (long : length cache ≡ tableLength) where
   unfolding setSound
   kept-set set before sound =
       subst (λ ways. waysSound set ways ≡ true)
-      (sym (part-same (setPlace set) waysOfSet (l1Flushed (kernelFlushed cache)) cache (flushed-long ∙ sym long)
+      (sym (part-same (setPlace set) waysOfSet (l1Flushed (kernelFlushed cache)) cache (omega (arith, flushed-long)) (omega arith)
       (λ way inside. flushed-others (setPlace set + way) (omega arith) (omega arith))))
       sound
 

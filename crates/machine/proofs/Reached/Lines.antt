@@ -1,6 +1,6 @@
 -- A sound cache table while a domain runs: its length, the lines that L1 may hold, and sound sets. An access of a line that the domain
 -- may have leaves a sound table, and a table of zeros is sound. Assumes nothing.
-use Prim.Native.Nat.{ℕ, suc, _+_, _*_, _-_, _/_, _%_, _≤_, _<_, min}
+use Prim.Native.Nat.{ℕ, suc, _+_, _*_, _-_, _/_, _%_, _≤_, _<_}
 use mathlib.Core.Bool.{Bool, true, false, cond, not, _&&_, _||_}
 use mathlib.Core.List.{List, [], _∷_}
 use mathlib.Core.Path.{_≡_, refl, sym, ap, subst, _∙_}
@@ -9,6 +9,7 @@ use lib.Dec.{eqb}
 use lib.ListN.{getD, length, replicate}
 use borrow.Author.Tests.{eq-eqb, le-leb, lt-leb}
 use Rattle.lists.specs.Part.{part}
+use Rattle.lists.proofs.Parts.{part-limit}
 use Rattle.plan.specs.declared.Plan.{Plan}
 use Rattle.cache.specs.Access.{accessOf}
 use Rattle.cache.specs.Lines.{cleanEntry, dirtyEntry, indexOf, setOf, setPlace, tableLength, waysOfSet}
@@ -17,7 +18,7 @@ use Rattle.machine.specs.Damage.{allEmpty, l1EntrySound, lineAllowed, li
 use Rattle.machine.specs.World.{endedOf, runningOf}
 use Rattle.machine.proofs.Reached.Accesses.{access-index, access-length, access-sets}
 use Rattle.machine.proofs.Reached.Cells.{cell-zeros, zeros-length}
-use Rattle.machine.proofs.Reached.Parts.{part-cell, part-length}
+use Rattle.machine.proofs.Reached.Parts.{part-cell}
 use Rattle.machine.proofs.Reached.Tests.{both-pass, first-passes, second-passes}
 use Rattle.machine.proofs.Reached.Ways.{empty-sound}
 
@@ -63,7 +64,7 @@ module _ (plan : Plan) (state : State) (running : endedOf plan state ≡ false) 
       record {
         long = access-length writes line cache (sound .long);
         lines = λ index below. access-index writes line cache (sound .long) (λ entry. entrySound plan state index entry ≡ true) index below (sound .lines index below) (entries-sound index);
-        sets = λ set below. access-sets writes line cache (sound .long) small set (sound .sets set below) (sound .sets (setOf line) (omega arith));
+        sets = λ set below. access-sets writes line cache (sound .long) small set below (sound .sets set below) (sound .sets (setOf line) (omega arith));
       }
 
 -- ---- empty cells
@@ -82,7 +83,7 @@ zero-set cache set zeros =
     empty-sound set _
     (empty-cells (part (setPlace set) waysOfSet cache)
     (λ cell inside.
-    let short : cell < min waysOfSet (length cache - setPlace set) = rw part-length at inside in
+    let short = part-limit (setPlace set) waysOfSet cache in
     part-cell (setPlace set) waysOfSet cache cell (omega arith) ∙ zeros cell (omega arith)))
 
 -- an empty L1 number is sound

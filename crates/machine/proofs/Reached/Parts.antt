@@ -1,17 +1,14 @@
 -- Parts of a table and tables with a part rewritten, cell by cell. Assumes nothing.
-use Prim.Native.Nat.{ℕ, _+_, _-_, _≤_, _<_, min}
+use Prim.Native.Nat.{ℕ, _+_, _-_, _≤_, _<_}
 use mathlib.Core.List.{List, [], _∷_, _++_}
 use mathlib.Core.Path.{_≡_, refl, sym, ap, _∙_}
 use native.Mathlib.Omega.{arith}
-use lib.ListN.{drop, getD, length, set, take, length-append, length-drop, length-take, List·getD-append}
+use lib.ListN.{drop, getD, length, set, take, List·getD-append}
 use lib.Seq.{drop-at, drop-set-lt, ext-getD, getD-append-add, getD-drop, getD-take, length-take-le, take-at}
 use Rattle.lists.specs.Part.{part, splice}
+use Rattle.lists.proofs.Parts.{part-length, splice-length}
 
 -- ---- parts
-
-pub part-length : (first count : ℕ) (table : List ℕ) → length (part first count table) ≡ min count (length table - first)
-unfolding part
-part-length first count table = length-take count (drop first table) ∙ ap (min count) (length-drop first table)
 
 pub part-cell : (first count : ℕ) (table : List ℕ) (cell : ℕ) → cell < count → getD (part first count table) cell 0 ≡ getD table (first + cell) 0
 unfolding part
@@ -19,13 +16,14 @@ part-cell first count table cell inside = getD-take count (drop first table) cel
 
 -- tables whose cells are equal there have equal parts
 pub part-same : (first count : ℕ) (one other : List ℕ)
-    → length one ≡ length other
+    → first + count ≤ length one
+    → first + count ≤ length other
     → ((cell : ℕ) → cell < count → getD one (first + cell) 0 ≡ getD other (first + cell) 0)
     → part first count one ≡ part first count other
-part-same first count one other long same =
-    ext-getD 0 _ _ (part-length first count one ∙ ap (λ n. min count (n - first)) long ∙ sym (part-length first count other))
+part-same first count one other fits fits-other same =
+    let long = part-length first count one fits in
+    ext-getD 0 _ _ (long ∙ sym (part-length first count other fits-other))
     (λ cell inside.
-    let short : cell < min count (length one - first) = rw part-length at inside in
     part-cell first count one cell (omega arith) ∙ same cell (omega arith) ∙ sym (part-cell first count other cell (omega arith)))
 
 -- a store before a part leaves it
@@ -39,10 +37,8 @@ module _ (first count : ℕ) (fresh table : List ℕ) (long : length fresh ≡ c
   front : length (take first table) ≡ first
   front = length-take-le first table (omega arith)
 
-  pub splice-length : length (splice first count fresh table) ≡ length table
-  unfolding splice
-  splice-length =
-      simp (length-append, length-drop) (omega (arith, front))
+  pub spliced-length : length (splice first count fresh table) ≡ length table
+  spliced-length = splice-length first count fresh table (long ∙ sym (part-length first count table fits))
 
   pub splice-before : (cell : ℕ) → cell < first → getD (splice first count fresh table) cell 0 ≡ getD table cell 0
   unfolding splice

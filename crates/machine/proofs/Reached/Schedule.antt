@@ -11,13 +11,13 @@ use Rattle.plan.specs.Possible.{planPossible}
 use Rattle.plan.specs.Windows.{endOf, startOf, windowsTotal}
 use Rattle.plan.proofs.Windows.{pad-least}
 use Rattle.script.specs.declared.Op.{Op}
+use Rattle.cache.proofs.Ticks.{flush-ticks}
 use Rattle.machine.specs.World.{World, freshState, positionAt, runningOf}
 use Rattle.machine.specs.Ops.{effectOf}
 use Rattle.machine.specs.Steps.{opStepOf, steps}
 use Rattle.machine.specs.Switch.{flushedClock, paddedClock, switchOf}
 use Rattle.machine.proofs.Ticks.{effect-ticks}
-use Rattle.machine.proofs.Reached.Cache.{flush-ticks}
-use Rattle.machine.proofs.Reached.Decoded.{fetched-decoded}
+use Rattle.machine.proofs.Reached.Fetched.{fetched-within}
 use Rattle.machine.proofs.Reached.Invariant.{Begins, freshBeside, steps-hold}
 
 -- windows at most the total; in a window the clock is from its start to its end + 212; ended, it is the start that a next window would have
@@ -62,7 +62,7 @@ module _ (plan : Plan) (possible : planPossible plan ≡ true) where
       let running = runningOf plan (world .state) in
       let ticks =
       effect-ticks plan running op (world .cache) (world .boxes)
-      (fetched-decoded scripts running (positionAt (world .state) running) op (begins .next))
+      (fetched-within scripts running (positionAt (world .state) running) op (begins .next))
       in
       record { windows = scheduled .windows; started = omega arith; soon = λ h. omega arith; ended = λ h. omega arith }
 

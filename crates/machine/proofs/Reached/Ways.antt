@@ -13,23 +13,6 @@ use Rattle.cache.specs.Sets.{behind, has, used}
 use Rattle.machine.specs.Damage.{allEmpty, lineOf, standsForLine, waysSound}
 use Rattle.machine.proofs.Reached.Tests.{both-pass, neither}
 
--- ---- lengths
-
-behind-length : (entry way : ℕ) (ways : List ℕ) → length (behind entry (way ∷ ways)) ≡ length ways
-unfolding behind
-behind-length entry way [] = refl
-behind-length entry way (next ∷ ways) = go (eqb way entry) (behind-length entry next ways)
-  where
-    go : (same : Bool) → length (behind entry (next ∷ ways)) ≡ length ways
-        → length {A = ℕ} (elim same [ true ↦ next ∷ ways | false ↦ way ∷ behind entry (next ∷ ways) ]) ≡ suc (length ways)
-    go true rest = refl
-    go false rest = ap suc rest
-
-pub used-length : (entry : ℕ) (ways : List ℕ) → length (used entry ways) ≡ length ways
-unfolding used
-used-length entry [] = refl
-used-length entry (way ∷ ways) = ap suc (behind-length entry way ways)
-
 -- ---- the first way of a sound set is empty and so are the others, or it is a line that the others lack
 
 record FirstLine (set way : ℕ) (ways : List ℕ) : Type 0 where
