@@ -34,6 +34,50 @@ pub in-window : (plan : Plan) (state : State) → endedOf plan state ≡ false �
 unfolding endedOf
 in-window plan state running = leb-false _ _ running
 
+-- what holds of the world after a step: of the same world where the run has ended, else of the world after a switch, or after an op that begins
+module _
+    (plan : Plan)
+    (scripts : List ℕ)
+    (quota : ℕ)
+    (world : World)
+    (Holds : World → Type 0)
+    (ended-holds : endedOf plan (world .state) ≡ true → Holds world)
+    (switch-holds : world .state .windows < windowsTotal plan → Holds (switchOf plan world))
+    (op-holds : (op : Op) → Begins plan scripts quota world op → Holds (opStepOf plan quota (runningOf plan (world .state)) op world))
+  where
+    active-cases : world .state .windows < windowsTotal plan → Holds (activeStep plan scripts quota world)
+    unfolding activeStep closedOf fetchedStep
+    active-cases inWindow = go (closedOf plan quota (world .state)) refl
+      where
+        fetched :
+            (next : Fetched)
+            → nextOf plan scripts (world .state) ≡ next
+            → closedOf plan quota (world .state) ≡ false
+            → Holds (fetchedStep plan quota next world)
+        fetched (Fetch op) next open-still =
+            let tests = neither _ _ open-still in
+            op-holds op (record { inWindow = inWindow; inTime = leb-false _ _ (tests .0); room = leb-false _ _ (tests .1); next = next })
+        fetched End next open-still = switch-holds inWindow
+
+        go :
+            (closed : Bool)
+            → closedOf plan quota (world .state) ≡ closed
+            → Holds (elim closed [ true ↦ switchOf plan world | false ↦ fetchedStep plan quota (nextOf plan scripts (world .state)) world ])
+        go true test = switch-holds inWindow
+        go false test = fetched (nextOf plan scripts (world .state)) refl test
+
+    pub step-cases : Holds (stepOf plan scripts quota world)
+    unfolding stepOf
+    step-cases = go (endedOf plan (world .state)) refl
+      where
+        go :
+            (ended : Bool)
+            → endedOf plan (world .state) ≡ ended
+            → Holds (elim ended [ true ↦ world | false ↦ activeStep plan scripts quota world ])
+        go true test = ended-holds test
+        go false test = active-cases (in-window plan (world .state) test)
+
+-- what a switch and an op that begins keep holds after any number of steps
 module _
     (plan : Plan)
     (scripts : List ℕ)
@@ -43,32 +87,8 @@ module _
     (after-op :
     (world : World) (op : Op) → Holds world → Begins plan scripts quota world op → Holds (opStepOf plan quota (runningOf plan (world .state)) op world))
   where
-    active-holds : (world : World) → Holds world → endedOf plan (world .state) ≡ false → Holds (activeStep plan scripts quota world)
-    unfolding activeStep closedOf fetchedStep
-    active-holds world holds running = go (closedOf plan quota (world .state)) refl
-      where
-        inWindow : world .state .windows < windowsTotal plan
-        inWindow = in-window plan (world .state) running
-
-        fetched : (next : Fetched) → nextOf plan scripts (world .state) ≡ next → closedOf plan quota (world .state) ≡ false → Holds (fetchedStep plan quota next world)
-        fetched (Fetch op) next open-still =
-            let tests = neither _ _ open-still in
-            after-op world op holds (record { inWindow = inWindow; inTime = leb-false _ _ (tests .0); room = leb-false _ _ (tests .1); next = next })
-        fetched End next open-still = after-switch world holds inWindow
-
-        go : (closed : Bool) → closedOf plan quota (world .state) ≡ closed
-            → Holds (elim closed [ true ↦ switchOf plan world | false ↦ fetchedStep plan quota (nextOf plan scripts (world .state)) world ])
-        go true test = after-switch world holds inWindow
-        go false test = fetched (nextOf plan scripts (world .state)) refl test
-
     pub step-holds : (world : World) → Holds world → Holds (stepOf plan scripts quota world)
-    unfolding stepOf
-    step-holds world holds = go (endedOf plan (world .state)) refl
-      where
-        go : (ended : Bool) → endedOf plan (world .state) ≡ ended
-            → Holds (elim ended [ true ↦ world | false ↦ activeStep plan scripts quota world ])
-        go true test = holds
-        go false test = active-holds world holds test
+    step-holds world holds = step-cases plan scripts quota world Holds (λ ended. holds) (after-switch world holds) (λ op. after-op world op holds)
 
     pub steps-hold : (world : World) → Holds world → (count : ℕ) → Holds (steps plan scripts quota count world)
     unfolding steps

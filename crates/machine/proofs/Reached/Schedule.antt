@@ -3,6 +3,7 @@
 use Prim.Native.Nat.{ℕ, suc, _+_, _≤_, _<_, max}
 use mathlib.Core.Bool.{true}
 use mathlib.Core.List.{List}
+use mathlib.Core.Logic.{_⊎_, inl, inr}
 use mathlib.Core.Path.{_≡_, refl, ap, _∙_}
 use native.Mathlib.Numerals.{add-one}
 use native.Mathlib.Omega.{arith}
@@ -14,11 +15,11 @@ use Rattle.script.specs.declared.Op.{Op}
 use Rattle.cache.proofs.Ticks.{flush-ticks}
 use Rattle.machine.specs.World.{World, freshState, positionAt, runningOf}
 use Rattle.machine.specs.Ops.{effectOf}
-use Rattle.machine.specs.Steps.{opStepOf, steps}
+use Rattle.machine.specs.Steps.{opStepOf, stepOf, steps}
 use Rattle.machine.specs.Switch.{flushedClock, paddedClock, switchOf}
 use Rattle.machine.proofs.Ticks.{effect-ticks}
 use Rattle.machine.proofs.Reached.Fetched.{fetched-within}
-use Rattle.machine.proofs.Reached.Invariant.{Begins, freshBeside, steps-hold}
+use Rattle.machine.proofs.Reached.Invariant.{Begins, freshBeside, step-cases, steps-hold}
 
 -- windows at most the total; in a window the clock is from its start to its end + 212; ended, it is the start that a next window would have
 pub record Scheduled (plan : Plan) (world : World) : Type 0 where
@@ -77,3 +78,20 @@ scheduled plan scripts quota count log possible =
     steps-hold plan scripts quota (Scheduled plan) (after-switch plan possible) (after-op plan possible scripts quota) (freshBeside log)
     (at-start plan possible log)
     count
+
+-- one window more, at its start
+pub record NextStarts (plan : Plan) (world next : World) : Type 0 where
+  pub windows : next .state .windows ≡ world .state .windows + 1
+  pub exact : next .state .clock ≡ startOf plan (world .state .windows + 1)
+
+abbrev pub NextWindow : Plan → World → World → Type 0
+NextWindow plan world next = (next .state .windows ≡ world .state .windows) ⊎ NextStarts plan world next
+
+-- a step from a world on schedule stays in its window, or is the switch that starts the next window, at its start
+pub step-windows : (plan : Plan) (scripts : List ℕ) (quota : ℕ) (world : World) → planPossible plan ≡ true → Scheduled plan world
+    → NextWindow plan world (stepOf plan scripts quota world)
+unfolding opStepOf switchOf
+step-windows plan scripts quota world possible scheduled =
+    step-cases plan scripts quota world (NextWindow plan world) (λ ended. inl refl)
+    (λ inWindow. inr (record { windows = refl; exact = switch-clock plan world possible scheduled inWindow }))
+    (λ op begins. inl refl)

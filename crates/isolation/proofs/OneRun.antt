@@ -1,0 +1,4 @@
+-- One list of calls. Assumes nothing.
+pub mod Verdicts
+pub mod Calls
+pub mod Leaves
