@@ -2,3 +2,4 @@
 pub mod Verdicts
 pub mod Calls
 pub mod Leaves
+pub mod OnTime
