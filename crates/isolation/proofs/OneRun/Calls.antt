@@ -10,7 +10,7 @@ use Rattle.machine.specs.Records.{partRecords}
 use Rattle.machine.specs.Steps.{steps}
 use Rattle.machine.specs.World.{World}
 use Rattle.engine.specs.Running.{Run, runCallOf, stepCallOf}
-use Rattle.isolation.specs.Calls.{AllOwn, Call, Handed, IsOwn, RunThings, afterCall, foreign, handed, handedWorld, isRefused, leftIn, leftWorld, logCall, logQuestion, own, runAnswer, runCall, stepAnswer, stepCall, stepsAsked, stepsCounted, verdictOf}
+use Rattle.isolation.specs.Calls.{AllOwn, Call, Handed, IsOwn, LogThings, RunThings, afterCall, foreign, handed, handedWorld, isRefused, leftIn, leftWorld, logCall, logQuestion, own, runAnswer, runCall, stepAnswer, stepCall, stepsAsked, stepsCounted, verdictOf}
 use Rattle.isolation.proofs.OneRun.Verdicts.{run-accepted, run-refused}
 
 -- a thing that a call left as it was handed leaves the list's own as it was
@@ -42,6 +42,17 @@ all-own things owned =
     let boxes = is-own (things .boxes) (owned .4) in
     let log = is-own (things .log) (owned .5) in
     λ i. record { plan = plan i; scripts = scripts i; state = state i; cache = cache i; boxes = boxes i; log = log i }
+
+-- everything that an asking takes is the list's own
+abbrev pub ownAsked : LogThings
+ownAsked = record { plan = own; state = own; log = own }
+
+pub all-own-asked : (things : LogThings) → IsOwn (things .plan) × IsOwn (things .state) × IsOwn (things .log) → things ≡ ownAsked
+all-own-asked things owned =
+    let plan = is-own (things .plan) (owned .0) in
+    let state = is-own (things .state) (owned .1) in
+    let log = is-own (things .log) (owned .2) in
+    λ i. record { plan = plan i; state = state i; log = log i }
 
 module _ (plan : Plan) (scripts : List ℕ) where
   -- ---- a refused call leaves the list's own world

@@ -2,10 +2,10 @@
 use Prim.Native.Nat.{ℕ, _+_}
 use mathlib.Core.Bool.{true, false}
 use mathlib.Core.List.{List, [], _∷_}
-use mathlib.Core.Path.{_≡_, refl, sym, ap, subst, _∙_}
+use mathlib.Core.Logic.{_⊎_}
+use mathlib.Core.Path.{_≡_, refl, sym, ap, _∙_}
 use native.Mathlib.Nat.{add-assoc, add-zero, zero-add}
 use lib.ListN.{length}
-use Rattle.plan.specs.declared.Plan.{Plan}
 use Rattle.plan.specs.Possible.{planPossible}
 use Rattle.machine.specs.Records.{partRecords}
 use Rattle.machine.specs.Steps.{steps}
@@ -13,8 +13,8 @@ use Rattle.machine.specs.World.{World}
 use Rattle.machine.proofs.Reached.{log-length}
 use Rattle.machine.proofs.Runs.{steps-add}
 use Rattle.engine.specs.FreshStart.{freshWorld}
-use Rattle.isolation.specs.Calls.{Call, CallList, IsList, Proper, afterCall, afterCalls, leavesOf, pointOf, stepsCounted, stepsOfCalls}
-use Rattle.isolation.specs.Points.{worldAfter}
+use Rattle.isolation.specs.Calls.{AllOwn, Call, CallList, IsList, Proper, afterCall, afterCalls, isRefused, leavesOf, pointOf, stepsCounted, stepsOfCalls, verdictOf}
+use Rattle.isolation.specs.Points.{Run, worldAfter}
 use Rattle.isolation.specs.Statement.{runOfList}
 use Rattle.isolation.proofs.OneRun.Calls.{call-steps}
 use Rattle.isolation.proofs.OneRun.Verdicts.{fresh-possible}
@@ -23,38 +23,47 @@ use Rattle.isolation.proofs.OneRun.Verdicts.{fresh-possible}
 pub list-possible : (list : CallList) → IsList list → planPossible (list .plan) ≡ true
 list-possible list is = fresh-possible (list .plan) (list .oldState) (list .oldCache) (list .oldBoxes) (is .started)
 
-module _ (plan : Plan) (scripts log : List ℕ) (possible : planPossible plan ≡ true) where
-  -- the world after so many steps of the fresh start
-  abbrev after : ℕ → World
-  after count = steps plan scripts (partRecords plan (length log)) count (freshWorld log)
+module _ (run : Run) (possible : planPossible (run .plan) ≡ true) where
+  -- the log keeps its length, and so do its parts
+  quota-kept : (count : ℕ) → partRecords (run .plan) (length (worldAfter run count .log)) ≡ partRecords (run .plan) (length (run .log))
+  unfolding worldAfter freshWorld
+  quota-kept count = ap (partRecords (run .plan)) (log-length (run .plan) (run .scripts) (run .log) count possible)
 
-  -- a log keeps its length
-  pub after-log : (count : ℕ) → length (after count .log) ≡ length log
-  unfolding freshWorld
-  after-log count = log-length plan scripts log count possible
+  -- steps from a world of the run lead to a later one
+  steps-later : (count more : ℕ)
+      → steps (run .plan) (run .scripts) (partRecords (run .plan) (length (worldAfter run count .log))) more (worldAfter run count)
+      ≡ worldAfter run (count + more)
+  unfolding worldAfter
+  steps-later count more =
+      ap (λ quota. steps (run .plan) (run .scripts) quota more (worldAfter run count)) (quota-kept count)
+      ∙ sym (steps-add (run .plan) (run .scripts) (partRecords (run .plan) (length (run .log))) count more (freshWorld (run .log)))
 
-  -- one call more
-  call-after : (call : Call) (count : ℕ) (world : World) → world ≡ after count
-      → afterCall plan scripts call world ≡ steps plan scripts (partRecords plan (length (world .log))) (stepsCounted plan scripts call world) world
-      → afterCall plan scripts call world ≡ after (count + stepsCounted plan scripts call world)
-  call-after call count world reached left =
-      let quota = ap (λ w. partRecords plan (length (w .log))) reached ∙ ap (partRecords plan) (after-log count) in
-      left
-      ∙ ap (λ q. steps plan scripts q (stepsCounted plan scripts call world) world) quota
-      ∙ ap (steps plan scripts (partRecords plan (length log)) (stepsCounted plan scripts call world)) reached
-      ∙ sym (steps-add plan scripts (partRecords plan (length log)) count (stepsCounted plan scripts call world) (freshWorld log))
+  -- so a call leads from a world of the run to the one that is as many steps later as the call counts
+  call-later : (call : Call) (count : ℕ) (world : World)
+      → world ≡ worldAfter run count
+      → (isRefused (verdictOf (run .plan) (run .scripts) call world) ≡ true) ⊎ AllOwn (run .plan) (run .scripts) call
+      → afterCall (run .plan) (run .scripts) call world ≡ worldAfter run (count + stepsCounted (run .plan) (run .scripts) call world)
+  call-later call count world reached proper =
+      let counted = stepsCounted (run .plan) (run .scripts) call world in
+      call-steps (run .plan) (run .scripts) call world proper
+      ∙ ap (λ from. steps (run .plan) (run .scripts) (partRecords (run .plan) (length (from .log))) counted from) reached
+      ∙ steps-later count counted
 
-  calls-after : (calls : List Call) (count : ℕ) (world : World) → world ≡ after count → Proper plan scripts calls world
-      → afterCalls plan scripts calls world ≡ after (count + stepsOfCalls plan scripts calls world)
+  calls-later : (calls : List Call) (count : ℕ) (world : World)
+      → world ≡ worldAfter run count
+      → Proper (run .plan) (run .scripts) calls world
+      → afterCalls (run .plan) (run .scripts) calls world ≡ worldAfter run (count + stepsOfCalls (run .plan) (run .scripts) calls world)
   unfolding afterCalls stepsOfCalls Proper
-  calls-after [] count world reached proper = reached ∙ ap after (sym (add-zero count))
-  calls-after (call ∷ calls) count world reached proper =
-      let here = call-after call count world reached (call-steps plan scripts call world (proper .0)) in
-      calls-after calls (count + stepsCounted plan scripts call world) (afterCall plan scripts call world) here (proper .1)
-      ∙ ap after (add-assoc count (stepsCounted plan scripts call world) (stepsOfCalls plan scripts calls (afterCall plan scripts call world)))
+  calls-later [] count world reached proper = reached ∙ ap (worldAfter run) (sym (add-zero count))
+  calls-later (call ∷ calls) count world reached proper =
+      let counted = stepsCounted (run .plan) (run .scripts) call world in
+      let next = afterCall (run .plan) (run .scripts) call world in
+      calls-later calls (count + counted) next (call-later call count world reached (proper .0)) (proper .1)
+      ∙ ap (worldAfter run) (add-assoc count counted (stepsOfCalls (run .plan) (run .scripts) calls next))
 
+-- what a list leaves is what its run's steps leave
 pub leaves : (list : CallList) → IsList list → leavesOf list ≡ worldAfter (runOfList list) (pointOf list)
 unfolding worldAfter steps
 leaves list is =
-    calls-after (list .plan) (list .scripts) (list .log) (list-possible list is) (list .calls) 0 (freshWorld (list .log)) refl (is .proper)
-    ∙ ap (after (list .plan) (list .scripts) (list .log) (list-possible list is)) (zero-add (pointOf list))
+    calls-later (runOfList list) (list-possible list is) (list .calls) 0 (freshWorld (list .log)) refl (is .proper)
+    ∙ ap (worldAfter (runOfList list)) (zero-add (pointOf list))
