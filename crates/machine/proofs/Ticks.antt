@@ -1,5 +1,5 @@
 -- How many ticks an op may take: at most 213, and one that takes them. Assumes nothing.
-use Prim.Native.Nat.{ℕ, _+_, _≤_}
+use Prim.Native.Nat.{ℕ, _≤_}
 use mathlib.Core.Bool.{Bool, true, false, cond}
 use mathlib.Core.List.{List, [], _∷_}
 use mathlib.Core.Path.{_≡_, refl}
@@ -15,13 +15,13 @@ use Rattle.plan.specs.Windows.{ticksTotal}
 use Rattle.script.specs.declared.Op.{Op}
 use Rattle.script.specs.declared.Op.the-variants.{Read, Write, Send, Receive, Compute}
 use Rattle.script.proofs.Laws.{Within}
-use Rattle.cache.specs.Access.{Accessed, accessOf, lookAt, lookHit1, lookL2, lookOf}
+use Rattle.cache.specs.Access.{accessOf, lookAt, lookHit1, lookL2, lookOf}
 use Rattle.cache.specs.Lines.{tableLength}
 use Rattle.cache.specs.Sets.{behind, has, used}
 use Rattle.cache.proofs.Ticks.{access-ticks}
 use Rattle.machine.specs.declared.Seen.{Seen}
 use Rattle.machine.specs.declared.Seen.the-variants.{Ran}
-use Rattle.machine.specs.Ops.{Effect, boxLine, boxPlace, computeOf, deniedOf, effectOf, gateLine, ownsLine, passedOf, receiveOf, sendOf, touchOf}
+use Rattle.machine.specs.Ops.{Effect, computeOf, deniedOf, effectOf, gateLine, ownsLine, passedOf, receiveOf, sendOf, touchOf}
 use Rattle.machine.specs.World.{boxesLength}
 
 -- a choice between two effects keeps a bound of both

@@ -1,9 +1,9 @@
 -- Which calls are refused after a list: with a script store of 2,048 numbers no step or run that is handed the list's own things, and no asking for a
 -- declared domain; with a store of another length every own step and run. Assumes nothing.
 use Prim.Native.Nat.{ℕ, _<_}
-use mathlib.Core.Bool.{true, false}
+use mathlib.Core.Bool.{true}
 use mathlib.Core.List.{List}
-use mathlib.Core.Path.{_≡_, refl, sym, ap, subst, _∙_}
+use mathlib.Core.Path.{_≡_, sym, ap, subst, _∙_}
 use lib.ListN.{length}
 use Rattle.plan.specs.declared.Plan.{Plan}
 use Rattle.plan.specs.Possible.{planPossible}
@@ -12,7 +12,6 @@ use Rattle.machine.specs.Records.{partRecords}
 use Rattle.machine.specs.World.{World}
 use Rattle.machine.proofs.Reached.{boxes-length, cache-length, log-length, state-possible, tables-sound}
 use Rattle.refusal.specs.declared.Refusal.the-variants.{WrongLength}
-use Rattle.refusal.specs.declared.Verdict.{Verdict}
 use Rattle.refusal.specs.declared.Verdict.the-variants.{Accepted, Refused}
 use Rattle.engine.specs.Asking.{logRefusalOf}
 use Rattle.engine.specs.Checks.{runVerdict, scriptsLength}
@@ -21,7 +20,7 @@ use Rattle.engine.specs.Running.{stepCallOf}
 use Rattle.isolation.specs.Calls.{AllOwn, Call, CallList, IsList, LogThings, RunThings, leavesOf, logAnswer, logCall, logQuestion, pointOf, runAnswer, runCall, stepAnswer, stepCall, verdictOf}
 use Rattle.isolation.specs.Points.{Run, worldAfter}
 use Rattle.isolation.specs.Statement.{runOfList}
-use Rattle.isolation.proofs.OneRun.Calls.{all-own, all-own-asked, ownAsked, ownThings}
+use Rattle.isolation.proofs.OneRun.Calls.{all-own, all-own-asked}
 use Rattle.isolation.proofs.OneRun.Leaves.{leaves, list-possible}
 use Rattle.isolation.proofs.OneRun.Verdicts.{asking-passes, run-passes, run-verdict, wrong-store}
 

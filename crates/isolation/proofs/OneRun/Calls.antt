@@ -1,15 +1,15 @@
 -- One call on a list's own world: a refused call leaves it, and any other leaves as many steps as it asks for. Assumes nothing.
-use Prim.Native.Nat.{ℕ, zero}
+use Prim.Native.Nat.{ℕ}
 use mathlib.Core.Bool.{Bool, true, false, cond, false≢true}
 use mathlib.Core.List.{List}
-use mathlib.Core.Logic.{_⊎_, inl, inr, ⊎-elim}
+use mathlib.Core.Logic.{_⊎_, inl, inr}
 use mathlib.Core.Path.{_≡_, refl, sym, ap, subst, _∙_}
 use lib.ListN.{length}
 use Rattle.plan.specs.declared.Plan.{Plan}
 use Rattle.machine.specs.Records.{partRecords}
 use Rattle.machine.specs.Steps.{steps}
 use Rattle.machine.specs.World.{World}
-use Rattle.engine.specs.Running.{Run, runCallOf, stepCallOf}
+use Rattle.engine.specs.Running.{stepCallOf}
 use Rattle.isolation.specs.Calls.{AllOwn, Call, Handed, IsOwn, LogThings, RunThings, afterCall, foreign, handed, handedWorld, isRefused, leftIn, leftWorld, logCall, logQuestion, own, runAnswer, runCall, stepAnswer, stepCall, stepsAsked, stepsCounted, verdictOf}
 use Rattle.isolation.proofs.OneRun.Verdicts.{run-accepted, run-refused}
 

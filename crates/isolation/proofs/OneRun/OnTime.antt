@@ -1,7 +1,7 @@
 -- Each window so far started at the tick that the plan alone gives. Assumes nothing.
 use Prim.Native.Nat.{ℕ, zero, suc, _+_, _≤_, _<_}
 use mathlib.Core.Bool.{Bool, true, false}
-use mathlib.Core.Logic.{_⊎_, inl, inr}
+use mathlib.Core.Logic.{inl, inr}
 use mathlib.Core.Path.{_≡_, refl, sym, ap, _∙_}
 use native.Mathlib.Nat.{le-trans, not-suc-le-zero}
 use native.Mathlib.Omega.{arith}
@@ -13,11 +13,11 @@ use Rattle.plan.specs.Windows.{startOf}
 use Rattle.plan.proofs.Sums.{last-or-earlier}
 use Rattle.machine.specs.Records.{partRecords}
 use Rattle.machine.specs.Steps.{steps}
-use Rattle.machine.specs.World.{World, freshState}
+use Rattle.machine.specs.World.{freshState}
 use Rattle.machine.proofs.Reached.Schedule.{NextStarts, NextWindow, Scheduled, scheduled, step-windows}
 use Rattle.engine.specs.FreshStart.{freshWorld}
 use Rattle.isolation.specs.Calls.{CallList, IsList, pointOf}
-use Rattle.isolation.specs.Points.{Run, Starts, windowsAfter, worldAfter}
+use Rattle.isolation.specs.Points.{Run, windowsAfter, worldAfter}
 use Rattle.isolation.specs.Statement.{StartedOnTime, WindowsOnTime, runOfList}
 use Rattle.isolation.proofs.OneRun.Leaves.{list-possible}
 

@@ -1,9 +1,8 @@
 -- When the entry points refuse, and what a run that is not refused leaves. Assumes nothing.
 use Prim.Native.Nat.{ℕ, _<_}
-use mathlib.Core.Bool.{Bool, true, false, _&&_, false≢true}
+use mathlib.Core.Bool.{Bool, true, false, false≢true}
 use mathlib.Core.List.{List}
-use mathlib.Core.Path.{_≡_, refl, sym, ap, _∙_}
-use lib.Dec.{eqb, ltb}
+use mathlib.Core.Path.{_≡_, refl, sym, _∙_}
 use lib.ListN.{length}
 use borrow.Author.Tests.{eq-eqb, lt-ltb, ne-eqb}
 use Rattle.plan.specs.declared.Plan.{Plan}
@@ -13,7 +12,7 @@ use Rattle.machine.specs.declared.State.{State}
 use Rattle.machine.specs.Damage.{tablesSound}
 use Rattle.machine.specs.Impossible.{statePossible}
 use Rattle.machine.specs.Records.{partRecords}
-use Rattle.machine.specs.Steps.{runOf, steps}
+use Rattle.machine.specs.Steps.{steps}
 use Rattle.machine.specs.World.{World, boxesLength}
 use Rattle.machine.proofs.Runs.{run-world}
 use Rattle.refusal.specs.declared.Refusal.{Refusal}
@@ -25,7 +24,7 @@ use Rattle.refusal.specs.declared.Verdict.the-variants.{Accepted, Refused}
 use Rattle.engine.specs.Asking.{logRefusalOf}
 use Rattle.engine.specs.Checks.{freshVerdict, logVerdict, runVerdict, scriptsLength, stateVerdict, tablesFit, unless}
 use Rattle.engine.specs.FreshStart.{freshFrom, freshStartOf}
-use Rattle.engine.specs.Running.{Run, ranFrom, runCallOf, runFrom}
+use Rattle.engine.specs.Running.{ranFrom, runCallOf, runFrom}
 use Rattle.isolation.specs.Calls.{isRefused}
 
 -- every refusal has a number that is not 0

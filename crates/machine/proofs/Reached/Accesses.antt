@@ -1,16 +1,16 @@
 -- What an access of a line leaves of a cache table: its length, its L1 numbers, and sound sets. Assumes nothing.
-use Prim.Native.Nat.{ℕ, _+_, _*_, _%_, _≤_, _<_}
+use Prim.Native.Nat.{ℕ, _+_, _≤_, _<_}
 use mathlib.Core.Bool.{Bool, true, false, cond, _||_}
 use mathlib.Core.List.{List}
-use mathlib.Core.Path.{_≡_, refl, sym, ap, subst, _∙_}
+use mathlib.Core.Path.{_≡_, refl, sym, subst, _∙_}
 use native.Mathlib.Omega.{arith}
 use lib.Dec.{eqb, ltb}
 use lib.ListN.{getD, length, set, length-set}
 use borrow.Author.Tests.{eqb-false, eqb-true, ltb-false, ltb-true}
 use Rattle.lists.specs.Part.{part, splice}
 use Rattle.lists.proofs.Parts.{part-length}
-use Rattle.cache.specs.Access.{Look, accessOf, lookAt, lookHit1, lookL2, lookOf}
-use Rattle.cache.specs.Lines.{cleanEntry, dirtyEntry, entryFor, holdsLine, indexOf, setOf, setPlace, tableLength, waysOfSet}
+use Rattle.cache.specs.Access.{accessOf, lookAt, lookHit1, lookL2, lookOf}
+use Rattle.cache.specs.Lines.{cleanEntry, dirtyEntry, holdsLine, indexOf, setOf, setPlace, tableLength, waysOfSet}
 use Rattle.cache.specs.Sets.{used}
 use Rattle.cache.proofs.Ways.{used-length}
 use Rattle.machine.specs.Damage.{setSound, waysSound}

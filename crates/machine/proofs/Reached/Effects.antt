@@ -1,9 +1,9 @@
 -- An op that stands in a script leaves sound tables: it brings only lines of the running domain or the kernel into L1, and fills only boxes that the
 -- rights allow. Assumes nothing.
-use Prim.Native.Nat.{ℕ, _+_, _*_, _/_, _%_, _≤_, _<_}
+use Prim.Native.Nat.{ℕ, _/_, _%_, _≤_}
 use mathlib.Core.Bool.{Bool, true, false, cond, _&&_, _||_, false≢true}
 use mathlib.Core.List.{List}
-use mathlib.Core.Path.{_≡_, refl, sym, ap, subst, _∙_}
+use mathlib.Core.Path.{_≡_, refl, _∙_}
 use native.Mathlib.Omega.{arith}
 use lib.Dec.{eqb, leb, ltb}
 use lib.ListN.{getD, length, set, length-set}
@@ -14,11 +14,11 @@ use Rattle.plan.specs.Rights.{maySend}
 use Rattle.script.specs.declared.Op.{Op}
 use Rattle.script.specs.declared.Op.the-variants.{Read, Write, Send, Receive, Compute}
 use Rattle.script.proofs.Laws.{Within}
-use Rattle.cache.specs.Access.{Accessed, accessOf}
+use Rattle.cache.specs.Access.{accessOf}
 use Rattle.cache.specs.Lines.{colourOf, kernelColour}
 use Rattle.machine.specs.declared.Seen.{Seen}
 use Rattle.machine.specs.declared.State.{State}
-use Rattle.machine.specs.Damage.{boxSound, lineAllowed}
+use Rattle.machine.specs.Damage.{lineAllowed}
 use Rattle.machine.specs.Ops.{Effect, boxLine, boxPlace, computeOf, deniedOf, effectOf, fullBox, gateLine, ownsLine, passedOf, receiveOf, sendOf, touchOf}
 use Rattle.machine.specs.World.{boxesLength, endedOf, runningOf}
 use Rattle.machine.proofs.Reached.Cells.{cell-holds}

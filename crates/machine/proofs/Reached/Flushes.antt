@@ -1,5 +1,5 @@
 -- The flushes of a switch leave a sound table for whoever runs next: L1 and the kernel's sets are empty, the other sets as they were. Assumes nothing.
-use Prim.Native.Nat.{ℕ, _+_, _*_, _-_, _≤_, _<_}
+use Prim.Native.Nat.{ℕ, _+_, _-_, _≤_, _<_}
 use mathlib.Core.Bool.{Bool, true, false}
 use mathlib.Core.List.{List}
 use mathlib.Core.Path.{_≡_, refl, sym, subst, _∙_}
@@ -7,7 +7,6 @@ use native.Mathlib.Omega.{arith}
 use lib.Dec.{ltb}
 use lib.ListN.{getD, length, replicate}
 use borrow.Author.Tests.{ltb-false, ltb-true}
-use Rattle.lists.specs.Part.{part, splice}
 use Rattle.plan.specs.declared.Plan.{Plan}
 use Rattle.cache.specs.Flush.{kernelFlushed, l1Flushed}
 use Rattle.cache.specs.Lines.{indexes, kernelNumbers, kernelPlace, setPlace, tableLength, waysOfSet}

@@ -1,9 +1,9 @@
 -- A sound cache table while a domain runs: its length, the lines that L1 may hold, and sound sets. An access of a line that the domain
 -- may have leaves a sound table, and a table of zeros is sound. Assumes nothing.
-use Prim.Native.Nat.{ℕ, suc, _+_, _*_, _-_, _/_, _%_, _≤_, _<_}
+use Prim.Native.Nat.{ℕ, suc, _+_, _-_, _≤_, _<_}
 use mathlib.Core.Bool.{Bool, true, false, cond, not, _&&_, _||_}
 use mathlib.Core.List.{List, [], _∷_}
-use mathlib.Core.Path.{_≡_, refl, sym, ap, subst, _∙_}
+use mathlib.Core.Path.{_≡_, refl, ap, _∙_}
 use native.Mathlib.Omega.{arith}
 use lib.Dec.{eqb}
 use lib.ListN.{getD, length, replicate}
@@ -14,7 +14,7 @@ use Rattle.plan.specs.declared.Plan.{Plan}
 use Rattle.cache.specs.Access.{accessOf}
 use Rattle.cache.specs.Lines.{cleanEntry, dirtyEntry, indexOf, setOf, setPlace, tableLength, waysOfSet}
 use Rattle.machine.specs.declared.State.{State}
-use Rattle.machine.specs.Damage.{allEmpty, l1EntrySound, lineAllowed, lineOf, setSound, standsForLine, unmarked, waysSound}
+use Rattle.machine.specs.Damage.{allEmpty, lineAllowed, lineOf, setSound, standsForLine, unmarked}
 use Rattle.machine.specs.World.{endedOf, runningOf}
 use Rattle.machine.proofs.Reached.Accesses.{access-index, access-length, access-sets}
 use Rattle.machine.proofs.Reached.Cells.{cell-zeros, zeros-length}

@@ -1,7 +1,7 @@
 -- Parts of a table and tables with a part rewritten, cell by cell. Assumes nothing.
 use Prim.Native.Nat.{ℕ, _+_, _-_, _≤_, _<_}
-use mathlib.Core.List.{List, [], _∷_, _++_}
-use mathlib.Core.Path.{_≡_, refl, sym, ap, _∙_}
+use mathlib.Core.List.{List, _++_}
+use mathlib.Core.Path.{_≡_, sym, ap, _∙_}
 use native.Mathlib.Omega.{arith}
 use lib.ListN.{drop, getD, length, set, take, List·getD-append}
 use lib.Seq.{drop-at, drop-set-lt, ext-getD, getD-append-add, getD-drop, getD-take, length-take-le, take-at}

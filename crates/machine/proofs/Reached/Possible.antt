@@ -1,19 +1,18 @@
 -- Every reached state passes the check for 14. Assumes nothing.
-use Prim.Native.Nat.{ℕ, _+_, _≤_}
-use mathlib.Core.Bool.{true, false}
-use mathlib.Core.Path.{_≡_, ap, _∙_}
+use Prim.Native.Nat.{ℕ, _≤_}
+use mathlib.Core.Bool.{true}
+use mathlib.Core.Path.{_≡_}
 use native.Mathlib.Omega.{arith}
 use lib.Dec.{ltb}
 use borrow.Author.Tests.{eq-eqb, le-leb, ltb-false, ltb-true}
 use Rattle.plan.specs.declared.Plan.{Plan}
 use Rattle.plan.specs.Possible.{planPossible}
-use Rattle.plan.specs.Windows.{endOf, startOf, ticksTotal, windowsTotal}
+use Rattle.plan.specs.Windows.{windowsTotal}
 use Rattle.plan.proofs.Sums.{below-all}
-use Rattle.plan.proofs.Windows.{start-total}
 use Rattle.machine.specs.World.{World}
 use Rattle.machine.specs.Impossible.{clockPossible, countsPossible, statePossible}
 use Rattle.machine.proofs.Reached.Counts.{Counted}
-use Rattle.machine.proofs.Reached.Schedule.{Scheduled}
+use Rattle.machine.proofs.Reached.Schedule.{Scheduled, ended-clock}
 use Rattle.machine.proofs.Reached.Tests.{both-pass, cases-pass, choice-passes}
 
 -- in a window the clock is within its limits; ended, it is the run's total
@@ -25,7 +24,7 @@ clock-possible plan world possible scheduled =
     (λ test.
     let past : windowsTotal plan ≤ world .state .windows = ltb-false _ _ test in
     let all : world .state .windows ≡ windowsTotal plan = omega arith in
-    both-pass _ _ (eq-eqb _ _ all) (eq-eqb _ _ (scheduled .ended all ∙ ap (startOf plan) all ∙ start-total plan possible)))
+    both-pass _ _ (eq-eqb _ _ all) (eq-eqb _ _ (ended-clock plan world possible scheduled all)))
 
 counts-possible : (plan : Plan) (quota : ℕ) (world : World) → Counted plan quota world → (domain : ℕ)
     → countsPossible plan quota (world .state) domain ≡ true

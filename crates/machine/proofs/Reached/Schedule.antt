@@ -1,6 +1,6 @@
 -- Windows start when the plan alone says: where the clock of a reached world stands, and that a switch sets it to the next window's start.
 -- Assumes nothing.
-use Prim.Native.Nat.{ℕ, suc, _+_, _≤_, _<_, max}
+use Prim.Native.Nat.{ℕ, suc, _+_, _≤_, _<_}
 use mathlib.Core.Bool.{true}
 use mathlib.Core.List.{List}
 use mathlib.Core.Logic.{_⊎_, inl, inr}
@@ -9,12 +9,11 @@ use native.Mathlib.Numerals.{add-one}
 use native.Mathlib.Omega.{arith}
 use Rattle.plan.specs.declared.Plan.{Plan}
 use Rattle.plan.specs.Possible.{planPossible}
-use Rattle.plan.specs.Windows.{endOf, startOf, windowsTotal}
-use Rattle.plan.proofs.Windows.{pad-least}
+use Rattle.plan.specs.Windows.{endOf, startOf, ticksTotal, windowsTotal}
+use Rattle.plan.proofs.Windows.{pad-least, start-total}
 use Rattle.script.specs.declared.Op.{Op}
 use Rattle.cache.proofs.Ticks.{flush-ticks}
 use Rattle.machine.specs.World.{World, freshState, positionAt, runningOf}
-use Rattle.machine.specs.Ops.{effectOf}
 use Rattle.machine.specs.Steps.{opStepOf, stepOf, steps}
 use Rattle.machine.specs.Switch.{flushedClock, paddedClock, switchOf}
 use Rattle.machine.proofs.Ticks.{effect-ticks}
@@ -47,6 +46,11 @@ switch-clock plan world possible scheduled inWindow =
     let pad = pad-least plan possible in
     let next = ap (startOf plan) (add-one (world .state .windows)) ∙ next-start plan (world .state .windows) in
     omega arith
+
+-- ended, the clock is the run's total of ticks
+pub ended-clock : (plan : Plan) (world : World) → planPossible plan ≡ true → Scheduled plan world → world .state .windows ≡ windowsTotal plan
+    → world .state .clock ≡ ticksTotal plan
+ended-clock plan world possible scheduled all = scheduled .ended all ∙ ap (startOf plan) all ∙ start-total plan possible
 
 module _ (plan : Plan) (possible : planPossible plan ≡ true) where
   after-switch : (world : World) → Scheduled plan world → world .state .windows < windowsTotal plan → Scheduled plan (switchOf plan world)

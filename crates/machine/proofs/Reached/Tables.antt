@@ -1,10 +1,10 @@
 -- Every reached world has tables of the right lengths that pass the check for 13. Assumes nothing.
-use Prim.Native.Nat.{ℕ, _+_, _≤_, _<_}
-use mathlib.Core.Bool.{true, false}
+use Prim.Native.Nat.{ℕ, _<_}
+use mathlib.Core.Bool.{true}
 use mathlib.Core.List.{List}
-use mathlib.Core.Path.{_≡_, refl, _∙_}
+use mathlib.Core.Path.{_≡_, _∙_}
 use native.Mathlib.Omega.{arith}
-use lib.ListN.{length, replicate}
+use lib.ListN.{length}
 use lib.Seq.{length-sets}
 use borrow.Author.Tests.{eq-eqb, lt-leb}
 use Rattle.plan.specs.declared.Plan.{Plan}
@@ -14,16 +14,14 @@ use Rattle.plan.proofs.Sums.{below-all}
 use Rattle.plan.proofs.Windows.{domains-most, owner-declared}
 use Rattle.script.specs.declared.Op.{Op}
 use Rattle.machine.specs.declared.Seen.{Seen}
-use Rattle.machine.specs.declared.State.{State}
-use Rattle.machine.specs.Damage.{boxSound, l1EntrySound, setSound, tablesSound}
-use Rattle.machine.specs.Ops.{effectOf}
+use Rattle.machine.specs.Damage.{boxSound, l1EntrySound, tablesSound}
 use Rattle.machine.specs.Records.{recordBytes, recordPlace, stored}
 use Rattle.machine.specs.Steps.{opStepOf, steps}
 use Rattle.machine.specs.Switch.{switchOf}
 use Rattle.machine.specs.World.{World, boxesLength, endedOf, positionAt, recordsAt, runningOf}
 use Rattle.machine.proofs.Reached.Cells.{cell-zeros, zeros-length}
 use Rattle.machine.proofs.Reached.Fetched.{fetched-within}
-use Rattle.machine.proofs.Reached.Effects.{BoxesSound, EffectSound, effect-sound}
+use Rattle.machine.proofs.Reached.Effects.{BoxesSound, effect-sound}
 use Rattle.machine.proofs.Reached.Flushes.{flush-sound}
 use Rattle.machine.proofs.Reached.Invariant.{Begins, freshBeside, steps-hold}
 use Rattle.machine.proofs.Reached.Lines.{CacheSound, zeros-sound}

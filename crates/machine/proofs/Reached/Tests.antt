@@ -1,5 +1,5 @@
 -- When tests pass: joined tests, and tests chosen by another. Assumes nothing.
-use mathlib.Core.Bool.{Bool, true, false, cond, not, _&&_, _||_, and-eq-true-iff, false≢true}
+use mathlib.Core.Bool.{Bool, true, false, cond, _&&_, _||_, and-eq-true-iff, false≢true}
 use mathlib.Core.Path.{_≡_, refl}
 
 pub both-pass : (one other : Bool) → one ≡ true → other ≡ true → (one && other) ≡ true
