@@ -3,3 +3,4 @@ pub mod Operations
 pub mod Reached
 pub mod Runs
 pub mod Ticks
+pub mod Turns

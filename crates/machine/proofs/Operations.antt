@@ -9,6 +9,8 @@ use lib.ListN.{getD, set}
 use borrow.Author.Tests.{ltb-false, ltb-true}
 use Rattle.plan.specs.declared.Plan.{Plan}
 use Rattle.plan.specs.Rights.{maySend}
+use Rattle.script.specs.Limits.{Within}
+use Rattle.script.specs.declared.Op.the-variants.{Receive, Send}
 use Rattle.cache.specs.declared.Found.{Found}
 use Rattle.cache.specs.Access.{accessOf}
 use Rattle.cache.proofs.Ticks.{access-ticks}
@@ -94,3 +96,12 @@ module _ (plan : Plan) (receiver sender : ℕ) (cache boxes : List ℕ) where
 -- an access's answer is no larger than any access's
 pub answered-ticks : (writes : Bool) (line answer : ℕ) (table : List ℕ) → answer ≡ accessOf writes line table .ticks → answer ≤ 104
 answered-ticks writes line answer table so = rw so (access-ticks writes line table)
+
+-- the other domain of a send or a receive has a number below 8
+pub send-below : (recipient word : ℕ) → Within (Send recipient word) → recipient < 8
+unfolding Within
+send-below recipient word within = omega arith
+
+pub receive-below : (sender : ℕ) → Within (Receive sender) → sender < 8
+unfolding Within
+receive-below sender within = omega arith

@@ -14,7 +14,7 @@ use Rattle.plan.specs.Sums.{allBelow, sumTo}
 use Rattle.plan.specs.Windows.{ticksTotal}
 use Rattle.script.specs.declared.Op.{Op}
 use Rattle.script.specs.declared.Op.the-variants.{Read, Write, Send, Receive, Compute}
-use Rattle.script.proofs.Laws.{Within}
+use Rattle.script.specs.Limits.{Within}
 use Rattle.cache.specs.Access.{accessOf, lookAt, lookHit1, lookL2, lookOf}
 use Rattle.cache.specs.Lines.{tableLength}
 use Rattle.cache.specs.Sets.{behind, has, used}

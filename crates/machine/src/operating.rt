@@ -9,8 +9,9 @@ ghost use mathlib.Core.Path.{_≡_};
 ghost use mathlib.Core.List.{List};
 ghost use Prim.Native.Nat.{ℕ, _+_, _<_, _≤_};
 ghost use lib.ListN.{length};
+ghost use Rattle.script.specs.Limits.{Within};
 ghost use Rattle.machine.specs.Ops.{boxSeen, effectOf, ownsLine, receiveOf, seenOf, sendOf, touchOf};
-ghost use Rattle.machine.specs.View.{OtherBelow, effectWith, viewOf};
+ghost use Rattle.machine.specs.View.{effectWith, viewOf};
 
 fn wide(number: u16) -> u32
     ensures { λ r. ⌜ r ≡ number ⌝ }
@@ -139,7 +140,7 @@ pub fn operate(
     cache: &mut [u16],
     boxes: &mut [u32],
 ) -> Done
-    requires { ⌜ (domain < 8) × OtherBelow op × (length (now cache) ≡ 272) × (length (now boxes) ≡ 64) ⌝ }
+    requires { ⌜ (domain < 8) × Within op × (length (now cache) ≡ 272) × (length (now boxes) ≡ 64) ⌝ }
     ensures { λ r. ⌜ effectWith r (now (cache .exit)) (now (boxes .exit)) ≡ effectOf (viewOf (now (rights .entry)) (now (masks .entry))) domain op (now (cache .entry)) (now (boxes .entry)) ⌝ }
 {
     match op {

@@ -10,15 +10,8 @@ use Rattle.script.specs.declared.Op.the-variants.{Read, Write, Send, Rec
 use Rattle.script.specs.declared.Fetched.{Fetched}
 use Rattle.script.specs.declared.Fetched.the-variants.{Op as Fetch, End}
 use Rattle.script.specs.Stored.{packed, storedOf}
+use Rattle.script.specs.Limits.{Within}
 use Rattle.script.specs.Fetch.{decodeOf, kindPart, opOf, otherPart, valuePart}
-
--- document 01's limits of an op's numbers
-unfoldable pub Within : Op → Type 0
-Within (Read line) = line < 65_536
-Within (Write line) = line < 65_536
-Within (Send recipient word) = (recipient ≤ 7) × (word < 65_536)
-Within (Receive sender) = sender ≤ 7
-Within (Compute ticks) = (1 ≤ ticks) × (ticks ≤ 200)
 
 -- a compute's ticks fit a byte
 pub compute-fits : (kind other value : ℕ) → eqb kind 5 && eqb other 0 && leb 1 value && leb value 200 ≡ true → value ≤ 200

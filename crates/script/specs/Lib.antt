@@ -1,2 +1,3 @@
-pub mod Stored
 pub mod Fetch
+pub mod Limits
+pub mod Stored

@@ -10,7 +10,8 @@ use borrow.Author.Tests.{ltb-true}
 use Rattle.script.specs.declared.Op.{Op}
 use Rattle.script.specs.declared.Fetched.the-variants.{Op as Fetch, End}
 use Rattle.script.specs.Fetch.{decodeOf, fetchOf}
-use Rattle.script.proofs.Laws.{Within, decode-within}
+use Rattle.script.specs.Limits.{Within}
+use Rattle.script.proofs.Laws.{decode-within}
 
 -- the end of a script is no op
 end-is-none : (op : Op) → End ≡ Fetch op → ⊥

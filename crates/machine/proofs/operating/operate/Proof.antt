@@ -1,7 +1,9 @@
 -- `machine::operating::operate` meets its contract. Assumes nothing.
-use mathlib.Core.Path.{refl}
+use mathlib.Core.Path.{refl, subst}
 use borrow.Author.Needs.{needs}
 use Rattle.machine.specs.Ops.{computeOf, effectOf}
+use Rattle.script.specs.Limits.{Within}
+use Rattle.machine.proofs.Operations.{receive-below, send-below}
 use Rattle.machine.proofs.operating.operate.Statement.{statement}
 use Rattle.machine.proofs.operating.operate.Tie as tie
 
@@ -21,13 +23,17 @@ enum-known-op-3 : tie.Need-enum-known-op-3
 enum-known-op-3 c = search needs
 
 send-requires : tie.Need-send-requires
-send-requires c κs = (c .before .before .before .before .before .before .before .pre .0, rw (c .before .before .before .op3 .given .1) at (c .before .before .before .before .before .before .before .pre .1), c .before .before .before .before .before .before .before .pre .2, c .before .before .before .before .before .before .before .pre .3)
+send-requires c κs =
+    let start = c .before .before .before .before .before .before .before in
+    (start .pre .0, send-below _ _ (subst Within (c .before .before .before .op3 .given .1) (start .pre .1)), start .pre .2, start .pre .3)
 
 enum-known-op-4 : tie.Need-enum-known-op-4
 enum-known-op-4 c = search needs
 
 receive-requires : tie.Need-receive-requires
-receive-requires c κs = (c .before .before .before .before .before .before .before .pre .0, rw (c .before .before .before .op4 .given .1) at (c .before .before .before .before .before .before .before .pre .1), c .before .before .before .before .before .before .before .pre .2, c .before .before .before .before .before .before .before .pre .3)
+receive-requires c κs =
+    let start = c .before .before .before .before .before .before .before in
+    (start .pre .0, receive-below _ (subst Within (c .before .before .before .op4 .given .1) (start .pre .1)), start .pre .2, start .pre .3)
 
 enum-known-op-5 : tie.Need-enum-known-op-5
 enum-known-op-5 c = search needs
