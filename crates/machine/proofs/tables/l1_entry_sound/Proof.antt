@@ -1,0 +1,68 @@
+use borrow.Author.Needs.{needs}
+use Rattle.machine.proofs.tables.l1_entry_sound.Statement.{statement}
+use Rattle.machine.proofs.tables.l1_entry_sound.Tie as tie
+use Rattle.machine.proofs.tables.l1_entry_sound.Reads as reads
+use Rattle.machine.proofs.tables.l1_entry_sound.Lts as lts
+use Rattle.machine.proofs.tables.is_line.Reads as is-line-reads
+use Rattle.machine.proofs.tables.without_mark.Reads as without-mark-reads
+use Rattle.plan.proofs.sharing.has_bit.Reads as has-bit-reads
+
+-- src/tables.rt:37:17
+mul-entry : tie.Need-mul-entry
+mul-entry c = search needs
+
+-- src/tables.rt:37:17
+shared-slice-read-entry : tie.Need-shared-slice-read-entry
+shared-slice-read-entry c = search needs
+
+-- src/tables.rt:39:9
+returns : tie.Need-returns
+returns c = ?
+
+-- src/tables.rt:41:9
+without-mark-requires : tie.Need-without-mark-requires
+without-mark-requires c κs = search needs
+
+-- src/tables.rt:42:9
+is-line-requires : tie.Need-is-line-requires
+is-line-requires c κs = search needs
+
+-- src/tables.rt:43:9
+returns-2 : tie.Need-returns-2
+returns-2 c = ?
+
+-- src/tables.rt:45:16
+sub-line : tie.Need-sub-line
+sub-line c = ?
+
+-- src/tables.rt:47:38
+cast-has-bit : tie.Need-cast-has-bit
+cast-has-bit c = search needs
+
+-- src/tables.rt:47:9
+has-bit-requires : tie.Need-has-bit-requires
+has-bit-requires c κs = search needs
+
+-- src/tables.rt:48:17
+cast-place : tie.Need-cast-place
+cast-place c = search needs
+
+-- src/tables.rt:33:1
+returns-3 : tie.Need-returns-3
+returns-3 c = ?
+
+pub l1-entry-sound-spec : {M : Type 1} → statement M
+l1-entry-sound-spec =
+    tie.close
+    (tie.spec
+    mul-entry
+    shared-slice-read-entry
+    returns
+    without-mark-requires
+    is-line-requires
+    returns-2
+    sub-line
+    cast-has-bit
+    has-bit-requires
+    cast-place
+    returns-3)

@@ -1,0 +1,15 @@
+use Rattle.machine.proofs.tables.without_mark.Statement.{statement}
+use Rattle.machine.proofs.tables.without_mark.Tie as tie
+use Rattle.machine.proofs.tables.without_mark.Reads as reads
+use Rattle.machine.proofs.tables.without_mark.Lts as lts
+
+-- src/tables.rt:19:1
+returns : tie.Need-returns
+returns c = ?
+
+-- src/tables.rt:19:1
+returns-2 : tie.Need-returns-2
+returns-2 c = ?
+
+pub without-mark-spec : {M : Type 1} → statement M
+without-mark-spec = tie.close (tie.spec returns returns-2)
