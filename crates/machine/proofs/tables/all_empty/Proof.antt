@@ -1,45 +1,54 @@
+-- `machine::tables::all_empty` meets its contract. The loop's invariant: what is left decides the answer. Assumes nothing.
+use mathlib.Core.Path.{_≡_, refl}
+use mathlib.Core.Bool.{false}
+use Prim.Native.Nat.{_-_, _≤_}
+use native.Mathlib.Omega.{arith}
+use borrow.Author.Needs.{needs}
+use borrow.Author.Tests.{eq-eqb, ne-eqb}
+use lib.ListN.{length}
+use Rattle.machine.specs.Damage.{allEmpty}
+use Rattle.machine.proofs.Soundness.{Decides, decides-end, decides-here, decides-next}
 use Rattle.machine.proofs.tables.all_empty.Statement.{statement}
 use Rattle.machine.proofs.tables.all_empty.Tie as tie
 use Rattle.machine.proofs.tables.all_empty.Reads as reads
 use Rattle.machine.proofs.tables.all_empty.Lts as lts
 
 abbrev Inv-loop : tie.InvT-loop
-Inv-loop ways way₀ way = ?
+Inv-loop ways way₀ way = Decides allEmpty ways way
 
 abbrev μ-loop : tie.MeasureT-loop
-μ-loop ways way₀ way = ?
+μ-loop ways way₀ way = length ways - way
 
--- src/tables.rt:72:5
 loop-holds : tie.Need-loop-holds Inv-loop μ-loop
-loop-holds c = ?
+loop-holds c = search needs
 
--- src/tables.rt:73:12
 mul-if1 : tie.Need-mul-if1 Inv-loop μ-loop
-mul-if1 c = ?
+mul-if1 c = omega arith
 
--- src/tables.rt:73:12
 shared-slice-read-if1 : tie.Need-shared-slice-read-if1 Inv-loop μ-loop
-shared-slice-read-if1 c = ?
+shared-slice-read-if1 c = omega arith
 
--- src/tables.rt:74:13
 returns : tie.Need-returns Inv-loop μ-loop
-returns c = ?
+unfolding allEmpty
+returns c =
+    let loop = c .before .before .before .loop in
+    decides-here allEmpty _ (loop .way) false (c .before .before .loop-test .taken) (loop .inv) (rw (ne-eqb _ _ (c .if1 .taken)) refl)
 
--- src/tables.rt:76:9
 add-way : tie.Need-add-way Inv-loop μ-loop
-add-way c = ?
+add-way c = omega arith
 
--- src/tables.rt:72:5
 loop-less : tie.Need-loop-less Inv-loop μ-loop
-loop-less c = ?
+loop-less c = omega arith
 
--- src/tables.rt:72:5
 loop-again : tie.Need-loop-again Inv-loop μ-loop
-loop-again c = ?
+unfolding allEmpty
+loop-again c =
+    let loop = c .before .before .before .loop in
+    decides-next allEmpty _ (loop .way) (c .before .before .loop-test .taken) (loop .inv) (rw (eq-eqb _ _ (c .if1 .left)) refl)
 
--- src/tables.rt:68:1
 returns-2 : tie.Need-returns-2 Inv-loop μ-loop
-returns-2 c = ?
+unfolding allEmpty
+returns-2 c = decides-end allEmpty _ _ (c .loop-test .left) (c .before .loop .inv)
 
 pub all-empty-spec : {M : Type 1} → statement M
 all-empty-spec =
