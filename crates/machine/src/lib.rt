@@ -1,5 +1,6 @@
 // The machine of an accepted plan: its state, what a domain sees, one step and so many steps, and the checks of what is lent to it.
 pub mod logging;
+pub mod operating;
 pub mod states;
 pub mod tables;
 
@@ -20,9 +21,15 @@ pub enum Seen {
     Hit2(u16),
     Miss(u16),
     Sent(u8),
-    Got(u16),
+    Got(u32),
     Empty(u8),
     Denied(u8),
     Ran(u8),
     Barred(u16),
+}
+
+// What an op answers, beside the cache table and the boxes.
+pub struct Done {
+    pub ticks: u64,
+    pub seen: Seen,
 }

@@ -25,19 +25,19 @@ pub fn kind_of(seen: Seen) -> u8
 }
 
 // A record's value.
-pub fn value_of(seen: Seen) -> u16
+pub fn value_of(seen: Seen) -> u32
     ensures { λ r. ⌜ r ≡ valueOf seen ⌝ }
 {
     match seen {
-        Seen::Hit1(line) => line,
-        Seen::Hit2(line) => line,
-        Seen::Miss(line) => line,
-        Seen::Sent(recipient) => recipient as u16,
+        Seen::Hit1(line) => line as u32,
+        Seen::Hit2(line) => line as u32,
+        Seen::Miss(line) => line as u32,
+        Seen::Sent(recipient) => recipient as u32,
         Seen::Got(word) => word,
-        Seen::Empty(sender) => sender as u16,
-        Seen::Denied(other) => other as u16,
-        Seen::Ran(ticks) => ticks as u16,
-        Seen::Barred(line) => line,
+        Seen::Empty(sender) => sender as u32,
+        Seen::Denied(other) => other as u32,
+        Seen::Ran(ticks) => ticks as u32,
+        Seen::Barred(line) => line as u32,
     }
 }
 
