@@ -5,15 +5,16 @@ use plan::sharing::has_bit;
 use plan::timing::owner_of;
 use plan::timing::windows_total;
 ghost use mathlib.Core.Path.{_≡_};
-ghost use mathlib.Core.Bool.{Bool, cond, true, _&&_};
-ghost use Prim.Native.Nat.{ℕ, _-_, _≤_, _<_};
-ghost use lib.Dec.{leb};
-ghost use lib.ListN.{length};
+ghost use mathlib.Core.Bool.{Bool, cond, not, true, _&&_};
+ghost use Prim.Native.Nat.{ℕ, _+_, _-_, _≤_, _<_};
+ghost use lib.Dec.{eqb, leb};
+ghost use lib.ListN.{drop, getD, length};
 ghost use Rattle.plan.specs.Colours.{maskAt};
 ghost use Rattle.plan.specs.Possible.{planPossible};
 ghost use Rattle.plan.specs.Sums.{allBelow};
+ghost use Rattle.cache.specs.Lines.{setOf};
 ghost use Rattle.cache.specs.Sets.{has};
-ghost use Rattle.machine.specs.Damage.{allEmpty, boxSound, l1EntrySound, setSound, standsForLine, tablesSound, unmarked, waysSound};
+ghost use Rattle.machine.specs.Damage.{allEmpty, boxSound, l1EntrySound, lineOf, setSound, standsForLine, tablesSound, unmarked, waysSound};
 ghost use Rattle.machine.specs.World.{endedOf, runningOf};
 
 // An L1 number without its dirty mark.
@@ -97,24 +98,31 @@ fn has_entry(ways: &[u16], entry: u16) -> bool
     false
 }
 
+// Whether a full way of a set is a line of this set that no way behind it repeats.
+fn way_sound(ways: &[u16], way: usize, set: u16) -> bool
+    requires { ⌜ way < length (now ways) ⌝ }
+    ensures { λ r. ⌜ r ≡ (standsForLine (getD (now (ways .entry)) way 0) && eqb (setOf (lineOf (getD (now (ways .entry)) way 0))) set && not (has (getD (now (ways .entry)) way 0) (drop (way + 1) (now (ways .entry))))) ⌝ }
+{
+    let entry = ways[way];
+    if !is_line(entry) {
+        return false;
+    }
+    let next = way + 1;
+    let repeated = has_entry(&ways[next..], entry);
+    ((entry - 1) % 64 == set) & !repeated
+}
+
 // Whether the ways of a set, of any number, are sound.
 fn ways_sound(ways: &[u16], set: u16) -> bool
     ensures { λ r. ⌜ r ≡ waysSound set (now (ways .entry)) ⌝ }
 {
     let mut way = 0;
     while way < ways.len() {
-        let entry = ways[way];
         let next = way + 1;
-        if entry == 0 {
+        if ways[way] == 0 {
             return all_empty(&ways[next..]);
         }
-        if !is_line(entry) {
-            return false;
-        }
-        if (entry - 1) % 64 != set {
-            return false;
-        }
-        if has_entry(&ways[next..], entry) {
+        if !way_sound(ways, way, set) {
             return false;
         }
         way = next;
@@ -122,16 +130,24 @@ fn ways_sound(ways: &[u16], set: u16) -> bool
     true
 }
 
+// Whether a set is sound.
+fn set_sound(cache: &[u16], set: u16) -> bool
+    requires { ⌜ (length (now cache) ≡ 272) × (set < 64) ⌝ }
+    ensures { λ r. ⌜ r ≡ setSound (now (cache .entry)) set ⌝ }
+{
+    let from = 16 + 4 * (set as usize);
+    let to = from + 4;
+    ways_sound(&cache[from..to], set)
+}
+
 // Whether every set is sound.
 fn sets_sound(cache: &[u16]) -> bool
     requires { ⌜ length (now cache) ≡ 272 ⌝ }
     ensures { λ r. ⌜ r ≡ allBelow (setSound (now (cache .entry))) 64 ⌝ }
 {
-    let mut set: u16 = 0;
+    let mut set = 0;
     while set < 64 {
-        let from = 16 + 4 * (set as usize);
-        let to = from + 4;
-        if !ways_sound(&cache[from..to], set) {
+        if !set_sound(cache, set) {
             return false;
         }
         set += 1;

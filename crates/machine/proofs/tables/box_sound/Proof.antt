@@ -1,3 +1,6 @@
+use mathlib.Core.Path.{_≡_, _∙_, ap, refl, sym}
+use borrow.Author.Tests.{eq-eqb, ne-eqb}
+use Rattle.machine.specs.Damage.{boxSound}
 use borrow.Author.Needs.{needs}
 use Rattle.machine.proofs.tables.box_sound.Statement.{statement}
 use Rattle.machine.proofs.tables.box_sound.Tie as tie
@@ -15,7 +18,8 @@ shared-slice-read-number c = search needs
 
 -- src/tables.rt:144:9
 returns : tie.Need-returns
-returns c = ?
+unfolding boxSound
+returns c = λ plan rights. rw (eq-eqb _ _ (c .if1 .taken)) refl
 
 -- src/tables.rt:148:23
 mul-has-bit : tie.Need-mul-has-bit
@@ -35,7 +39,8 @@ has-bit-requires c κs = search needs
 
 -- src/tables.rt:138:1
 returns-2 : tie.Need-returns-2
-returns-2 c = ?
+unfolding boxSound
+returns-2 c = λ plan rights. rw (ne-eqb _ _ (c .before .before .if1 .left), rights, c .has-bit .ensures) refl
 
 pub box-sound-spec : {M : Type 1} → statement M
 box-sound-spec =

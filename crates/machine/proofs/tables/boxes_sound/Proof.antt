@@ -1,3 +1,12 @@
+use mathlib.Core.Path.{_≡_, _∙_, ap, refl, sym}
+use mathlib.Core.Bool.{true}
+use Prim.Native.Nat.{ℕ, _-_, _≤_}
+use native.Mathlib.Omega.{arith}
+use borrow.Author.Tests.{not-false, not-true}
+use Rattle.plan.specs.Sums.{allBelow}
+use Rattle.plan.proofs.Sums.{all-below-fails, all-below-more}
+use Rattle.plan.specs.declared.Plan.{Plan}
+use Rattle.machine.specs.Damage.{boxSound}
 use Rattle.machine.proofs.tables.boxes_sound.Statement.{statement}
 use Rattle.machine.proofs.tables.boxes_sound.Tie as tie
 use Rattle.machine.proofs.tables.boxes_sound.Reads as reads
@@ -5,38 +14,46 @@ use Rattle.machine.proofs.tables.boxes_sound.Lts as lts
 use Rattle.machine.proofs.tables.box_sound.Reads as box-sound-reads
 
 abbrev Inv-loop : tie.InvT-loop
-Inv-loop rights boxes place₀ place = ?
+Inv-loop rights boxes place₀ place = (place ≤ 64) × ((plan : Plan) → plan .rights ≡ rights → allBelow (boxSound plan boxes) place ≡ true)
 
 abbrev μ-loop : tie.MeasureT-loop
-μ-loop rights boxes place₀ place = ?
+μ-loop rights boxes place₀ place = 64 - place
 
 -- src/tables.rt:158:5
 loop-holds : tie.Need-loop-holds Inv-loop μ-loop
-loop-holds c = ?
+unfolding allBelow
+loop-holds c = (omega arith, λ plan rights. refl)
 
 -- src/tables.rt:159:13
 box-sound-requires : tie.Need-box-sound-requires Inv-loop μ-loop
-box-sound-requires c κs = ?
+box-sound-requires c κs = (c .before .before .before .pre, c .loop-test .taken)
 
 -- src/tables.rt:160:13
 returns : tie.Need-returns Inv-loop μ-loop
-returns c = ?
+returns c = 
+    λ plan rights.
+    all-below-fails _ 64 (c .before .before .before .loop .place) (c .before .before .loop-test .taken) (sym (c .before .box-sound .ensures plan rights) ∙ not-true _ (c .if1 .taken))
 
 -- src/tables.rt:162:9
 add-place : tie.Need-add-place Inv-loop μ-loop
-add-place c = ?
+add-place c = omega arith
 
 -- src/tables.rt:158:5
 loop-less : tie.Need-loop-less Inv-loop μ-loop
-loop-less c = ?
+loop-less c = omega arith
 
 -- src/tables.rt:158:5
 loop-again : tie.Need-loop-again Inv-loop μ-loop
-loop-again c = ?
+loop-again c = (
+  omega (arith, c .before .before .loop-test),
+  λ plan rights. all-below-more _ (c .before .before .before .loop .place) (c .before .before .before .loop .inv .1 plan rights) (sym (c .before .box-sound .ensures plan rights) ∙ not-false _ (c .if1 .left)),
+)
 
 -- src/tables.rt:153:1
 returns-2 : tie.Need-returns-2 Inv-loop μ-loop
-returns-2 c = ?
+returns-2 c = 
+    let ended : c .before .loop .place ≡ 64 = omega arith in
+    λ plan rights. sym (c .before .loop .inv .1 plan rights) ∙ ap (allBelow _) ended
 
 pub boxes-sound-spec : {M : Type 1} → statement M
 boxes-sound-spec =

@@ -1,3 +1,8 @@
+use Rattle.machine.proofs.Soundness.{l1-line, l1-no-line, line-least}
+use mathlib.Core.Path.{_≡_, _∙_, ap, refl, sym}
+use native.Mathlib.Omega.{arith}
+use borrow.Author.Tests.{eq-eqb, leb-true, ne-eqb, not-false, not-true}
+use Rattle.machine.specs.Damage.{l1EntrySound, lineAllowed}
 use borrow.Author.Needs.{needs}
 use Rattle.machine.proofs.tables.l1_entry_sound.Statement.{statement}
 use Rattle.machine.proofs.tables.l1_entry_sound.Tie as tie
@@ -17,7 +22,8 @@ shared-slice-read-entry c = search needs
 
 -- src/tables.rt:39:9
 returns : tie.Need-returns
-returns c = ?
+unfolding l1EntrySound
+returns c = λ plan state ended mask. rw (eq-eqb _ _ (c .if1 .taken)) refl
 
 -- src/tables.rt:41:9
 without-mark-requires : tie.Need-without-mark-requires
@@ -29,11 +35,13 @@ is-line-requires c κs = search needs
 
 -- src/tables.rt:43:9
 returns-2 : tie.Need-returns-2
-returns-2 c = ?
+returns-2 c = 
+    λ plan state ended mask.
+    l1-no-line plan state _ _ _ (c .before .before .before .if1 .left) (c .before .before .without-mark .ensures) (sym (c .before .is-line .ensures) ∙ not-true _ (c .if2 .taken))
 
 -- src/tables.rt:45:16
 sub-line : tie.Need-sub-line
-sub-line c = ?
+sub-line c = line-least _ (sym (c .before .is-line .ensures) ∙ not-false _ (c .if2 .left))
 
 -- src/tables.rt:47:38
 cast-has-bit : tie.Need-cast-has-bit
@@ -49,7 +57,9 @@ cast-place c = search needs
 
 -- src/tables.rt:33:1
 returns-3 : tie.Need-returns-3
-returns-3 c = ?
+returns-3 c = 
+    λ plan state ended mask.
+    l1-line plan state _ _ _ _ _ _ (c .before .before .before .before .if1 .left) (c .before .before .before .without-mark .ensures) (sym (c .before .before .is-line .ensures) ∙ not-false _ (c .before .if2 .left)) ended mask (c .has-bit .ensures)
 
 pub l1-entry-sound-spec : {M : Type 1} → statement M
 l1-entry-sound-spec =

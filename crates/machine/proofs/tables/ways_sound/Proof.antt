@@ -1,108 +1,97 @@
+use mathlib.Core.Path.{_≡_, _∙_, ap, refl, sym}
+use mathlib.Core.Bool.{false}
+use Prim.Native.Nat.{_-_, _≤_}
+use native.Mathlib.Omega.{arith}
+use borrow.Author.Needs.{needs}
+use borrow.Author.Tests.{eq-eqb, ne-eqb, not-false, not-true}
+use lib.ListN.{length}
+use Rattle.machine.specs.Damage.{allEmpty, waysSound}
+use Rattle.machine.proofs.Soundness.{Decides, decides-end, decides-here, decides-next, rest-whole}
 use Rattle.machine.proofs.tables.ways_sound.Statement.{statement}
 use Rattle.machine.proofs.tables.ways_sound.Tie as tie
 use Rattle.machine.proofs.tables.ways_sound.Reads as reads
 use Rattle.machine.proofs.tables.ways_sound.Lts as lts
 use Rattle.machine.proofs.tables.all_empty.Reads as all-empty-reads
-use Rattle.machine.proofs.tables.has_entry.Reads as has-entry-reads
-use Rattle.machine.proofs.tables.is_line.Reads as is-line-reads
+use Rattle.machine.proofs.tables.way_sound.Reads as way-sound-reads
 
 abbrev Inv-loop : tie.InvT-loop
-Inv-loop ways set way₀ way = ?
+Inv-loop ways set way₀ way = Decides (waysSound set) ways way
 
 abbrev μ-loop : tie.MeasureT-loop
-μ-loop ways set way₀ way = ?
+μ-loop ways set way₀ way = length ways - way
 
--- src/tables.rt:105:5
+-- src/tables.rt:120:5
 loop-holds : tie.Need-loop-holds Inv-loop μ-loop
-loop-holds c = ?
+loop-holds c = search needs
 
--- src/tables.rt:106:21
-mul-entry : tie.Need-mul-entry Inv-loop μ-loop
-mul-entry c = ?
-
--- src/tables.rt:106:21
-shared-slice-read-entry : tie.Need-shared-slice-read-entry Inv-loop μ-loop
-shared-slice-read-entry c = ?
-
--- src/tables.rt:107:20
+-- src/tables.rt:121:20
 add-next : tie.Need-add-next Inv-loop μ-loop
-add-next c = ?
+add-next c = omega arith
 
--- src/tables.rt:109:30
+-- src/tables.rt:122:12
+mul-if1 : tie.Need-mul-if1 Inv-loop μ-loop
+mul-if1 c = omega arith
+
+-- src/tables.rt:122:12
+shared-slice-read-if1 : tie.Need-shared-slice-read-if1 Inv-loop μ-loop
+shared-slice-read-if1 c = omega arith
+
+-- src/tables.rt:123:30
 mul-all-empty : tie.Need-mul-all-empty Inv-loop μ-loop
-mul-all-empty c = ?
+mul-all-empty c = omega arith
 
--- src/tables.rt:109:30
+-- src/tables.rt:123:30
 sub-all-empty : tie.Need-sub-all-empty Inv-loop μ-loop
-sub-all-empty c = ?
+sub-all-empty c = omega arith
 
--- src/tables.rt:109:30
+-- src/tables.rt:123:30
 part-all-empty-start : tie.Need-part-all-empty-start Inv-loop μ-loop
-part-all-empty-start c = ?
+part-all-empty-start c = omega arith
 
--- src/tables.rt:109:30
+-- src/tables.rt:123:30
 part-all-empty-end : tie.Need-part-all-empty-end Inv-loop μ-loop
-part-all-empty-end c = ?
+part-all-empty-end c = omega arith
 
--- src/tables.rt:109:13
+-- src/tables.rt:123:13
 all-empty-requires : tie.Need-all-empty-requires Inv-loop μ-loop
-all-empty-requires c κs = ?
+all-empty-requires c κs = search needs
 
--- src/tables.rt:109:13
+-- src/tables.rt:123:13
 returns : tie.Need-returns Inv-loop μ-loop
-returns c = ?
+unfolding waysSound
+returns c = 
+    let loop = c .before .before .before .before .before .loop in
+    decides-here (waysSound _) _ (loop .way) _ (c .before .before .before .before .loop-test .taken) (loop .inv)
+    (rw (eq-eqb _ _ (c .before .before .if1 .taken), c .all-empty .ensures, rest-whole) refl)
 
--- src/tables.rt:111:13
-is-line-requires : tie.Need-is-line-requires Inv-loop μ-loop
-is-line-requires c κs = ?
+-- src/tables.rt:125:13
+way-sound-requires : tie.Need-way-sound-requires Inv-loop μ-loop
+way-sound-requires c κs = omega arith
 
--- src/tables.rt:112:13
+-- src/tables.rt:126:13
 returns-2 : tie.Need-returns-2 Inv-loop μ-loop
-returns-2 c = ?
+unfolding waysSound
+returns-2 c = 
+    let loop = c .before .before .before .before .before .loop in
+    decides-here (waysSound _) _ (loop .way) false (c .before .before .before .before .loop-test .taken) (loop .inv)
+    (rw (ne-eqb _ _ (c .before .before .if1 .left), sym (c .before .way-sound .ensures) ∙ not-true _ (c .if2 .taken)) refl)
 
--- src/tables.rt:114:13
-sub-if3 : tie.Need-sub-if3 Inv-loop μ-loop
-sub-if3 c = ?
-
--- src/tables.rt:115:13
-returns-3 : tie.Need-returns-3 Inv-loop μ-loop
-returns-3 c = ?
-
--- src/tables.rt:117:22
-mul-has-entry : tie.Need-mul-has-entry Inv-loop μ-loop
-mul-has-entry c = ?
-
--- src/tables.rt:117:22
-sub-has-entry : tie.Need-sub-has-entry Inv-loop μ-loop
-sub-has-entry c = ?
-
--- src/tables.rt:117:22
-part-has-entry-start : tie.Need-part-has-entry-start Inv-loop μ-loop
-part-has-entry-start c = ?
-
--- src/tables.rt:117:22
-part-has-entry-end : tie.Need-part-has-entry-end Inv-loop μ-loop
-part-has-entry-end c = ?
-
--- src/tables.rt:117:12
-has-entry-requires : tie.Need-has-entry-requires Inv-loop μ-loop
-has-entry-requires c κs = ?
-
--- src/tables.rt:118:13
-returns-4 : tie.Need-returns-4 Inv-loop μ-loop
-returns-4 c = ?
-
--- src/tables.rt:105:5
+-- src/tables.rt:120:5
 loop-less : tie.Need-loop-less Inv-loop μ-loop
-loop-less c = ?
+loop-less c = omega arith
 
--- src/tables.rt:105:5
+-- src/tables.rt:120:5
 loop-again : tie.Need-loop-again Inv-loop μ-loop
-loop-again c = ?
+unfolding waysSound
+loop-again c = 
+    let loop = c .before .before .before .before .before .loop in
+    decides-next (waysSound _) _ (loop .way) (c .before .before .before .before .loop-test .taken) (loop .inv)
+    (rw (ne-eqb _ _ (c .before .before .if1 .left), sym (c .before .way-sound .ensures) ∙ not-false _ (c .if2 .left)) refl)
 
--- src/tables.rt:101:1
-returns-5 : tie.Need-returns-5 Inv-loop μ-loop
-returns-5 c = ?
+-- src/tables.rt:116:1
+returns-3 : tie.Need-returns-3 Inv-loop μ-loop
+unfolding waysSound
+returns-3 c = decides-end (waysSound _) _ _ (c .loop-test .left) (c .before .loop .inv)
 
 pub ways-sound-spec : {M : Type 1} → statement M
 ways-sound-spec =
@@ -111,25 +100,17 @@ ways-sound-spec =
     Inv-loop
     μ-loop
     loop-holds
-    mul-entry
-    shared-slice-read-entry
     add-next
+    mul-if1
+    shared-slice-read-if1
     mul-all-empty
     sub-all-empty
     part-all-empty-start
     part-all-empty-end
     all-empty-requires
     returns
-    is-line-requires
+    way-sound-requires
     returns-2
-    sub-if3
-    returns-3
-    mul-has-entry
-    sub-has-entry
-    part-has-entry-start
-    part-has-entry-end
-    has-entry-requires
-    returns-4
     loop-less
     loop-again
-    returns-5)
+    returns-3)
