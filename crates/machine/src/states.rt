@@ -7,9 +7,8 @@ use plan::timing::ticks_total;
 use plan::timing::windows_total;
 ghost use mathlib.Core.Path.{_≡_};
 ghost use mathlib.Core.Bool.{true};
-ghost use Prim.Native.Nat.{ℕ, _≤_, _<_};
+ghost use Prim.Native.Nat.{_<_};
 ghost use Rattle.plan.specs.Possible.{planPossible};
-ghost use Rattle.plan.specs.Sums.{allBelow};
 ghost use Rattle.machine.specs.Impossible.{clockPossible, countsPossible, statePossible};
 
 // Whether a state's clock is possible beside its window count.

@@ -1,61 +1,44 @@
-use Rattle.machine.proofs.Possibility.{clock-after-last, clock-in-window}
-use mathlib.Core.Path.{_≡_, _∙_, ap, refl, sym}
+-- `machine::states::clock_possible` meets its contract. Assumes nothing.
 use native.Mathlib.Omega.{arith}
-use borrow.Author.Tests.{lt-ltb, le-ltb}
+use borrow.Author.Needs.{needs}
 use Rattle.plan.proofs.Possible.{counts, lengths-most, parts}
 use Rattle.plan.proofs.Windows.{start-fits}
-use Rattle.plan.specs.Windows.{endOf}
-use Rattle.machine.specs.Impossible.{clockPossible}
-use borrow.Author.Needs.{needs}
+use Rattle.machine.proofs.Possibility.{clock-after-last, clock-in-window}
 use Rattle.machine.proofs.states.clock_possible.Statement.{statement}
 use Rattle.machine.proofs.states.clock_possible.Tie as tie
-use Rattle.machine.proofs.states.clock_possible.Reads as reads
-use Rattle.machine.proofs.states.clock_possible.Lts as lts
-use Rattle.plan.proofs.timing.length_of.Reads as length-of-reads
-use Rattle.plan.proofs.timing.start_of.Reads as start-of-reads
-use Rattle.plan.proofs.timing.ticks_total.Reads as ticks-total-reads
-use Rattle.plan.proofs.timing.windows_total.Reads as windows-total-reads
 
--- src/states.rt:20:9
 windows-total-requires : tie.Need-windows-total-requires
 windows-total-requires c κs = let count = counts _ (c .pre) in (count .run-most, count .windows-most)
 
--- src/states.rt:24:13
 start-of-requires : tie.Need-start-of-requires
 start-of-requires c κs = search needs
 
--- src/states.rt:25:27
 length-of-requires : tie.Need-length-of-requires
 length-of-requires c κs = search needs
 
--- src/states.rt:25:27
 cast-end : tie.Need-cast-end
 cast-end c = search needs
 
--- src/states.rt:25:19
 add-end : tie.Need-add-end
-add-end c = 
+add-end c =
     let start = c .before .before .before .before in
     omega (arith, start-fits (start .args .plan) (start .args .state .windows) (start .pre) (omega arith))
 
--- src/states.rt:26:38
 add-result : tie.Need-add-result
-add-result c = 
+add-result c =
     let start = c .before .before .before .before in
     omega (arith, start-fits (start .args .plan) (start .args .state .windows) (start .pre) (omega arith))
 
--- src/states.rt:28:13
 ticks-total-requires : tie.Need-ticks-total-requires
-ticks-total-requires c κs = 
+ticks-total-requires c κs =
     let count = counts _ (c .before .before .pre) in
     (count .run-most, count .windows-most, count .pad-most, lengths-most _ (parts _ (c .before .before .pre) .windows))
 
--- src/states.rt:16:1
 returns : tie.Need-returns
-returns c = 
-    clock-in-window _ _ _ _ _ (c .before .before .before .windows-total .ensures) (c .before .before .if1 .taken) (c .before .start-of .ensures) (c .length-of .ensures)
+returns c =
+    clock-in-window _ _ _ _ _ (c .before .before .before .windows-total .ensures) (c .before .before .if1 .taken)
+    (c .before .start-of .ensures) (c .length-of .ensures)
 
--- src/states.rt:16:1
 returns-2 : tie.Need-returns-2
 returns-2 c = clock-after-last _ _ _ _ (c .before .before .windows-total .ensures) (c .before .if1 .left) (c .ticks-total .ensures)
 

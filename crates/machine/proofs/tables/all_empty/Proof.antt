@@ -1,17 +1,15 @@
 -- `machine::tables::all_empty` meets its contract. The loop's invariant: what is left decides the answer. Assumes nothing.
-use mathlib.Core.Path.{_≡_, refl}
 use mathlib.Core.Bool.{false}
-use Prim.Native.Nat.{_-_, _≤_}
+use mathlib.Core.Path.{refl}
+use Prim.Native.Nat.{_-_}
 use native.Mathlib.Omega.{arith}
+use lib.ListN.{length}
 use borrow.Author.Needs.{needs}
 use borrow.Author.Tests.{eq-eqb, ne-eqb}
-use lib.ListN.{length}
 use Rattle.machine.specs.Damage.{allEmpty}
 use Rattle.machine.proofs.Soundness.{Decides, decides-end, decides-here, decides-next}
 use Rattle.machine.proofs.tables.all_empty.Statement.{statement}
 use Rattle.machine.proofs.tables.all_empty.Tie as tie
-use Rattle.machine.proofs.tables.all_empty.Reads as reads
-use Rattle.machine.proofs.tables.all_empty.Lts as lts
 
 abbrev Inv-loop : tie.InvT-loop
 Inv-loop ways way₀ way = Decides allEmpty ways way

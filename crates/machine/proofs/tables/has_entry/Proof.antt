@@ -1,17 +1,15 @@
 -- `machine::tables::has_entry` meets its contract. The loop's invariant: what is left decides the answer. Assumes nothing.
-use mathlib.Core.Path.{_≡_, refl}
 use mathlib.Core.Bool.{true}
-use Prim.Native.Nat.{_-_, _≤_}
+use mathlib.Core.Path.{refl}
+use Prim.Native.Nat.{_-_}
 use native.Mathlib.Omega.{arith}
+use lib.ListN.{length}
 use borrow.Author.Needs.{needs}
 use borrow.Author.Tests.{eq-eqb, ne-eqb}
-use lib.ListN.{length}
 use Rattle.cache.specs.Sets.{has}
 use Rattle.machine.proofs.Soundness.{Decides, decides-end, decides-here, decides-next}
 use Rattle.machine.proofs.tables.has_entry.Statement.{statement}
 use Rattle.machine.proofs.tables.has_entry.Tie as tie
-use Rattle.machine.proofs.tables.has_entry.Reads as reads
-use Rattle.machine.proofs.tables.has_entry.Lts as lts
 
 abbrev Inv-loop : tie.InvT-loop
 Inv-loop ways entry way₀ way = Decides (has entry) ways way
