@@ -1,4 +1,4 @@
--- Laws of the check for 13: a test that walks a list from its front, by what is left of the list; and an L1 number. Assumes nothing.
+-- Laws of the check for 13: a test that walks a list from its front, by what is left of the list; a part that is lent; an L1 number. Assumes nothing.
 use mathlib.Core.Path.{_≡_, refl, sym, ap, _∙_}
 use mathlib.Core.Bool.{Bool, true, false, not, _&&_, _||_}
 use mathlib.Core.List.{List, [], _∷_}
