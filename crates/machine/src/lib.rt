@@ -1,7 +1,9 @@
 // The machine of an accepted plan: its state, what a domain sees, one step and so many steps, and the checks of what is lent to it.
 pub mod logging;
 pub mod operating;
+pub mod states;
 pub mod stepping;
+pub mod tables;
 
 // Document 01's small state. Every field is wide enough for any number that a caller may lend.
 pub struct State {
