@@ -1,4 +1,5 @@
 -- The laws of the machine that its own proofs and other crates cite.
+pub mod Going
 pub mod Operations
 pub mod Possibility
 pub mod Reached

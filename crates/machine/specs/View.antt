@@ -6,6 +6,7 @@ use Rattle.plan.specs.declared.Plan.{Plan}
 use Rattle.plan.specs.Windows.{endOf, ownerOf}
 use Rattle.machine.specs.declared.Done.{Done}
 use Rattle.machine.specs.declared.State.{State}
+use Rattle.machine.specs.Steps.{Ran}
 use Rattle.machine.specs.World.{World}
 use Rattle.machine.specs.Ops.{Effect}
 
@@ -39,3 +40,7 @@ pub record InWindow (plan : Plan) (windows owner end pad : ℕ) (rights masks : 
   pub pad-is : plan .pad ≡ pad
   pub rights-are : plan .rights ≡ rights
   pub masks-are : plan .masks ≡ masks
+
+-- a number of steps with a world
+abbrev pub ranWith : ℕ → World → Ran
+ranWith steps world = record { done = steps; world = world }

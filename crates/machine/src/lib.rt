@@ -34,3 +34,10 @@ pub struct Done {
     pub ticks: u64,
     pub seen: Seen,
 }
+
+// What so many steps answer, beside the cache table, the boxes and the log.
+pub struct Advance {
+    // the number of steps done
+    pub steps: u64,
+    pub state: State,
+}

@@ -1,4 +1,5 @@
 // One step, an op or a switch, and so many of them.
+use crate::Advance;
 use crate::State;
 use crate::logging::store_record;
 use crate::operating::operate;
@@ -11,7 +12,7 @@ use script::Fetched;
 use script::Op;
 use script::fetch;
 ghost use mathlib.Core.Path.{_≡_};
-ghost use mathlib.Core.Bool.{true};
+ghost use mathlib.Core.Bool.{cond, true};
 ghost use mathlib.Core.List.{List};
 ghost use Prim.Native.Nat.{ℕ, _+_, _*_, _^_, _<_, _≤_, max};
 ghost use lib.ListN.{getD, length};
@@ -19,9 +20,10 @@ ghost use Rattle.plan.specs.Possible.{planPossible};
 ghost use Rattle.plan.specs.Windows.{endOf, windowsTotal};
 ghost use Rattle.script.specs.Limits.{Within};
 ghost use Rattle.cache.specs.Flush.{kernelFlushTicks, kernelFlushed, l1FlushTicks, l1Flushed};
+ghost use Rattle.machine.specs.Impossible.{statePossible};
 ghost use Rattle.machine.specs.Steps.{activeStep, opStepOf, runOf};
 ghost use Rattle.machine.specs.Switch.{switchOf};
-ghost use Rattle.machine.specs.View.{InWindow, viewOf, worldWith};
+ghost use Rattle.machine.specs.View.{InWindow, ranWith, viewOf, worldWith};
 
 fn later(one: u64, other: u64) -> u64
     ensures { λ r. ⌜ r ≡ max one other ⌝ }
@@ -122,4 +124,71 @@ fn active_step(
         return switch_step(state, end, pad, cache);
     };
     op_step(rights, masks, owner, op, quota, state, cache, boxes, log)
+}
+
+// The start of the next window where a step was a switch, else of this one.
+fn start_after(switched: bool, next: u64, start: u64) -> u64
+    ensures { λ r. ⌜ r ≡ cond switched next start ⌝ }
+{
+    if switched { next } else { start }
+}
+
+// Steps up to a limit, or to the run's end. Only the first window's start is worked out; each next one follows from the last.
+pub fn run_steps(
+    plan: Plan,
+    scripts: &[u32],
+    quota: u64,
+    limit: u64,
+    state: State,
+    cache: &mut [u16],
+    boxes: &mut [u32],
+    log: &mut [u8],
+) -> Advance
+    requires { ⌜ (planPossible plan ≡ true) × (statePossible plan quota state ≡ true)
+        × (length (now scripts) ≡ 2048) × (length (now cache) ≡ 272) × (length (now boxes) ≡ 64)
+        × (8 * (quota * plan .domains) ≤ length (now log)) ⌝ }
+    ensures { λ r. ⌜ ranWith (r .steps) (worldWith (r .state) (now (cache .exit)) (now (boxes .exit)) (now (log .exit)))
+        ≡ runOf plan (now (scripts .entry)) quota limit (worldWith state (now (cache .entry)) (now (boxes .entry)) (now (log .entry))) ⌝ }
+{
+    let rights = plan.rights;
+    let masks = plan.masks;
+    let owners = plan.owners;
+    let lengths = plan.lengths;
+    let count = plan.windows as u64;
+    let total = windows_total(plan);
+    let mut present = state;
+    let mut steps: u64 = 0;
+    let mut start = start_of(plan, state.windows);
+    while steps < limit {
+        let windows = present.windows;
+        if total <= windows {
+            return Advance {
+                steps,
+                state: present,
+            };
+        }
+        let slot = (windows % count) as usize;
+        let owner = owners[slot] as usize;
+        let end = start + lengths[slot] as u64;
+        let pad = plan.pad as u64;
+        present = active_step(
+            &rights,
+            &masks,
+            scripts,
+            owner,
+            end,
+            pad,
+            quota,
+            present,
+            cache,
+            boxes,
+            log,
+        );
+        start = start_after(windows < present.windows, end + pad, start);
+        steps += 1;
+    }
+    Advance {
+        steps,
+        state: present,
+    }
 }

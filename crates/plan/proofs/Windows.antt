@@ -34,6 +34,10 @@ pub length-least : (plan : Plan) (window : ℕ) → planPossible plan ≡ true �
 unfolding lengthOf
 length-least plan window possible = declared-window plan (slotOf plan window) possible (slot-below plan window possible) .length-least
 
+pub length-most : (plan : Plan) (window : ℕ) → planPossible plan ≡ true → lengthOf plan window ≤ 1_000_000
+unfolding lengthOf
+length-most plan window possible = declared-window plan (slotOf plan window) possible (slot-below plan window possible) .length-most
+
 -- the ticks of the declared windows with their pads, once through
 pub frame : Plan → ℕ
 frame plan = sumTo (paddedLength plan) (plan .windows)

@@ -1,18 +1,21 @@
 -- Windows start when the plan alone says: where the clock of a reached world stands, and that a switch sets it to the next window's start.
 -- Assumes nothing.
 use Prim.Native.Nat.{ℕ, suc, _+_, _≤_, _<_}
-use mathlib.Core.Bool.{true}
+use mathlib.Core.Bool.{Bool, and-eq-true-iff, false, true}
 use mathlib.Core.List.{List}
 use mathlib.Core.Logic.{_⊎_, inl, inr}
-use mathlib.Core.Path.{_≡_, refl, ap, _∙_}
+use mathlib.Core.Path.{_≡_, refl, sym, ap, _∙_}
 use native.Mathlib.Numerals.{add-one}
 use native.Mathlib.Omega.{arith}
+use lib.Dec.{ltb}
+use borrow.Author.Tests.{eqb-true, leb-true, ltb-false, ltb-true}
 use Rattle.plan.specs.declared.Plan.{Plan}
 use Rattle.plan.specs.Possible.{planPossible}
 use Rattle.plan.specs.Windows.{endOf, startOf, ticksTotal, windowsTotal}
 use Rattle.plan.proofs.Windows.{pad-least, start-total}
 use Rattle.script.specs.declared.Op.{Op}
 use Rattle.cache.proofs.Ticks.{flush-ticks}
+use Rattle.machine.specs.Impossible.{clockPossible, statePossible}
 use Rattle.machine.specs.World.{World, freshState, positionAt, runningOf}
 use Rattle.machine.specs.Steps.{opStepOf, stepOf, steps}
 use Rattle.machine.specs.Switch.{flushedClock, paddedClock, switchOf}
@@ -99,3 +102,35 @@ step-windows plan scripts quota world possible scheduled =
     step-cases plan scripts quota world (NextWindow plan world) (λ ended. inl refl)
     (λ inWindow. inr (record { windows = refl; exact = switch-clock plan world possible scheduled inWindow }))
     (λ op begins. inl refl)
+
+-- a step keeps to the schedule
+pub step-scheduled : (plan : Plan) (scripts : List ℕ) (quota : ℕ) (world : World) → planPossible plan ≡ true → Scheduled plan world
+    → Scheduled plan (stepOf plan scripts quota world)
+unfolding steps
+step-scheduled plan scripts quota world possible on-schedule =
+    steps-hold plan scripts quota (Scheduled plan) (after-switch plan possible) (after-op plan possible scripts quota) world on-schedule 1
+
+-- a state that passes the check for 14 is on schedule
+pub possible-scheduled : (plan : Plan) (quota : ℕ) (world : World) → planPossible plan ≡ true → statePossible plan quota (world .state) ≡ true
+    → Scheduled plan world
+unfolding statePossible clockPossible
+possible-scheduled plan quota world possible passes =
+    go (ltb (world .state .windows) (windowsTotal plan)) refl (and-eq-true-iff (clockPossible plan (world .state)) _ .0 passes .0)
+  where
+    go : (before : Bool) → ltb (world .state .windows) (windowsTotal plan) ≡ before → clockPossible plan (world .state) ≡ true → Scheduled plan world
+    go true test clock =
+        let within : world .state .windows < windowsTotal plan = ltb-true _ _ test in
+        let parts = and-eq-true-iff _ _ .0 (rw (test, clockPossible) at clock) in
+        record {
+          windows = omega arith;
+          started = leb-true _ _ (parts .0);
+          soon = λ h. leb-true _ _ (parts .1);
+          ended = λ h. absurd (omega arith);
+        }
+    go false test clock =
+        let parts = and-eq-true-iff _ _ .0 (rw (test, clockPossible) at clock) in
+        let past : windowsTotal plan ≤ world .state .windows = ltb-false _ _ test in
+        let all : world .state .windows ≡ windowsTotal plan = eqb-true _ _ (parts .0) in
+        let exact : world .state .clock ≡ startOf plan (world .state .windows) =
+        eqb-true _ _ (parts .1) ∙ sym (start-total plan possible) ∙ ap (startOf plan) (sym all) in
+        record { windows = omega arith; started = omega arith; soon = λ h. absurd (omega arith); ended = λ h. exact }
