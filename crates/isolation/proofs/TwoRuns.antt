@@ -1,0 +1,7 @@
+-- Two runs.
+pub mod Access
+pub mod Places
+pub mod Relations
+pub mod Ops
+pub mod Flush
+pub mod Log
