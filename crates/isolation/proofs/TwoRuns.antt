@@ -5,3 +5,9 @@ pub mod Relations
 pub mod Ops
 pub mod Flush
 pub mod Log
+pub mod Fetch
+pub mod OpStep
+pub mod Step
+pub mod Progress
+pub mod OpCounts
+pub mod Near
