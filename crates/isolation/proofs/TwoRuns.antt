@@ -11,3 +11,6 @@ pub mod Step
 pub mod Progress
 pub mod OpCounts
 pub mod Near
+pub mod Windows
+pub mod Lockstep
+pub mod Ready
