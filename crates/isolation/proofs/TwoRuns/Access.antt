@@ -9,11 +9,12 @@ use lib.Dec.{eqb}
 use lib.ListN.{length, getD, set, take, drop, length-take, length-drop}
 use lib.Seq.{sets, length-sets}
 use Rattle.lists.specs.Part.{part, splice}
+use Rattle.lists.proofs.Parts.{part-length}
 use Rattle.lists.proofs.Agree.{Agree, Beside, Inside, agree-fewer, agree-trans, part-alike, set-alike, set-away, sets-alike, sets-away, splice-sets}
 use Rattle.cache.specs.declared.Found.{Found}
 use Rattle.cache.specs.Access.{Accessed, Look, accessOf, lookAt, lookHit1, lookL2, lookOf}
 use Rattle.cache.specs.Lines.{holdsLine, indexOf, setOf, setPlace, tableLength, waysOfSet}
-use Rattle.cache.specs.Sets.{behind, used}
+use Rattle.cache.proofs.Ways.{used-length}
 
 -- the places that an access of a line may touch: the line's L1 index and the ways of its set
 pub data Touched (line place : ℕ) : Type 0 where
@@ -21,21 +22,6 @@ pub data Touched (line place : ℕ) : Type 0 where
   inSet : Inside (setPlace (setOf line)) waysOfSet place → Touched line place
 
 -- ---- the ways that a look leaves are as many as it found
-
-behind-length : (entry way : ℕ) (ways : List ℕ) → length (behind entry (way ∷ ways)) ≡ length ways
-unfolding behind
-behind-length entry way [] = refl
-behind-length entry way (next ∷ ways) = go (eqb way entry) (behind-length entry next ways)
-  where
-    go : (same : Bool) → length (behind entry (next ∷ ways)) ≡ length ways
-        → length {A = ℕ} (elim same as (λ (_ : Bool). List ℕ) [ true ↦ next ∷ ways | false ↦ way ∷ behind entry (next ∷ ways) ]) ≡ suc (length ways)
-    go true rest = refl
-    go false rest = ap suc rest
-
-used-length : (entry : ℕ) (ways : List ℕ) → length (used entry ways) ≡ length ways
-unfolding used
-used-length entry [] = refl
-used-length entry (way ∷ ways) = ap suc (behind-length entry way ways)
 
 look-length : (writes : Bool) (line entry : ℕ) (ways : List ℕ) → length (lookOf writes line entry ways .ways) ≡ length ways
 unfolding lookOf lookHit1 lookL2
@@ -47,9 +33,8 @@ look-length writes line entry ways = go (holdsLine entry line)
 
 -- the set that a look leaves has as many ways as a set has, in a whole table
 left-ways : (writes : Bool) (line : ℕ) (table : List ℕ) → length table ≡ tableLength → length (lookAt writes line table .ways) ≡ waysOfSet
-unfolding lookAt part
-left-ways writes line table whole =
-    look-length writes line _ _ ∙ simp (length-take, length-drop, whole) (omega arith)
+unfolding lookAt
+left-ways writes line table whole = look-length writes line _ _ ∙ part-length (setPlace (setOf line)) waysOfSet table (omega arith)
 
 -- the table that an access leaves, as stores: the set's ways, then the L1 number
 stores : (writes : Bool) (line : ℕ) (table : List ℕ) → length table ≡ tableLength

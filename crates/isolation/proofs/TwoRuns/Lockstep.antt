@@ -50,7 +50,7 @@ module _ {plan : Plan} {Named Kept : ℕ → Type 0} {scripts scripts′ log log
         (worldAfter other (suc count′))
   both-next running count count′ named runs lock =
       rw (next-world one (c .watched) quota refl (c .sound) count, next-world other (c .watched) quota quota-other (c .sound′) count′)
-      (locked-step plan quota Named (c .watched .masks) (c .watched .owners) (c .watched .declared) scripts scripts′ (c .agree)
+      (locked-step plan quota Named (c .watched .possible) (c .watched .declared) scripts scripts′ (c .agree)
         (c .watched .to) running (worldAfter one count) (worldAfter other count′) named runs (c .sound .whole count) (c .sound′ .whole count′)
         lock)
 

@@ -1,11 +1,13 @@
 -- Two worlds, for every domain that a predicate names: the same outside its windows, and in a window of one of them also the same inside. What one step
 -- leaves of that. Assumes nothing.
 use Prim.Native.Nat.{ℕ, _+_, _*_, _≤_, _<_}
+use mathlib.Core.Bool.{true}
 use mathlib.Core.List.{List}
 use mathlib.Core.Path.{_≡_, refl, sym, ap, subst, _∙_}
 use native.Mathlib.Decide.{ℕ-discrete}
 use lib.ListN.{getD}
 use Rattle.plan.specs.declared.Plan.{Plan}
+use Rattle.plan.specs.Possible.{planPossible}
 use Rattle.plan.specs.Windows.{ownerOf}
 use Rattle.machine.specs.Ops.{boxPlace}
 use Rattle.machine.specs.Steps.{stepOf}
@@ -13,7 +15,6 @@ use Rattle.machine.specs.Switch.{switchOf}
 use Rattle.machine.specs.World.{World, runningOf}
 use Rattle.isolation.specs.Statement.{ScriptsAgree}
 use Rattle.isolation.proofs.TwoRuns.OpStep.{Whole, switch-away}
-use Rattle.isolation.proofs.TwoRuns.Places.{MasksApart}
 use Rattle.isolation.proofs.TwoRuns.Relations.{Alike, Close, alike-refl, alike-sym, alike-trans}
 use Rattle.isolation.proofs.TwoRuns.Step.{Together, both, step-alike, step-away, still}
 
@@ -44,17 +45,16 @@ module _ (plan : Plan) (quota : ℕ) (Named : ℕ → Type 0) where
       alike-trans plan quota domain (alike-sym plan quota domain (b domain named))
       (alike-trans plan quota domain (a domain named) (c domain named))
 
-  module _ (masks : MasksApart plan) (owners : (window : ℕ) → ownerOf plan window < plan .domains)
-      (declared : (domain : ℕ) → Named domain → domain < plan .domains) where
+  module _ (possible : planPossible plan ≡ true) (declared : (domain : ℕ) → Named domain → domain < plan .domains) where
     -- a step in the window of a domain that is not named
     pub near-step : (scripts : List ℕ) (world : World) → Whole world → (Named (runningOf plan (world .state)) → ⊥)
         → Near world (stepOf plan scripts quota world)
     near-step scripts world whole unnamed domain named =
-        step-away plan scripts quota domain world masks (declared domain named) (owners (world .state .windows))
+        step-away plan scripts quota domain world possible (declared domain named)
         (λ e. unnamed (subst Named e named)) whole
 
     pub near-switch : (world : World) → Whole world → Near world (switchOf plan world)
-    near-switch world whole domain named = switch-away plan quota domain masks (declared domain named) world whole
+    near-switch world whole domain named = switch-away plan quota domain possible (declared domain named) world whole
 
     -- a step in the window of a named domain
     module _ (scripts scripts′ : List ℕ) (same : ScriptsAgree Named scripts scripts′) {Kept : ℕ → Type 0}
@@ -74,11 +74,11 @@ module _ (plan : Plan) (quota : ℕ) (Named : ℕ → Type 0) where
           all close domain n (yes e) = rw e (close .outside)
           all close domain n (no ne) =
               let away =
-                      step-away plan scripts quota domain one masks (declared domain n) (owners (one .state .windows))
+                      step-away plan scripts quota domain one possible (declared domain n)
                       (λ e. ne (e ∙ runs)) whole
               in
               let away′ =
-                      step-away plan scripts′ quota domain other masks (declared domain n) (owners (other .state .windows))
+                      step-away plan scripts′ quota domain other possible (declared domain n)
                       (λ e. ne (e ∙ runs′)) whole′
               in
               alike-trans plan quota domain (alike-sym plan quota domain away)

@@ -1,12 +1,14 @@
 -- One op, and one switch. A domain's own op keeps two worlds the same for it inside its window; another domain's op, and any switch, keep what it has
 -- outside its windows. Assumes nothing.
 use Prim.Native.Nat.{ℕ, _+_, _*_, _≤_, _<_}
+use mathlib.Core.Bool.{true}
 use mathlib.Core.List.{List}
 use mathlib.Core.Path.{_≡_, refl, sym, ap, ap₂, subst, _∙_}
 use native.Mathlib.Omega.{arith}
 use lib.ListN.{getD, length, set}
 use Rattle.lists.proofs.Agree.{Agree, agree-fewer, agree-refl, set-alike, set-away}
 use Rattle.plan.specs.declared.Plan.{Plan}
+use Rattle.plan.specs.Possible.{planPossible}
 use Rattle.script.specs.declared.Op.{Op}
 use Rattle.cache.specs.Lines.{tableLength}
 use Rattle.machine.specs.Ops.{Effect, boxPlace, effectOf}
@@ -18,7 +20,7 @@ use Rattle.isolation.specs.Statement.{Only}
 use Rattle.isolation.proofs.TwoRuns.Flush.{flush-alike, flush-away}
 use Rattle.isolation.proofs.TwoRuns.Log.{raised, stored-alike, stored-away}
 use Rattle.isolation.proofs.TwoRuns.Ops.{EffectAlike, Receivable, effect-alike, effect-away}
-use Rattle.isolation.proofs.TwoRuns.Places.{FlushedPlace, MasksApart, OwnPlace, WorkPlace, flushed, own, own-unflushed, own-untouched}
+use Rattle.isolation.proofs.TwoRuns.Places.{FlushedPlace, OwnPlace, WorkPlace, flushed, own, own-unflushed, own-untouched}
 use Rattle.isolation.proofs.TwoRuns.Relations.{Alike, Close, LogPlace, same-position, same-records}
 
 -- the cache table has all its numbers
@@ -68,7 +70,7 @@ module _ (plan : Plan) (quota domain : ℕ) where
 
   -- ---- another's op
 
-  module _ (masks : MasksApart plan) (declared : domain < plan .domains) where
+  module _ (possible : planPossible plan ≡ true) (declared : domain < plan .domains) where
     pub op-away : (running : ℕ) (op : Op) (world : World) → running < plan .domains → (domain ≡ running → ⊥) → Whole world
         → recordsAt (world .state) running < quota → Alike plan quota domain world (opStepOf plan quota running op world)
     unfolding opStepOf
@@ -78,7 +80,7 @@ module _ (plan : Plan) (quota domain : ℕ) where
           records = set-away _ running _ (λ e. other (sym e));
           sets =
               effect-away plan running (world .cache) whole
-              (λ place. own-untouched plan masks domain place declared running there other) op (world .boxes);
+              (λ place. own-untouched plan possible domain place declared running there other) op (world .boxes);
           log = stored-away quota domain _ running _ _ _ (world .log) room other;
         }
 
@@ -90,7 +92,7 @@ module _ (plan : Plan) (quota domain : ℕ) where
         record {
           positions = agree-refl _ _;
           records = agree-refl _ _;
-          sets = flush-away (world .cache) whole (λ place. own-unflushed plan masks domain place declared);
+          sets = flush-away (world .cache) whole (λ place. own-unflushed plan possible domain place declared);
           log = agree-refl _ _;
         }
 

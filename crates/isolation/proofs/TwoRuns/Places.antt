@@ -7,6 +7,8 @@ use native.Mathlib.Omega.{arith}
 use lib.Dec.{ltb}
 use Rattle.plan.specs.declared.Plan.{Plan}
 use Rattle.plan.specs.Colours.{ownsColour}
+use Rattle.plan.specs.Possible.{planPossible}
+use Rattle.plan.proofs.Masks.{masks-disjoint, owned-below}
 use Rattle.lists.proofs.Agree.{Inside}
 use Rattle.cache.specs.Lines.{colourOf, indexes, kernelColour, kernelNumbers, kernelPlace, setColour, setOf, setPlace, waysOfSet}
 use Rattle.machine.specs.Ops.{boxLine, gateLine, ownsLine}
@@ -33,18 +35,6 @@ pub data FlushedPlace (place : ℕ) : Type 0 where
 pub data WorkPlace (plan : Plan) (domain place : ℕ) : Type 0 where
   own : OwnPlace plan domain place → WorkPlace plan domain place
   flushed : FlushedPlace place → WorkPlace plan domain place
-
--- what is needed of the masks: no colour is two domains', and none is the kernel's
-pub record MasksApart (plan : Plan) : Type 0 where
-  pub disjoint :
-      (one other colour : ℕ)
-      → one < plan .domains
-      → other < plan .domains
-      → (one ≡ other → ⊥)
-      → ownsColour plan one colour ≡ true
-      → ownsColour plan other colour ≡ true
-      → ⊥
-  pub below : (domain colour : ℕ) → domain < plan .domains → ownsColour plan domain colour ≡ true → colour < kernelColour
 
 -- ---- a line's places
 
@@ -75,13 +65,13 @@ box-line plan domain sender recipient place = kernel-line plan domain (boxLine s
 
 -- ---- apart
 
-module _ (plan : Plan) (masks : MasksApart plan) (domain place : ℕ) (declared : domain < plan .domains) where
+module _ (plan : Plan) (possible : planPossible plan ≡ true) (domain place : ℕ) (declared : domain < plan .domains) where
   -- a domain's part is neither flushed nor touched in another's window
   pub own-unflushed : OwnPlace plan domain place → FlushedPlace place → ⊥
-  own-unflushed p (kernel h) = omega (arith, masks .below domain _ declared (p .owned))
+  own-unflushed p (kernel h) = omega (arith, owned-below plan domain _ possible declared (p .owned))
   own-unflushed p (l1 h) = omega arith
 
   pub own-untouched : (running : ℕ) → running < plan .domains → (domain ≡ running → ⊥)
       → OwnPlace plan domain place → WorkPlace plan running place → ⊥
-  own-untouched running there other p (own q) = masks .disjoint domain running _ declared there other (p .owned) (q .owned)
+  own-untouched running there other p (own q) = masks-disjoint plan domain running _ possible declared there other (p .owned) (q .owned)
   own-untouched running there other p (flushed q) = own-unflushed p q

@@ -138,8 +138,8 @@ module _ {plan : Plan} {Named Kept : ℕ → Type 0} {scripts scripts′ log log
         near =
             rw (p .switched, p′ .switched)
             (near-both plan (quota c) Named last last′ (switchOf plan last) (switchOf plan last′) near
-              (near-switch plan (quota c) Named (w .masks) (w .owners) (w .declared) last whole)
-              (near-switch plan (quota c) Named (w .masks) (w .owners) (w .declared) last′ whole′));
+              (near-switch plan (quota c) Named (w .possible) (w .declared) last whole)
+              (near-switch plan (quota c) Named (w .possible) (w .declared) last′ whole′));
         clock =
             clock-at-start (one c) (c .sound) (suc window) next s ∙ sym (clock-at-start (other c) (c .sound′) (suc window) next′ s′);
         flushed = rw (p .switched, p′ .switched) (switch-flushed plan last last′ whole whole′);

@@ -9,6 +9,8 @@ use borrow.Author.Tests.{leb-false}
 use lib.Dec.{leb}
 use lib.ListN.{getD, length}
 use Rattle.plan.specs.declared.Plan.{Plan}
+use Rattle.plan.specs.Possible.{planPossible}
+use Rattle.plan.proofs.Windows.{owner-declared}
 use Rattle.plan.specs.Windows.{endOf, ownerOf, windowsTotal}
 use Rattle.script.specs.declared.Op.{Op}
 use Rattle.script.specs.declared.Fetched.{Fetched}
@@ -20,7 +22,6 @@ use Rattle.machine.specs.Switch.{switchOf}
 use Rattle.machine.specs.World.{World, endedOf, positionAt, recordsAt, runningOf}
 use Rattle.isolation.proofs.TwoRuns.Fetch.{Fetchable, fetch-alike, fetched, receivable}
 use Rattle.isolation.proofs.TwoRuns.OpStep.{Whole, op-alike, op-away, switch-away}
-use Rattle.isolation.proofs.TwoRuns.Places.{MasksApart}
 use Rattle.isolation.proofs.TwoRuns.Relations.{Alike, Close, alike-refl, same-position, same-records}
 
 -- ---- what a step does, by what it tests
@@ -127,12 +128,12 @@ module _ (plan : Plan) (quota domain : ℕ) {Kept : ℕ → Type 0} (to : (sende
 
 -- ---- one world in another's window
 
-pub step-away : (plan : Plan) (scripts : List ℕ) (quota domain : ℕ) (world : World) → MasksApart plan → domain < plan .domains
-    → runningOf plan (world .state) < plan .domains → (domain ≡ runningOf plan (world .state) → ⊥) → Whole world
+pub step-away : (plan : Plan) (scripts : List ℕ) (quota domain : ℕ) (world : World) → planPossible plan ≡ true → domain < plan .domains
+    → (domain ≡ runningOf plan (world .state) → ⊥) → Whole world
     → Alike plan quota domain world (stepOf plan scripts quota world)
-step-away plan scripts quota domain world masks declared there other whole = go (stepped plan scripts quota world)
+step-away plan scripts quota domain world possible declared other whole = go (stepped plan scripts quota world)
   where
     go : {next : World} → Stepped plan quota world next → Alike plan quota domain world next
     go (stays e n) = rw n (alike-refl plan quota domain world)
-    go (switches e n) = rw n (switch-away plan quota domain masks declared world whole)
-    go (runs op e room n) = rw n (op-away plan quota domain masks declared _ op world there other whole room)
+    go (switches e n) = rw n (switch-away plan quota domain possible declared world whole)
+    go (runs op e room n) = rw n (op-away plan quota domain possible declared _ op world (owner-declared plan (world .state .windows) possible) other whole room)

@@ -1,6 +1,7 @@
 -- The windows of two runs of one plan. Each window starts at worlds that are the same for every named domain; a named domain's window then goes in
 -- lockstep, and ends after as many ops; another's window leaves what the named ones have. Assumes nothing.
 use Prim.Native.Nat.{ℕ, zero, suc, _+_, _-_, _*_, _≤_, _<_}
+use mathlib.Core.Bool.{true}
 use mathlib.Core.List.{List}
 use mathlib.Core.Path.{_≡_, refl, sym, ap, subst, _∙_}
 use native.Mathlib.Decide.{ℕ-discrete, decLt}
@@ -9,6 +10,7 @@ use native.Mathlib.Omega.{arith}
 use lib.ListN.{getD, length, replicate}
 use Rattle.lists.proofs.Agree.{Agree, agree-refl}
 use Rattle.plan.specs.declared.Plan.{Plan}
+use Rattle.plan.specs.Possible.{planPossible}
 use Rattle.plan.specs.Windows.{ownerOf, startOf, windowsTotal}
 use Rattle.machine.specs.Ops.{boxPlace}
 use Rattle.machine.specs.Records.{partRecords}
@@ -20,7 +22,7 @@ use Rattle.isolation.specs.Points.{Run, Starts, windowsAfter, worldAfter
 use Rattle.isolation.specs.Statement.{ScriptsAgree, StartedOnTime}
 use Rattle.isolation.proofs.TwoRuns.Near.{Locked, Near, Paired, locked-step, near-both, near-refl, near-step, near-switch, near-trans, switched, worked}
 use Rattle.isolation.proofs.TwoRuns.OpStep.{Whole, switch-flushed}
-use Rattle.isolation.proofs.TwoRuns.Places.{FlushedPlace, MasksApart}
+use Rattle.isolation.proofs.TwoRuns.Places.{FlushedPlace}
 use Rattle.isolation.proofs.TwoRuns.Progress.{Before, before, first-start, lasts, no-fewer, no-fewer-by, one-more, one-start}
 use Rattle.isolation.proofs.TwoRuns.Relations.{Alike, Close}
 
@@ -35,8 +37,7 @@ pub record Sound (run : Run) : Type 0 where
 
 -- what is cited of a plan and of the domains that are named
 pub record Watched (plan : Plan) (Named Kept : ℕ → Type 0) : Type 0 where
-  pub masks : MasksApart plan
-  pub owners : (window : ℕ) → ownerOf plan window < plan .domains
+  pub possible : planPossible plan ≡ true
   pub isNamed : (domain : ℕ) → Dec (Named domain)
   pub declared : (domain : ℕ) → Named domain → domain < plan .domains
   pub to : (domain : ℕ) → Named domain → (sender : ℕ) → sender < 8 → Kept (boxPlace sender domain)
@@ -105,5 +106,5 @@ module _ {Named Kept : ℕ → Type 0} (run : Run) (w : Watched (run .plan) Name
       rw (add-suc, next-world (start + more))
       (near-trans (run .plan) quota Named (worldAfter run start) last (stepOf (run .plan) (run .scripts) quota last)
         (stays-near window start unnamed here more earlier)
-        (near-step (run .plan) quota Named (w .masks) (w .owners) (w .declared) (run .scripts) last (sound .whole (start + more))
+        (near-step (run .plan) quota Named (w .possible) (w .declared) (run .scripts) last (sound .whole (start + more))
           (λ n. unnamed (rw earlier at n))))
