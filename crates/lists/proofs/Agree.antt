@@ -1,14 +1,13 @@
 -- Two lists of numbers that agree at the places which a predicate names, and what stores leave of that. Three laws carry everything: the same
 -- store in both keeps any agreement; a store outside the named places changes nothing there; and after the same store the stored places agree
 -- even if they did not before. Assumes nothing.
-use Prim.Native.Nat.{ℕ, zero, suc, _+_, _-_, _≤_, _<_}
+use Prim.Native.Nat.{ℕ, suc, _+_, _≤_, _<_}
 use mathlib.Core.List.{List, [], _∷_, _++_, append-assoc}
-use mathlib.Core.Logic.{_⊎_, inl, inr}
 use mathlib.Core.Path.{_≡_, refl, sym, ap, subst, _∙_}
 use native.Mathlib.Decide.{ℕ-discrete, decLt}
 use native.Mathlib.Omega.{arith}
 use lib.ListN.{length, getD, set, take, drop, length-set, length-take, length-drop, List·getD-eq-default}
-use lib.Seq.{sets, length-sets, sets-eq, set-out, getD-set-same, getD-set-other, getD-take, getD-drop, drop-drop, ext-getD}
+use lib.Seq.{sets, sets-eq, set-out, getD-set-same, getD-set-other, getD-take, getD-drop, drop-drop, ext-getD}
 use Rattle.lists.specs.Part.{part, splice}
 
 pub record Agree (Place : ℕ → Type 0) (one other : List ℕ) : Type 0 where
@@ -108,5 +107,5 @@ part-alike {Place} {one} {other} first count named a =
     ext-getD 0 (take count (drop first one)) (take count (drop first other))
     (simp (length-take, length-drop, a .len))
     (λ i h.
-      let short : i < count = omega (arith, simp length-take at h) in
-      simp (getD-take, getD-drop) (a .at (first + i) (named (first + i) (omega arith))))
+    let short : i < count = omega (arith, simp length-take at h) in
+    simp (getD-take, getD-drop) (a .at (first + i) (named (first + i) (omega arith))))

@@ -1,17 +1,14 @@
 -- An access of a line in two cache tables, and in one. Two tables that agree at the places which the access touches answer alike and go on
 -- agreeing; places that it does not touch stay as they are. Assumes nothing.
-use Prim.Native.Nat.{ℕ, suc, _+_, _-_, _*_, _≤_, _<_, _%_}
-use mathlib.Core.Bool.{Bool, true, false, cond, _||_}
-use mathlib.Core.List.{List, [], _∷_}
+use Prim.Native.Nat.{ℕ}
+use mathlib.Core.Bool.{Bool, true, false, cond}
+use mathlib.Core.List.{List}
 use mathlib.Core.Path.{_≡_, refl, sym, ap, subst, _∙_}
 use native.Mathlib.Omega.{arith}
-use lib.Dec.{eqb}
-use lib.ListN.{length, getD, set, take, drop, length-take, length-drop}
-use lib.Seq.{sets, length-sets}
-use Rattle.lists.specs.Part.{part, splice}
+use lib.ListN.{length, set}
+use lib.Seq.{sets}
 use Rattle.lists.proofs.Parts.{part-length}
-use Rattle.lists.proofs.Agree.{Agree, Beside, Inside, agree-fewer, agree-trans, part-alike, set-alike, set-away, sets-alike, sets-away, splice-sets}
-use Rattle.cache.specs.declared.Found.{Found}
+use Rattle.lists.proofs.Agree.{Agree, Inside, agree-fewer, agree-trans, part-alike, set-alike, set-away, sets-alike, sets-away, splice-sets}
 use Rattle.cache.specs.Access.{Accessed, Look, accessOf, lookAt, lookHit1, lookL2, lookOf}
 use Rattle.cache.specs.Lines.{holdsLine, indexOf, setOf, setPlace, tableLength, waysOfSet}
 use Rattle.cache.proofs.Ways.{used-length}

@@ -1,14 +1,13 @@
 -- The two flushes of a switch: they touch only what they empty, and leave it the same in any two tables. Assumes nothing.
-use Prim.Native.Nat.{ℕ, _≤_}
+use Prim.Native.Nat.{ℕ}
 use mathlib.Core.List.{List}
 use mathlib.Core.Path.{_≡_, refl, sym, _∙_}
 use native.Mathlib.Omega.{arith}
-use lib.ListN.{getD, length, replicate}
+use lib.ListN.{length, replicate}
 use lib.Seq.{sets, length-sets}
 use Rattle.cache.specs.Flush.{kernelFlushed, l1Flushed}
 use Rattle.cache.specs.Lines.{indexes, kernelNumbers, kernelPlace, tableLength}
-use Rattle.lists.specs.Part.{splice}
-use Rattle.lists.proofs.Agree.{Agree, Beside, agree-fewer, agree-trans, sets-alike, sets-away, splice-sets}
+use Rattle.lists.proofs.Agree.{Agree, Beside, agree-trans, sets-alike, sets-away, splice-sets}
 use Rattle.isolation.proofs.TwoRuns.Places.{FlushedPlace, kernel, l1}
 
 -- the table after both flushes

@@ -1,8 +1,8 @@
 -- A named domain's window in two runs goes in lockstep: after as many of its steps in both the worlds are the same for it, and it ends after as many.
 -- Assumes nothing.
-use Prim.Native.Nat.{ℕ, zero, suc, _+_, _≤_, _<_}
+use Prim.Native.Nat.{ℕ, zero, suc, _+_, _<_}
 use mathlib.Core.List.{List}
-use mathlib.Core.Path.{_≡_, refl, sym, ap, subst, _∙_}
+use mathlib.Core.Path.{_≡_, refl, sym, ap, _∙_}
 use native.Mathlib.Decide.{decLt}
 use native.Mathlib.Nat.{add-suc, add-zero}
 use native.Mathlib.Omega.{arith}
@@ -47,12 +47,12 @@ module _ {plan : Plan} {Named Kept : ℕ → Type 0} {scripts scripts′ log log
   -- both do an op, or both switch
   both-next : (running count count′ : ℕ) → Named running → ownerOf plan (windowsAfter one count) ≡ running → LockedAt running count count′
       → Paired plan quota Named Kept running (worldAfter one count) (worldAfter other count′) (worldAfter one (suc count))
-        (worldAfter other (suc count′))
+      (worldAfter other (suc count′))
   both-next running count count′ named runs lock =
       rw (next-world one (c .watched) quota refl (c .sound) count, next-world other (c .watched) quota quota-other (c .sound′) count′)
       (locked-step plan quota Named (c .watched .possible) (c .watched .declared) scripts scripts′ (c .agree)
-        (c .watched .to) running (worldAfter one count) (worldAfter other count′) named runs (c .sound .whole count) (c .sound′ .whole count′)
-        lock)
+      (c .watched .to) running (worldAfter one count) (worldAfter other count′) named runs (c .sound .whole count) (c .sound′ .whole count′)
+      lock)
 
   -- a switch completes a window
   completes : (run : Run) (count : ℕ) → worldAfter run (suc count) ≡ switchOf plan (worldAfter run count)
@@ -65,7 +65,7 @@ module _ {plan : Plan} {Named Kept : ℕ → Type 0} {scripts scripts′ log log
   same-next running count count′ named runs lock = go (both-next running count count′ named runs lock)
     where
       go : Paired plan quota Named Kept running (worldAfter one count) (worldAfter other count′) (worldAfter one (suc count))
-            (worldAfter other (suc count′))
+          (worldAfter other (suc count′))
           → windowsAfter one (suc count) ≡ windowsAfter other (suc count′)
       go (worked l) = l .close .windows
       go (switched e e′) = omega (arith, completes one count e, completes other count′ e′, lock .close .windows)
@@ -81,7 +81,7 @@ module _ {plan : Plan} {Named Kept : ℕ → Type 0} {scripts scripts′ log log
       where
         go : windowsAfter one (start + more) ≡ window
             → Paired plan quota Named Kept (ownerOf plan window) (worldAfter one (start + more)) (worldAfter other (start′ + more))
-              (worldAfter one (suc (start + more))) (worldAfter other (suc (start′ + more)))
+            (worldAfter one (suc (start + more))) (worldAfter other (suc (start′ + more)))
             → LockedAt (ownerOf plan window) (suc (start + more)) (suc (start′ + more))
         go earlier (worked l) = l
         go earlier (switched e e′) = absurd (omega (arith, completes one (start + more) e, rw add-suc at there))
@@ -106,6 +106,11 @@ module _ {plan : Plan} {Named Kept : ℕ → Type 0} {scripts scripts′ log log
             absurd (omega (arith, past, in-other, no-fewer-by other (suc (start′ + last)) (start′ + last′) (omega arith)))
         go (no h) (yes h′) =
             absurd
-            (omega (arith, past-other, at-last .close .windows, in-one,
-              no-fewer-by other (suc (start′ + last′)) (start′ + last) (omega arith)))
+            (omega (
+              arith,
+              past-other,
+              at-last .close .windows,
+              in-one,
+              no-fewer-by other (suc (start′ + last′)) (start′ + last) (omega arith),
+            ))
         go (no h) (no h′) = omega arith

@@ -1,14 +1,13 @@
 -- A record stored in the log: in two logs that agree on a domain's records so far they then agree on one record more, and another domain's part
 -- stays as it is. Assumes nothing.
-use Prim.Native.Nat.{ℕ, suc, _+_, _*_, _≤_, _<_}
+use Prim.Native.Nat.{ℕ, _+_, _*_, _≤_, _<_}
 use mathlib.Core.List.{List}
-use mathlib.Core.Path.{_≡_, refl, sym, ap, subst, _∙_}
+use mathlib.Core.Path.{_≡_}
 use native.Mathlib.Decide.{decLt}
 use native.Mathlib.Nat.{mul-le-mul-left}
 use native.Mathlib.Omega.{arith}
 use lib.ListN.{getD, length, set}
 use lib.Seq.{getD-set-same, set-out}
-use Rattle.lists.specs.Part.{part}
 use Rattle.lists.proofs.Agree.{Agree, Beside, Inside, agree-fewer, part-alike, sets-alike, sets-away}
 use Rattle.machine.specs.declared.Seen.{Seen}
 use Rattle.machine.specs.Records.{logPart, recordBytes, recordPlace, recordSize, stored}

@@ -1,11 +1,10 @@
 -- Two worlds, for every domain that a predicate names: the same outside its windows, and in a window of one of them also the same inside. What one step
 -- leaves of that. Assumes nothing.
-use Prim.Native.Nat.{ℕ, _+_, _*_, _≤_, _<_}
+use Prim.Native.Nat.{ℕ, _<_}
 use mathlib.Core.Bool.{true}
 use mathlib.Core.List.{List}
-use mathlib.Core.Path.{_≡_, refl, sym, ap, subst, _∙_}
+use mathlib.Core.Path.{_≡_, sym, ap, subst, _∙_}
 use native.Mathlib.Decide.{ℕ-discrete}
-use lib.ListN.{getD}
 use Rattle.plan.specs.declared.Plan.{Plan}
 use Rattle.plan.specs.Possible.{planPossible}
 use Rattle.plan.specs.Windows.{ownerOf}
@@ -74,12 +73,12 @@ module _ (plan : Plan) (quota : ℕ) (Named : ℕ → Type 0) where
           all close domain n (yes e) = rw e (close .outside)
           all close domain n (no ne) =
               let away =
-                      step-away plan scripts quota domain one possible (declared domain n)
-                      (λ e. ne (e ∙ runs)) whole
+              step-away plan scripts quota domain one possible (declared domain n)
+              (λ e. ne (e ∙ runs)) whole
               in
               let away′ =
-                      step-away plan scripts′ quota domain other possible (declared domain n)
-                      (λ e. ne (e ∙ runs′)) whole′
+              step-away plan scripts′ quota domain other possible (declared domain n)
+              (λ e. ne (e ∙ runs′)) whole′
               in
               alike-trans plan quota domain (alike-sym plan quota domain away)
               (alike-trans plan quota domain (lock .near domain n) away′)

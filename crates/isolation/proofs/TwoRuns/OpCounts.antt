@@ -1,14 +1,14 @@
 -- How many ops a window held: none before its start, one more with each step while it lasts, no more after its switch. Assumes nothing.
 use Prim.Native.Nat.{ℕ, zero, suc, _+_, _-_, _≤_, _<_}
 use mathlib.Core.Bool.{Bool, true, false, cond, _&&_}
-use mathlib.Core.Path.{_≡_, refl, sym, ap, ap₂, subst, _∙_}
+use mathlib.Core.Path.{_≡_, refl, sym, ap, _∙_}
 use native.Mathlib.Nat.{add-sub-of-le, add-suc, add-zero}
 use native.Mathlib.Numerals.{add-one}
 use native.Mathlib.Omega.{arith}
 use borrow.Author.Tests.{eq-eqb, lt-ltb, ne-eqb}
 use lib.Dec.{eqb, ltb}
 use Rattle.plan.specs.Windows.{windowsTotal}
-use Rattle.isolation.specs.Points.{Run, Starts, isOpOf, opsOf, windowsAfter}
+use Rattle.isolation.specs.Points.{Run, Starts, opsOf, windowsAfter}
 use Rattle.isolation.proofs.TwoRuns.Progress.{lasts, no-fewer}
 
 -- what one step adds
@@ -31,7 +31,7 @@ module _ (run : Run) (window : ℕ) where
     before-or-after other =
         ap (λ (n : ℕ). opsOf run window count + n)
         (not-begun (ltb window (windowsTotal (run .plan))) (eqb (windowsAfter run count) window) (eqb (windowsAfter run (suc count)) window)
-          (ne-eqb (windowsAfter run count) window other))
+        (ne-eqb (windowsAfter run count) window other))
         ∙ add-zero (opsOf run window count)
 
     at-its-switch : (windowsAfter run (suc count) ≡ window → ⊥) → opsOf run window (suc count) ≡ opsOf run window count
@@ -39,7 +39,7 @@ module _ (run : Run) (window : ℕ) where
     at-its-switch other =
         ap (λ (n : ℕ). opsOf run window count + n)
         (not-still (ltb window (windowsTotal (run .plan))) (eqb (windowsAfter run count) window) (eqb (windowsAfter run (suc count)) window)
-          (ne-eqb (windowsAfter run (suc count)) window other))
+        (ne-eqb (windowsAfter run (suc count)) window other))
         ∙ add-zero (opsOf run window count)
 
     within-it : window < windowsTotal (run .plan) → windowsAfter run count ≡ window → windowsAfter run (suc count) ≡ window
@@ -48,8 +48,8 @@ module _ (run : Run) (window : ℕ) where
     within-it inRun here there =
         ap (λ (n : ℕ). opsOf run window count + n)
         (all-three (ltb window (windowsTotal (run .plan))) (eqb (windowsAfter run count) window) (eqb (windowsAfter run (suc count)) window)
-          (lt-ltb window (windowsTotal (run .plan)) inRun) (eq-eqb (windowsAfter run count) window here)
-          (eq-eqb (windowsAfter run (suc count)) window there))
+        (lt-ltb window (windowsTotal (run .plan)) inRun) (eq-eqb (windowsAfter run count) window here)
+        (eq-eqb (windowsAfter run (suc count)) window there))
         ∙ add-one (opsOf run window count)
 
   none-so-far : (count : ℕ) → ((earlier : ℕ) → earlier < count → windowsAfter run earlier < window) → opsOf run window count ≡ 0

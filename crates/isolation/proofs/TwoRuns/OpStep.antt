@@ -1,27 +1,25 @@
 -- One op, and one switch. A domain's own op keeps two worlds the same for it inside its window; another domain's op, and any switch, keep what it has
 -- outside its windows. Assumes nothing.
-use Prim.Native.Nat.{ℕ, _+_, _*_, _≤_, _<_}
+use Prim.Native.Nat.{ℕ, _+_, _<_}
 use mathlib.Core.Bool.{true}
 use mathlib.Core.List.{List}
-use mathlib.Core.Path.{_≡_, refl, sym, ap, ap₂, subst, _∙_}
-use native.Mathlib.Omega.{arith}
+use mathlib.Core.Path.{_≡_, refl, sym, ap₂}
 use lib.ListN.{getD, length, set}
 use Rattle.lists.proofs.Agree.{Agree, agree-fewer, agree-refl, set-alike, set-away}
 use Rattle.plan.specs.declared.Plan.{Plan}
 use Rattle.plan.specs.Possible.{planPossible}
 use Rattle.script.specs.declared.Op.{Op}
 use Rattle.cache.specs.Lines.{tableLength}
-use Rattle.machine.specs.Ops.{Effect, boxPlace, effectOf}
-use Rattle.machine.specs.Records.{stored}
+use Rattle.machine.specs.Ops.{boxPlace}
 use Rattle.machine.specs.Steps.{opStepOf}
 use Rattle.machine.specs.Switch.{switchOf}
-use Rattle.machine.specs.World.{World, positionAt, recordsAt}
+use Rattle.machine.specs.World.{World, recordsAt}
 use Rattle.isolation.specs.Statement.{Only}
 use Rattle.isolation.proofs.TwoRuns.Flush.{flush-alike, flush-away}
 use Rattle.isolation.proofs.TwoRuns.Log.{raised, stored-alike, stored-away}
-use Rattle.isolation.proofs.TwoRuns.Ops.{EffectAlike, Receivable, effect-alike, effect-away}
+use Rattle.isolation.proofs.TwoRuns.Ops.{Receivable, effect-alike, effect-away}
 use Rattle.isolation.proofs.TwoRuns.Places.{FlushedPlace, OwnPlace, WorkPlace, flushed, own, own-unflushed, own-untouched}
-use Rattle.isolation.proofs.TwoRuns.Relations.{Alike, Close, LogPlace, same-position, same-records}
+use Rattle.isolation.proofs.TwoRuns.Relations.{Alike, Close, same-records}
 
 -- the cache table has all its numbers
 abbrev pub Whole : World → Type 0

@@ -1,21 +1,19 @@
 -- What an op does in two worlds, and in one. Where the tables agree at the places that the running domain may touch, and the boxes at those that it
 -- may receive from, an op takes as long, shows the same and leaves tables and boxes that agree; and it touches no other place. Assumes nothing.
-use Prim.Native.Nat.{ℕ, _+_, _*_, _≤_, _<_}
+use Prim.Native.Nat.{ℕ, _+_, _<_}
 use mathlib.Core.Bool.{Bool, true, false, cond}
 use mathlib.Core.List.{List}
-use mathlib.Core.Path.{_≡_, refl, sym, ap, ap₂, subst, _∙_}
-use native.Mathlib.Omega.{arith}
-use lib.ListN.{getD, length, set}
+use mathlib.Core.Path.{_≡_, refl, sym, ap, ap₂, _∙_}
+use lib.ListN.{length}
 use Rattle.lists.proofs.Agree.{Agree, agree-fewer, agree-refl, agree-trans, set-alike}
 use Rattle.plan.specs.declared.Plan.{Plan}
 use Rattle.plan.specs.Rights.{maySend}
 use Rattle.script.specs.declared.Op.{Op}
 use Rattle.script.specs.declared.Op.the-variants.{Read, Write, Send, Receive, Compute}
 use Rattle.cache.specs.declared.Found.{Found}
-use Rattle.cache.specs.Access.{Accessed, accessOf}
+use Rattle.cache.specs.Access.{accessOf}
 use Rattle.cache.specs.Lines.{tableLength}
 use Rattle.machine.specs.declared.Seen.{Seen}
-use Rattle.machine.specs.declared.Seen.the-variants.{Denied, Sent}
 use Rattle.machine.specs.Ops.{Effect, boxLine, boxPlace, boxSeen, computeOf, deniedOf, effectOf, fullBox, gateLine, ownsLine, passedOf, receiveOf, seenOf, sendOf, touchOf}
 use Rattle.isolation.proofs.TwoRuns.Access.{AccessAlike, access-alike, access-away}
 use Rattle.isolation.proofs.TwoRuns.Places.{WorkPlace, box-line, gate-line, own-line}
@@ -73,13 +71,13 @@ module _ (plan : Plan) (domain : ℕ) where
 
       passed-alike : {seen seen′ : Seen} (sender recipient : ℕ) {boxes boxes′ : List ℕ} → seen ≡ seen′ → Agree Kept boxes boxes′
           → EffectAlike Kept
-            (passedOf seen (boxLine sender recipient) (accessOf false gateLine one) boxes)
-            (passedOf seen′ (boxLine sender recipient) (accessOf false gateLine other) boxes′)
+          (passedOf seen (boxLine sender recipient) (accessOf false gateLine one) boxes)
+          (passedOf seen′ (boxLine sender recipient) (accessOf false gateLine other) boxes′)
       unfolding passedOf
       passed-alike sender recipient shown kept =
           let access =
-                  access-alike true (boxLine sender recipient) (box-line plan domain sender recipient)
-                  (access-whole false gateLine one whole) (gate-alike .table)
+          access-alike true (boxLine sender recipient) (box-line plan domain sender recipient)
+          (access-whole false gateLine one whole) (gate-alike .table)
           in
           record {
             ticks = ap₂ (λ (n m : ℕ). 5 + n + m) (gate-alike .ticks) (access .ticks);
@@ -149,8 +147,8 @@ module _ (plan : Plan) (domain : ℕ) where
     -- a send or a receive, whatever the rights say
     mail-away : (may : Bool) (seen : Seen) (sender recipient asked : ℕ) (boxes boxes′ : List ℕ)
         → Agree Place table
-          (cond may (passedOf seen (boxLine sender recipient) (accessOf false gateLine table) boxes)
-            (deniedOf asked (accessOf false gateLine table) boxes′) .cache)
+        (cond may (passedOf seen (boxLine sender recipient) (accessOf false gateLine table) boxes)
+        (deniedOf asked (accessOf false gateLine table) boxes′) .cache)
     unfolding deniedOf
     mail-away true seen sender recipient asked boxes boxes′ = passed-away seen sender recipient boxes
     mail-away false seen sender recipient asked boxes boxes′ = gate-away

@@ -1,8 +1,8 @@
 -- Which places of the cache table are a domain's, the kernel's and L1's, and what is cited of them: an own line's set lies in the domain's part,
 -- a kernel line's set in the kernel's places, and parts, kernel places and L1 are apart. Assumes nothing.
-use Prim.Native.Nat.{ℕ, _+_, _-_, _*_, _/_, _≤_, _<_}
+use Prim.Native.Nat.{ℕ, _+_, _-_, _/_, _≤_, _<_}
 use mathlib.Core.Bool.{Bool, true, false, cond}
-use mathlib.Core.Path.{_≡_, refl, sym, ap, subst, _∙_}
+use mathlib.Core.Path.{_≡_, refl}
 use native.Mathlib.Omega.{arith}
 use lib.Dec.{ltb}
 use Rattle.plan.specs.declared.Plan.{Plan}
@@ -38,6 +38,13 @@ pub data WorkPlace (plan : Plan) (domain place : ℕ) : Type 0 where
 
 -- ---- a line's places
 
+-- a set of a domain's colour is its own
+pub own-set : (plan : Plan) (domain set way : ℕ) → way < waysOfSet → ownsColour plan domain (setColour set) ≡ true
+    → OwnPlace plan domain (setPlace set + way)
+own-set plan domain set way below owns =
+    let same : setColour ((setPlace set + way - indexes) / waysOfSet) ≡ setColour set = omega arith in
+    record { inL2 = omega arith; owned = rw same owns }
+
 module _ (plan : Plan) (domain line place : ℕ) where
   owned-colour : ownsLine plan domain line ≡ true → ownsColour plan domain (colourOf line) ≡ true
   unfolding ownsLine
@@ -50,8 +57,9 @@ module _ (plan : Plan) (domain line place : ℕ) where
   pub own-line : ownsLine plan domain line ≡ true → Touched line place → WorkPlace plan domain place
   own-line owns (atIndex e) = flushed (l1 (omega arith))
   own-line owns (inSet h) =
-      let same : setColour ((place - indexes) / waysOfSet) ≡ colourOf line = omega arith in
-      own (record { inL2 = omega arith; owned = rw same (owned-colour owns) })
+      let way = place - setPlace (setOf line) in
+      let there : setPlace (setOf line) + way ≡ place = omega arith in
+      own (rw there at (own-set plan domain (setOf line) way (omega arith) (owned-colour owns)))
 
   kernel-line : colourOf line ≡ kernelColour → Touched line place → WorkPlace plan domain place
   kernel-line colour (atIndex e) = flushed (l1 (omega arith))

@@ -1,22 +1,19 @@
 -- The windows of one run: how many are completed as steps go on, where a window starts, and that the step before its start was a switch.
 -- Assumes nothing.
 use Prim.Native.Nat.{ℕ, zero, suc, _+_, _-_, _≤_, _<_}
-use mathlib.Core.Bool.{Bool, true, false}
-use mathlib.Core.Logic.{_⊎_, inl, inr}
-use mathlib.Core.Path.{_≡_, refl, sym, ap, subst, _∙_}
+use mathlib.Core.Path.{_≡_, refl, ap, _∙_}
 use native.Mathlib.Decide.{decLt}
 use native.Mathlib.Nat.{add-sub-of-le, add-suc, add-zero, le-refl}
 use native.Mathlib.Omega.{arith}
-use borrow.Author.Tests.{leb-false, leb-true, le-leb}
+use borrow.Author.Tests.{leb-false, le-leb}
 use lib.ListN.{length}
-use Rattle.plan.specs.Windows.{startOf, windowsTotal}
+use Rattle.plan.specs.Windows.{windowsTotal}
 use Rattle.machine.specs.Records.{partRecords}
 use Rattle.machine.specs.Steps.{opStepOf, stepOf, steps}
 use Rattle.machine.specs.Switch.{switchOf}
 use Rattle.machine.specs.World.{World, endedOf, freshState}
 use Rattle.engine.specs.FreshStart.{freshWorld}
 use Rattle.isolation.specs.Points.{Run, Starts, windowsAfter, worldAfter}
-use Rattle.isolation.specs.Statement.{StartedOnTime}
 use Rattle.isolation.proofs.TwoRuns.Step.{Stepped, runs, stays, stepped, switches}
 
 -- a step completes no window, or it is the switch that completes one
@@ -36,7 +33,7 @@ module _ (run : Run) where
   turned count = go (stepped (run .plan) (run .scripts) (partRecords (run .plan) (length (run .log))) (worldAfter run count))
     where
       go : Stepped (run .plan) (partRecords (run .plan) (length (run .log))) (worldAfter run count)
-            (stepOf (run .plan) (run .scripts) (partRecords (run .plan) (length (run .log))) (worldAfter run count))
+          (stepOf (run .plan) (run .scripts) (partRecords (run .plan) (length (run .log))) (worldAfter run count))
           → Turned run count
       go (stays e n) = same (ap (λ (w : World). w .state .windows) (one-more count ∙ n))
       go (switches e n) =

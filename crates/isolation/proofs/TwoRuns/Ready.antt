@@ -1,26 +1,25 @@
 -- Every window of two runs starts at worlds that are the same for the named domains: what they have outside their windows was kept, what a switch empties
 -- is emptied in both, and the clock is the plan's. By induction over the windows. Assumes nothing.
-use Prim.Native.Nat.{ℕ, zero, suc, _+_, _*_, _≤_, _<_}
+use Prim.Native.Nat.{ℕ, zero, suc, _+_, _≤_, _<_}
 use mathlib.Core.List.{List}
-use mathlib.Core.Path.{_≡_, refl, sym, ap, subst, _∙_}
+use mathlib.Core.Path.{_≡_, refl, sym, _∙_}
 use native.Mathlib.Decide.{decLt}
 use native.Mathlib.Omega.{arith}
 use lib.ListN.{List·getD-eq-default, getD, getD-replicate, length, length-replicate, replicate}
 use Rattle.lists.proofs.Agree.{Agree, agree-refl}
 use Rattle.plan.specs.declared.Plan.{Plan}
 use Rattle.plan.specs.Windows.{ownerOf, windowsTotal}
-use Rattle.machine.specs.Records.{recordPlace}
 use Rattle.machine.specs.Steps.{steps}
 use Rattle.machine.specs.Switch.{switchOf}
-use Rattle.machine.specs.World.{World, freshState, recordsAt}
+use Rattle.machine.specs.World.{World, freshState}
 use Rattle.engine.specs.FreshStart.{freshWorld}
-use Rattle.isolation.specs.Points.{Run, Starts, windowsAfter, worldAfter}
+use Rattle.isolation.specs.Points.{Starts, windowsAfter, worldAfter}
 use Rattle.isolation.proofs.TwoRuns.Lockstep.{Comparing, LockedAt, lockstep, one, other, quota, quota-other, same-end}
 use Rattle.isolation.proofs.TwoRuns.Near.{Near, near-both, near-switch}
 use Rattle.isolation.proofs.TwoRuns.OpStep.{switch-flushed}
 use Rattle.isolation.proofs.TwoRuns.Places.{FlushedPlace}
 use Rattle.isolation.proofs.TwoRuns.Progress.{first-start}
-use Rattle.isolation.proofs.TwoRuns.Relations.{Alike, LogPlace}
+use Rattle.isolation.proofs.TwoRuns.Relations.{Alike}
 use Rattle.isolation.proofs.TwoRuns.Windows.{Completed, clock-at-start, completed, stays-near}
 
 -- at a window's start
@@ -138,8 +137,8 @@ module _ {plan : Plan} {Named Kept : ℕ → Type 0} {scripts scripts′ log log
         near =
             rw (p .switched, p′ .switched)
             (near-both plan (quota c) Named last last′ (switchOf plan last) (switchOf plan last′) near
-              (near-switch plan (quota c) Named (w .possible) (w .declared) last whole)
-              (near-switch plan (quota c) Named (w .possible) (w .declared) last′ whole′));
+            (near-switch plan (quota c) Named (w .possible) (w .declared) last whole)
+            (near-switch plan (quota c) Named (w .possible) (w .declared) last′ whole′));
         clock =
             clock-at-start (one c) (c .sound) (suc window) next s ∙ sym (clock-at-start (other c) (c .sound′) (suc window) next′ s′);
         flushed = rw (p .switched, p′ .switched) (switch-flushed plan last last′ whole whole′);
@@ -158,4 +157,4 @@ module _ {plan : Plan} {Named Kept : ℕ → Type 0} {scripts scripts′ log log
       let start = ready count count′ boxes window (p .at) (p′ .at) (p .starts) soFar (p′ .starts) soFar′ in
       ready-next window at at′ s s′ p p′
       (near-switches window at at′ p p′ start (c .watched .isNamed (ownerOf plan window))
-        (λ named. boxes window (p .at) (p′ .at) (p .room) named (p .starts) soFar (p′ .starts) soFar′))
+      (λ named. boxes window (p .at) (p′ .at) (p .room) named (p .starts) soFar (p′ .starts) soFar′))

@@ -1,12 +1,11 @@
 -- When two worlds are the same for a domain: outside its windows, and inside. Outside it has its position, its records and its part of the
 -- partitioned cache; inside also the window and the clock, what a switch empties, and the boxes that it may receive from. Assumes nothing.
-use Prim.Native.Nat.{ℕ, _+_, _*_, _≤_, _<_}
-use mathlib.Core.Path.{_≡_, refl, sym, ap, subst, _∙_}
-use native.Mathlib.Omega.{arith}
+use Prim.Native.Nat.{ℕ, _≤_, _<_}
+use mathlib.Core.Path.{_≡_, refl}
 use Rattle.plan.specs.declared.Plan.{Plan}
-use Rattle.machine.specs.Records.{recordPlace, recordSize}
+use Rattle.machine.specs.Records.{recordPlace}
 use Rattle.machine.specs.World.{World, positionAt, recordsAt}
-use Rattle.lists.proofs.Agree.{Agree, Inside, agree-fewer, agree-refl, agree-sym, agree-trans}
+use Rattle.lists.proofs.Agree.{Agree, agree-refl, agree-sym, agree-trans}
 use Rattle.isolation.specs.Statement.{Only}
 use Rattle.isolation.proofs.TwoRuns.Places.{FlushedPlace, OwnPlace}
 

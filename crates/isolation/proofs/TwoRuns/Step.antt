@@ -1,13 +1,12 @@
 -- One step. In a domain's own window two worlds that are the same for it both do the same op or both switch; in another's window a step keeps what
 -- the domain has outside its windows. Assumes nothing.
-use Prim.Native.Nat.{ℕ, _+_, _*_, _≤_, _<_}
+use Prim.Native.Nat.{ℕ, _+_, _*_, _<_}
 use mathlib.Core.Bool.{Bool, true, false, _||_}
 use mathlib.Core.List.{List}
-use mathlib.Core.Path.{_≡_, refl, sym, ap, ap₂, subst, _∙_}
-use native.Mathlib.Omega.{arith}
+use mathlib.Core.Path.{_≡_, refl, sym, ap, _∙_}
 use borrow.Author.Tests.{leb-false}
 use lib.Dec.{leb}
-use lib.ListN.{getD, length}
+use lib.ListN.{getD}
 use Rattle.plan.specs.declared.Plan.{Plan}
 use Rattle.plan.specs.Possible.{planPossible}
 use Rattle.plan.proofs.Windows.{owner-declared}
@@ -15,7 +14,6 @@ use Rattle.plan.specs.Windows.{endOf, ownerOf, windowsTotal}
 use Rattle.script.specs.declared.Op.{Op}
 use Rattle.script.specs.declared.Fetched.{Fetched}
 use Rattle.script.specs.declared.Fetched.the-variants.{Op as Fetch, End}
-use Rattle.script.specs.Fetch.{fetchOf}
 use Rattle.machine.specs.Ops.{boxPlace}
 use Rattle.machine.specs.Steps.{activeStep, closedOf, fetchedStep, nextOf, opStepOf, stepOf}
 use Rattle.machine.specs.Switch.{switchOf}
@@ -41,9 +39,9 @@ module _ (plan : Plan) (quota : ℕ) where
     where
       go : (ended closed : Bool) (next : Fetched)
           → elim ended as (λ (_ : Bool). World) [
-              | true ↦ world
-              | false ↦ elim closed as (λ (_ : Bool). World) [ true ↦ switchOf plan world | false ↦ fetchedStep plan quota next world ]
-            ]
+            | true ↦ world
+            | false ↦ elim closed as (λ (_ : Bool). World) [ true ↦ switchOf plan world | false ↦ fetchedStep plan quota next world ]
+          ]
           ≡ stepBy ended closed next world
       go true closed next = refl
       go false true next = refl

@@ -1,14 +1,12 @@
 -- The windows of two runs of one plan. Each window starts at worlds that are the same for every named domain; a named domain's window then goes in
 -- lockstep, and ends after as many ops; another's window leaves what the named ones have. Assumes nothing.
-use Prim.Native.Nat.{ℕ, zero, suc, _+_, _-_, _*_, _≤_, _<_}
+use Prim.Native.Nat.{ℕ, zero, suc, _+_, _-_, _≤_, _<_}
 use mathlib.Core.Bool.{true}
 use mathlib.Core.List.{List}
-use mathlib.Core.Path.{_≡_, refl, sym, ap, subst, _∙_}
-use native.Mathlib.Decide.{ℕ-discrete, decLt}
+use mathlib.Core.Path.{_≡_, sym, ap, _∙_}
 use native.Mathlib.Nat.{add-sub-of-le, add-suc, add-zero}
 use native.Mathlib.Omega.{arith}
-use lib.ListN.{getD, length, replicate}
-use Rattle.lists.proofs.Agree.{Agree, agree-refl}
+use lib.ListN.{length}
 use Rattle.plan.specs.declared.Plan.{Plan}
 use Rattle.plan.specs.Possible.{planPossible}
 use Rattle.plan.specs.Windows.{ownerOf, startOf, windowsTotal}
@@ -16,24 +14,23 @@ use Rattle.machine.specs.Ops.{boxPlace}
 use Rattle.machine.specs.Records.{partRecords}
 use Rattle.machine.specs.Steps.{stepOf}
 use Rattle.machine.specs.Switch.{switchOf}
-use Rattle.machine.specs.World.{World, boxesLength, freshState, runningOf}
-use Rattle.engine.specs.FreshStart.{freshWorld}
+use Rattle.machine.specs.World.{boxesLength, recordsAt}
 use Rattle.isolation.specs.Points.{Run, Starts, windowsAfter, worldAfter}
-use Rattle.isolation.specs.Statement.{ScriptsAgree, StartedOnTime}
-use Rattle.isolation.proofs.TwoRuns.Near.{Locked, Near, Paired, locked-step, near-both, near-refl, near-step, near-switch, near-trans, switched, worked}
-use Rattle.isolation.proofs.TwoRuns.OpStep.{Whole, switch-flushed}
-use Rattle.isolation.proofs.TwoRuns.Places.{FlushedPlace}
-use Rattle.isolation.proofs.TwoRuns.Progress.{Before, before, first-start, lasts, no-fewer, no-fewer-by, one-more, one-start}
-use Rattle.isolation.proofs.TwoRuns.Relations.{Alike, Close}
+use Rattle.isolation.specs.Statement.{StartedOnTime}
+use Rattle.isolation.proofs.TwoRuns.Near.{Near, near-refl, near-step, near-trans, switched}
+use Rattle.isolation.proofs.TwoRuns.OpStep.{Whole}
+use Rattle.isolation.proofs.TwoRuns.Progress.{before, lasts, one-more, one-start}
 
 abbrev pub runBy : Plan → List ℕ → List ℕ → Run
 runBy plan scripts log = record { plan = plan; scripts = scripts; log = log }
 
--- what is cited of one run: every window so far started when the plan says, and table and boxes keep their lengths
+-- what is cited of one run: every window so far started when the plan says, table and boxes keep their lengths, and no domain has more records than
+-- its part of the log holds
 pub record Sound (run : Run) : Type 0 where
   pub onTime : (count window : ℕ) → window ≤ windowsAfter run count → StartedOnTime run count window
   pub whole : (count : ℕ) → Whole (worldAfter run count)
   pub boxes : (count : ℕ) → length (worldAfter run count .boxes) ≡ boxesLength
+  pub records : (count domain : ℕ) → recordsAt (worldAfter run count .state) domain ≤ partRecords (run .plan) (length (run .log))
 
 -- what is cited of a plan and of the domains that are named
 pub record Watched (plan : Plan) (Named Kept : ℕ → Type 0) : Type 0 where
@@ -105,6 +102,6 @@ module _ {Named Kept : ℕ → Type 0} (run : Run) (w : Watched (run .plan) Name
       let last = worldAfter run (start + more) in
       rw (add-suc, next-world (start + more))
       (near-trans (run .plan) quota Named (worldAfter run start) last (stepOf (run .plan) (run .scripts) quota last)
-        (stays-near window start unnamed here more earlier)
-        (near-step (run .plan) quota Named (w .possible) (w .declared) (run .scripts) last (sound .whole (start + more))
-          (λ n. unnamed (rw earlier at n))))
+      (stays-near window start unnamed here more earlier)
+      (near-step (run .plan) quota Named (w .possible) (w .declared) (run .scripts) last (sound .whole (start + more))
+      (λ n. unnamed (rw earlier at n))))
