@@ -1,1 +1,3 @@
+-- What is proved of lists of calls.
+pub mod OneRun
 pub mod TwoRuns
