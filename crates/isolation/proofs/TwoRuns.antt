@@ -6,7 +6,6 @@ pub mod Relations
 pub mod Ops
 pub mod Flush
 pub mod Log
-pub mod Fetch
 pub mod OpStep
 pub mod Step
 pub mod Progress
@@ -16,7 +15,7 @@ pub mod Windows
 pub mod Lockstep
 pub mod Ready
 pub mod Corresponding
-use Prim.Native.Nat.{ℕ, _<_}
+use Prim.Native.Nat.{ℕ, _≤_, _<_}
 use mathlib.Core.Bool.{true}
 use mathlib.Core.List.{List}
 use mathlib.Core.Path.{_≡_, refl, sym, ap, subst, _∙_}
@@ -28,15 +27,18 @@ use Rattle.plan.specs.Windows.{ownerOf, windowsTotal}
 use Rattle.machine.specs.Ops.{boxPlace}
 use Rattle.machine.specs.Records.{logPart, partRecords}
 use Rattle.machine.specs.World.{positionAt, recordsAt}
+use Rattle.machine.proofs.Reached.{boxes-length}
+use Rattle.machine.proofs.Reached.Counts.{counted}
+use Rattle.engine.specs.FreshStart.{freshWorld}
 use Rattle.isolation.specs.Points.{Run, Within, opsOf, windowsAfter, worldAfter}
 use Rattle.isolation.specs.Statement.{BoxesAgree, Correspond, Only, SamePlan, SameSets, ScriptsAgree}
 use Corresponding.{locked-here, near-here, same-ops}
 use Lockstep.{Comparing}
 use Log.{part-of-log}
 use Places.{own-set}
-use Ready.{BoxesKept}
+use Ready.{BoxesKept, Given}
 use Relations.{same-position, same-records}
-use Windows.{Sound, runBy}
+use Windows.{OnTime, runBy}
 
 -- the eight boxes addressed to a domain
 pub record BoxTo (recipient place : ℕ) : Type 0 where
@@ -50,8 +52,8 @@ pub record Compared (observer : ℕ) (one : Run) (count : ℕ) (other : Run) (co
   pub declared : observer < one .plan .domains
   pub scripts : ScriptsAgree (Only observer) (one .scripts) (other .scripts)
   pub logs : length (one .log) ≡ length (other .log)
-  pub sound : Sound one
-  pub sound′ : Sound other
+  pub onTime : OnTime one count
+  pub onTime′ : OnTime other count′
   pub points : Correspond observer one count other count′
   pub boxes : BoxesAgree observer one count other count′
 
@@ -89,16 +91,23 @@ module _ (observer : ℕ) (plan : Plan) (scripts scripts′ log log′ : List �
             };
         agree = compared .scripts;
         logs = compared .logs;
-        sound = compared .sound;
-        sound′ = compared .sound′;
       }
 
   kept : BoxesKept comparing count count′
+  unfolding worldAfter freshWorld
   kept window at at′ room owner s soFar s′ soFar′ =
       record {
-        len = compared .sound .boxes at ∙ sym (compared .sound′ .boxes at′);
+        len = boxes-length plan scripts log at (compared .possible) ∙ sym (boxes-length plan scripts′ log′ at′ (compared .possible));
         at = λ place p. rw (p .addressed) (compared .boxes window at at′ room owner s soFar s′ soFar′ (p .sender) (p .known));
       }
+
+  given : Given comparing count count′
+  given = record { onTime = compared .onTime; onTime′ = compared .onTime′; boxes = kept }
+
+  -- no domain has more records than its part of the log holds
+  few : recordsAt (worldAfter (runBy plan scripts log) count .state) observer ≤ partRecords plan (length log)
+  unfolding worldAfter freshWorld
+  few = counted plan scripts (partRecords plan (length log)) (compared .possible) count log .records observer
 
   -- the current window, where it is the observer's
   as-many : windowsAfter (runBy plan scripts log) count < windowsTotal plan
@@ -111,14 +120,14 @@ module _ (observer : ℕ) (plan : Plan) (scripts scripts′ log log′ : List �
   one-plan =
       let windows = compared .points .windows in
       let quota = partRecords plan (length log) in
-      let near = near-here comparing count count′ kept windows as-many observer refl in
+      let near = near-here comparing count count′ given windows as-many observer refl in
       record {
         records = same-records plan quota observer near;
-        log = part-of-log quota observer _ (compared .sound .records count observer) (near .log);
+        log = part-of-log quota observer _ few (near .log);
         position = same-position plan quota observer near;
         sets = λ set way inTable inSet owns. near .sets .at _ (own-set plan observer set way inSet owns);
-        ops = λ window past owner. same-ops comparing count count′ kept window past (rw (← windows) past) owner;
-        clock = λ w. locked-here comparing count count′ kept windows as-many (w .notEnded) (w .owner) .close .clock;
+        ops = λ window past owner. same-ops comparing count count′ given window past (rw (← windows) past) owner;
+        clock = λ w. locked-here comparing count count′ given windows as-many (w .notEnded) (w .owner) .close .clock;
       }
 
 -- ---- runs of plans that mean the same

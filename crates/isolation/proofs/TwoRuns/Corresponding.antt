@@ -11,36 +11,36 @@ use Rattle.isolation.specs.Points.{opsOf, windowsAfter, worldAfter}
 use Rattle.isolation.proofs.TwoRuns.Lockstep.{Comparing, LockedAt, lockstep, one, other}
 use Rattle.isolation.proofs.TwoRuns.OpCounts.{ops-in-all, ops-so-far}
 use Rattle.isolation.proofs.TwoRuns.Progress.{stays-ended}
-use Rattle.isolation.proofs.TwoRuns.Ready.{BoxesKept, NearAt, ReadyAt, as-many, locked, ready, stays-near-both}
+use Rattle.isolation.proofs.TwoRuns.Ready.{Given, NearAt, ReadyAt, as-many, locked, ready, stays-near-both}
 use Rattle.isolation.proofs.TwoRuns.Windows.{Began, began, completed}
 
 module _ {plan : Plan} {Named Kept : ℕ → Type 0} {scripts scripts′ log log′ : List ℕ}
-    (c : Comparing plan Named Kept scripts scripts′ log log′) (count count′ : ℕ) (boxes : BoxesKept c count count′) where
+    (c : Comparing plan Named Kept scripts scripts′ log log′) (count count′ : ℕ) (given : Given c count count′) where
   -- each completed window of a named domain held as many ops
   pub same-ops : (window : ℕ) → window < windowsAfter (one c) count → window < windowsAfter (other c) count′ → Named (ownerOf plan window)
       → opsOf (one c) window count ≡ opsOf (other c) window count′
   same-ops window past past′ named =
-      let b = began (one c) (c .sound) (suc window) count past in
-      let b′ = began (other c) (c .sound′) (suc window) count′ past′ in
-      let p = completed (one c) (c .sound) window (b .at) (b .starts) in
-      let p′ = completed (other c) (c .sound′) window (b′ .at) (b′ .starts) in
+      let b = began (one c) (c .watched .possible) count (given .onTime) (suc window) count (omega arith) past in
+      let b′ = began (other c) (c .watched .possible) count′ (given .onTime′) (suc window) count′ (omega arith) past′ in
+      let p = completed (one c) (c .watched .possible) count (given .onTime) window (b .at) (omega (arith, b .point)) (b .starts) in
+      let p′ = completed (other c) (c .watched .possible) count′ (given .onTime′) window (b′ .at) (omega (arith, b′ .point)) (b′ .starts) in
       let soFar : p .at ≤ count = omega (arith, p .follows, b .point) in
       let soFar′ : p′ .at ≤ count′ = omega (arith, p′ .follows, b′ .point) in
-      let start = ready c count count′ boxes window (p .at) (p′ .at) (p .starts) soFar (p′ .starts) soFar′ in
-      let kept = boxes window (p .at) (p′ .at) (p .room) named (p .starts) soFar (p′ .starts) soFar′ in
-      ops-in-all (one c) window (p .at) (p .starts) (p .room) (p .more) count (p .within) (p .past) (omega (arith, p .follows, b .point))
+      let start = ready c count count′ given window (p .at) (p′ .at) (p .starts) soFar (p′ .starts) soFar′ in
+      let kept = given .boxes window (p .at) (p′ .at) (p .room) named (p .starts) soFar (p′ .starts) soFar′ in
+      ops-in-all (one c) (c .watched .possible) window (p .at) (p .starts) (p .room) (p .more) count (p .within) (p .past) (omega (arith, p .follows, b .point))
       ∙ as-many c window (b .at) (b′ .at) p p′ start named kept
       ∙ sym
-      (ops-in-all (other c) window (p′ .at) (p′ .starts) (p′ .room) (p′ .more) count′ (p′ .within) (p′ .past)
+      (ops-in-all (other c) (c .watched .possible) window (p′ .at) (p′ .starts) (p′ .room) (p′ .more) count′ (p′ .within) (p′ .past)
       (omega (arith, p′ .follows, b′ .point)))
 
   -- the current window, from its start in both runs
   module _ (now : ℕ) (here : windowsAfter (one c) count ≡ now) (here′ : windowsAfter (other c) count′ ≡ now)
-      (b : Began (one c) (c .sound) now count) (b′ : Began (other c) (c .sound′) now count′)
+      (b : Began (one c) now count) (b′ : Began (other c) now count′)
       (ops : now < windowsTotal plan → Named (ownerOf plan now) → opsOf (one c) now count ≡ opsOf (other c) now count′) where
     start : ReadyAt c (b .at) (b′ .at)
     start =
-        ready c count count′ boxes now (b .at) (b′ .at) (b .starts) (omega (arith, b .point)) (b′ .starts) (omega (arith, b′ .point))
+        ready c count count′ given now (b .at) (b′ .at) (b .starts) (omega (arith, b .point)) (b′ .starts) (omega (arith, b′ .point))
 
     within : windowsAfter (one c) (b .at + b .more) ≡ now
     within = rw (← (b .point)) here
@@ -52,15 +52,15 @@ module _ {plan : Plan} {Named Kept : ℕ → Type 0} {scripts scripts′ log log
     locked-now : now < windowsTotal plan → (named : Named (ownerOf plan now)) → LockedAt c (ownerOf plan now) count count′
     locked-now room named =
         let kept =
-        boxes now (b .at) (b′ .at) room named (b .starts) (omega (arith, b .point)) (b′ .starts) (omega (arith, b′ .point))
+        given .boxes now (b .at) (b′ .at) room named (b .starts) (omega (arith, b .point)) (b′ .starts) (omega (arith, b′ .point))
         in
         let lock = locked c now (b .at) (b′ .at) named (b .starts) (b′ .starts) start kept in
         let many : b .more ≡ b′ .more =
-        sym (ops-so-far (one c) now (b .at) (b .starts) room (b .more) within)
+        sym (ops-so-far (one c) (c .watched .possible) now (b .at) (b .starts) room (b .more) within)
         ∙ ap (opsOf (one c) now) (sym (b .point))
         ∙ ops room named
         ∙ ap (opsOf (other c) now) (b′ .point)
-        ∙ ops-so-far (other c) now (b′ .at) (b′ .starts) room (b′ .more) within′
+        ∙ ops-so-far (other c) (c .watched .possible) now (b′ .at) (b′ .starts) room (b′ .more) within′
         in
         subst₂ (LockedAt c (ownerOf plan now)) (sym (b .point)) (ap (λ (more : ℕ). b′ .at + more) many ∙ sym (b′ .point))
         (lockstep c now (b .at) (b′ .at) named (b .starts .reached) lock (b .more) within)
@@ -78,11 +78,11 @@ module _ {plan : Plan} {Named Kept : ℕ → Type 0} {scripts scripts′ log log
   module _ (windows : windowsAfter (one c) count ≡ windowsAfter (other c) count′)
       (ops : windowsAfter (one c) count < windowsTotal plan → Named (ownerOf plan (windowsAfter (one c) count))
       → opsOf (one c) (windowsAfter (one c) count) count ≡ opsOf (other c) (windowsAfter (one c) count) count′) where
-    from : Began (one c) (c .sound) (windowsAfter (one c) count) count
-    from = began (one c) (c .sound) (windowsAfter (one c) count) count (omega arith)
+    from : Began (one c) (windowsAfter (one c) count) count
+    from = began (one c) (c .watched .possible) count (given .onTime) (windowsAfter (one c) count) count (omega arith) (omega arith)
 
-    from′ : Began (other c) (c .sound′) (windowsAfter (one c) count) count′
-    from′ = began (other c) (c .sound′) (windowsAfter (one c) count) count′ (omega (arith, windows))
+    from′ : Began (other c) (windowsAfter (one c) count) count′
+    from′ = began (other c) (c .watched .possible) count′ (given .onTime′) (windowsAfter (one c) count) count′ (omega arith) (omega (arith, windows))
 
     -- the same for every named domain
     pub near-here : NearAt c count count′

@@ -15,16 +15,14 @@ use Rattle.machine.specs.World.{World}
 use Rattle.isolation.specs.Points.{Run, windowsAfter, worldAfter}
 use Rattle.isolation.specs.Statement.{ScriptsAgree}
 use Rattle.isolation.proofs.TwoRuns.Near.{Locked, Paired, locked-step, switched, worked}
-use Rattle.isolation.proofs.TwoRuns.Progress.{lasts, no-fewer-by}
-use Rattle.isolation.proofs.TwoRuns.Windows.{Sound, Watched, next-world, runBy}
+use Rattle.isolation.proofs.TwoRuns.Progress.{lasts, no-fewer}
+use Rattle.isolation.proofs.TwoRuns.Windows.{Watched, next-world, runBy, whole}
 
 -- two runs of one plan, whose scripts agree for the named domains and whose logs are as long
 pub record Comparing (plan : Plan) (Named Kept : ℕ → Type 0) (scripts scripts′ log log′ : List ℕ) : Type 0 where
   pub watched : Watched plan Named Kept
   pub agree : ScriptsAgree Named scripts scripts′
   pub logs : length log ≡ length log′
-  pub sound : Sound (runBy plan scripts log)
-  pub sound′ : Sound (runBy plan scripts′ log′)
 
 module _ {plan : Plan} {Named Kept : ℕ → Type 0} {scripts scripts′ log log′ : List ℕ}
     (c : Comparing plan Named Kept scripts scripts′ log log′) where
@@ -49,9 +47,9 @@ module _ {plan : Plan} {Named Kept : ℕ → Type 0} {scripts scripts′ log log
       → Paired plan quota Named Kept running (worldAfter one count) (worldAfter other count′) (worldAfter one (suc count))
       (worldAfter other (suc count′))
   both-next running count count′ named runs lock =
-      rw (next-world one (c .watched) quota refl (c .sound) count, next-world other (c .watched) quota quota-other (c .sound′) count′)
+      rw (next-world one (c .watched) quota refl count, next-world other (c .watched) quota quota-other count′)
       (locked-step plan quota Named (c .watched .possible) (c .watched .declared) scripts scripts′ (c .agree)
-      (c .watched .to) running (worldAfter one count) (worldAfter other count′) named runs (c .sound .whole count) (c .sound′ .whole count′)
+      (c .watched .to) running (worldAfter one count) (worldAfter other count′) named runs (whole one (c .watched .possible) count) (whole other (c .watched .possible) count′)
       lock)
 
   -- a switch completes a window
@@ -75,7 +73,7 @@ module _ {plan : Plan} {Named Kept : ℕ → Type 0} {scripts scripts′ log log
     pub lockstep : (more : ℕ) → windowsAfter one (start + more) ≡ window → LockedAt (ownerOf plan window) (start + more) (start′ + more)
     lockstep zero there = rw (add-zero start, add-zero start′) lock
     lockstep (suc more) there =
-        let earlier = lasts one window start more here there in
+        let earlier = lasts one (c .watched .possible) window start more here there in
         rw (add-suc start more, add-suc start′ more)
         (go earlier (both-next (ownerOf plan window) (start + more) (start′ + more) named (ap (ownerOf plan) earlier) (lockstep more earlier)))
       where
@@ -103,7 +101,7 @@ module _ {plan : Plan} {Named Kept : ℕ → Type 0} {scripts scripts′ log log
 
         go : Dec (last < last′) → Dec (last′ < last) → last ≡ last′
         go (yes h) d =
-            absurd (omega (arith, past, in-other, no-fewer-by other (suc (start′ + last)) (start′ + last′) (omega arith)))
+            absurd (omega (arith, past, in-other, no-fewer other (c .watched .possible) (suc (start′ + last)) (start′ + last′) (omega arith)))
         go (no h) (yes h′) =
             absurd
             (omega (
@@ -111,6 +109,6 @@ module _ {plan : Plan} {Named Kept : ℕ → Type 0} {scripts scripts′ log log
               past-other,
               at-last .close .windows,
               in-one,
-              no-fewer-by other (suc (start′ + last′)) (start′ + last) (omega arith),
+              no-fewer other (c .watched .possible) (suc (start′ + last′)) (start′ + last) (omega arith),
             ))
         go (no h) (no h′) = omega arith

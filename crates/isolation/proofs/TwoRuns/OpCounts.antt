@@ -7,6 +7,7 @@ use native.Mathlib.Numerals.{add-one}
 use native.Mathlib.Omega.{arith}
 use borrow.Author.Tests.{eq-eqb, lt-ltb, ne-eqb}
 use lib.Dec.{eqb, ltb}
+use Rattle.plan.specs.Possible.{planPossible}
 use Rattle.plan.specs.Windows.{windowsTotal}
 use Rattle.isolation.specs.Points.{Run, Starts, opsOf, windowsAfter}
 use Rattle.isolation.proofs.TwoRuns.Progress.{lasts, no-fewer}
@@ -24,7 +25,7 @@ not-still false begun still e = refl
 all-three : (room begun still : Bool) → room ≡ true → begun ≡ true → still ≡ true → _≡_ {A = ℕ} (cond (room && begun && still) 1 0) 1
 all-three room begun still e f g = rw (e, f, g)
 
-module _ (run : Run) (window : ℕ) where
+module _ (run : Run) (possible : planPossible (run .plan) ≡ true) (window : ℕ) where
   module _ (count : ℕ) where
     before-or-after : (windowsAfter run count ≡ window → ⊥) → opsOf run window (suc count) ≡ opsOf run window count
     unfolding opsOf
@@ -64,14 +65,14 @@ module _ (run : Run) (window : ℕ) where
       → windowsAfter run (start + count) ≡ window → opsOf run window (start + count) ≡ count
   ops-so-far start s inRun zero here = rw add-zero (none-so-far start (s .first))
   ops-so-far start s inRun (suc count) here =
-      let before = lasts run window start count (s .reached) here in
+      let before = lasts run possible window start count (s .reached) here in
       rw add-suc (within-it (start + count) inRun before (rw add-suc at here) ∙ ap suc (ops-so-far start s inRun count before))
 
   -- after its switch there are no more
   no-more : (count more : ℕ) → window < windowsAfter run count → opsOf run window (count + more) ≡ opsOf run window count
   no-more count zero past = rw add-zero
   no-more count (suc more) past =
-      rw add-suc (before-or-after (count + more) (λ e. omega (arith, no-fewer run count more)) ∙ no-more count more past)
+      rw add-suc (before-or-after (count + more) (λ e. omega (arith, no-fewer run possible count (count + more) (omega arith))) ∙ no-more count more past)
 
   -- a completed window
   pub ops-in-all : (start : ℕ) → Starts run window start → window < windowsTotal (run .plan) → (last count : ℕ)

@@ -9,6 +9,7 @@ use Rattle.lists.proofs.Agree.{Agree, agree-fewer, agree-refl, set-alike, set-a
 use Rattle.plan.specs.declared.Plan.{Plan}
 use Rattle.plan.specs.Possible.{planPossible}
 use Rattle.script.specs.declared.Op.{Op}
+use Rattle.script.proofs.Laws.{Within}
 use Rattle.cache.specs.Lines.{tableLength}
 use Rattle.machine.specs.Ops.{boxPlace}
 use Rattle.machine.specs.Steps.{opStepOf}
@@ -17,7 +18,7 @@ use Rattle.machine.specs.World.{World, recordsAt}
 use Rattle.isolation.specs.Statement.{Only}
 use Rattle.isolation.proofs.TwoRuns.Flush.{flush-alike, flush-away}
 use Rattle.isolation.proofs.TwoRuns.Log.{raised, stored-alike, stored-away}
-use Rattle.isolation.proofs.TwoRuns.Ops.{Receivable, effect-alike, effect-away}
+use Rattle.isolation.proofs.TwoRuns.Ops.{effect-alike, effect-away}
 use Rattle.isolation.proofs.TwoRuns.Places.{FlushedPlace, OwnPlace, WorkPlace, flushed, own, own-unflushed, own-untouched}
 use Rattle.isolation.proofs.TwoRuns.Relations.{Alike, Close, same-records}
 
@@ -44,7 +45,7 @@ module _ (plan : Plan) (quota domain : ℕ) where
   -- ---- its own op
 
   module _ {Kept : ℕ → Type 0} (to : (sender : ℕ) → sender < 8 → Kept (boxPlace sender domain)) where
-    pub op-alike : {one other : World} (op : Op) → Receivable op → Whole one → Close plan quota domain Kept one other
+    pub op-alike : {one other : World} (op : Op) → Within op → Whole one → Close plan quota domain Kept one other
         → Close plan quota domain Kept (opStepOf plan quota domain op one) (opStepOf plan quota domain op other)
     unfolding opStepOf
     op-alike {one} {other} op good whole a =

@@ -4,12 +4,14 @@ use Prim.Native.Nat.{ℕ, _+_, _<_}
 use mathlib.Core.Bool.{Bool, true, false, cond}
 use mathlib.Core.List.{List}
 use mathlib.Core.Path.{_≡_, refl, sym, ap, ap₂, _∙_}
+use native.Mathlib.Omega.{arith}
 use lib.ListN.{length}
 use Rattle.lists.proofs.Agree.{Agree, agree-fewer, agree-refl, agree-trans, set-alike}
 use Rattle.plan.specs.declared.Plan.{Plan}
 use Rattle.plan.specs.Rights.{maySend}
 use Rattle.script.specs.declared.Op.{Op}
 use Rattle.script.specs.declared.Op.the-variants.{Read, Write, Send, Receive, Compute}
+use Rattle.script.proofs.Laws.{Within}
 use Rattle.cache.specs.declared.Found.{Found}
 use Rattle.cache.specs.Access.{accessOf}
 use Rattle.cache.specs.Lines.{tableLength}
@@ -17,14 +19,6 @@ use Rattle.machine.specs.declared.Seen.{Seen}
 use Rattle.machine.specs.Ops.{Effect, boxLine, boxPlace, boxSeen, computeOf, deniedOf, effectOf, fullBox, gateLine, ownsLine, passedOf, receiveOf, seenOf, sendOf, touchOf}
 use Rattle.isolation.proofs.TwoRuns.Access.{AccessAlike, access-alike, access-away}
 use Rattle.isolation.proofs.TwoRuns.Places.{WorkPlace, box-line, gate-line, own-line}
-
--- an op that a script can hold receives from one of the eight domains
-abbrev pub Receivable : Op → Type 0
-Receivable (Read line) = Unit {0}
-Receivable (Write line) = Unit {0}
-Receivable (Send recipient word) = Unit {0}
-Receivable (Receive sender) = sender < 8
-Receivable (Compute ticks) = Unit {0}
 
 -- an access leaves a whole table whole
 access-whole : (writes : Bool) (line : ℕ) (table : List ℕ) → length table ≡ tableLength → length (accessOf writes line table .table) ≡ tableLength
@@ -112,13 +106,13 @@ module _ (plan : Plan) (domain : ℕ) where
               (set-alike (boxPlace sender domain) 0 (agree-fewer (λ place p. p .0) kept)))
           go false e = rw e (denied-alike sender kept)
 
-      pub effect-alike : (op : Op) {boxes boxes′ : List ℕ} → Receivable op → ((sender : ℕ) → sender < 8 → Kept (boxPlace sender domain))
+      pub effect-alike : (op : Op) {boxes boxes′ : List ℕ} → Within op → ((sender : ℕ) → sender < 8 → Kept (boxPlace sender domain))
           → Agree Kept boxes boxes′ → EffectAlike Kept (effectOf plan domain op one boxes) (effectOf plan domain op other boxes′)
-      unfolding effectOf computeOf
+      unfolding effectOf computeOf Within
       effect-alike (Read line) good to kept = touch-alike false line kept
       effect-alike (Write line) good to kept = touch-alike true line kept
       effect-alike (Send recipient word) good to kept = send-alike recipient word kept
-      effect-alike (Receive sender) good to kept = receive-alike sender (to sender good) kept
+      effect-alike (Receive sender) good to kept = receive-alike sender (to sender (omega arith)) kept
       effect-alike (Compute ticks) good to kept = record { ticks = refl; seen = refl; cache = tables; boxes = kept }
 
   -- ---- in one: the places that the op does not touch

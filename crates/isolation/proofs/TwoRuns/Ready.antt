@@ -20,7 +20,7 @@ use Rattle.isolation.proofs.TwoRuns.OpStep.{switch-flushed}
 use Rattle.isolation.proofs.TwoRuns.Places.{FlushedPlace}
 use Rattle.isolation.proofs.TwoRuns.Progress.{first-start}
 use Rattle.isolation.proofs.TwoRuns.Relations.{Alike}
-use Rattle.isolation.proofs.TwoRuns.Windows.{Completed, clock-at-start, completed, stays-near}
+use Rattle.isolation.proofs.TwoRuns.Windows.{Completed, OnTime, clock-at-start, completed, stays-near, whole}
 
 -- at a window's start
 pub record Ready (plan : Plan) (quota : ℕ) (Named : ℕ → Type 0) (one other : World) : Type 0 where
@@ -73,6 +73,12 @@ module _ {plan : Plan} {Named Kept : ℕ → Type 0} {scripts scripts′ log log
       → at′ ≤ count′
       → Agree Kept (worldAfter (one c) at .boxes) (worldAfter (other c) at′ .boxes)
 
+  -- what is given of two points: their windows so far started on time, and the kept boxes were equal
+  pub record Given (count count′ : ℕ) : Type 0 where
+    pub onTime : OnTime (one c) count
+    pub onTime′ : OnTime (other c) count′
+    pub boxes : BoxesKept count count′
+
   -- a named domain's window may begin
   pub locked : (window at at′ : ℕ) → Named (ownerOf plan window) → Starts (one c) window at → Starts (other c) window at′ → ReadyAt at at′
       → Agree Kept (worldAfter (one c) at .boxes) (worldAfter (other c) at′ .boxes) → LockedAt c (ownerOf plan window) at at′
@@ -99,11 +105,11 @@ module _ {plan : Plan} {Named Kept : ℕ → Type 0} {scripts scripts′ log log
   stays-near-both window at at′ more more′ unnamed s here s′ here′ near =
       near-both plan (quota c) Named (worldAfter (one c) at) (worldAfter (other c) at′) (worldAfter (one c) (at + more))
       (worldAfter (other c) (at′ + more′)) near
-      (stays-near (one c) (c .watched) (quota c) refl (c .sound) window at unnamed (s .reached) more here)
-      (stays-near (other c) (c .watched) (quota c) (quota-other c) (c .sound′) window at′ unnamed (s′ .reached) more′ here′)
+      (stays-near (one c) (c .watched) (quota c) refl window at unnamed (s .reached) more here)
+      (stays-near (other c) (c .watched) (quota c) (quota-other c) window at′ unnamed (s′ .reached) more′ here′)
 
   -- a window that is completed in both: a named domain's after as many ops, and near at its switch
-  module _ (window next next′ : ℕ) (p : Completed (one c) (c .sound) window next) (p′ : Completed (other c) (c .sound′) window next′)
+  module _ (window next next′ : ℕ) (p : Completed (one c) window next) (p′ : Completed (other c) window next′)
       (ready : ReadyAt (p .at) (p′ .at)) where
     pub as-many : (named : Named (ownerOf plan window))
         → Agree Kept (worldAfter (one c) (p .at) .boxes) (worldAfter (other c) (p′ .at) .boxes)
@@ -124,37 +130,39 @@ module _ {plan : Plan} {Named Kept : ℕ → Type 0} {scripts scripts′ log log
     near-switches (no unnamed) kept =
         stays-near-both window (p .at) (p′ .at) (p .more) (p′ .more) unnamed (p .starts) (p .within) (p′ .starts) (p′ .within) (ready .near)
 
-  ready-next : (window next next′ : ℕ) → Starts (one c) (suc window) next → Starts (other c) (suc window) next′
-      → (p : Completed (one c) (c .sound) window next) (p′ : Completed (other c) (c .sound′) window next′)
-      → NearAt (p .at + p .more) (p′ .at + p′ .more) → ReadyAt next next′
-  ready-next window next next′ s s′ p p′ near =
+  ready-next : (window next next′ : ℕ) (p : Completed (one c) window next) (p′ : Completed (other c) window next′)
+      → NearAt (p .at + p .more) (p′ .at + p′ .more)
+      → worldAfter (one c) next .state .clock ≡ worldAfter (other c) next′ .state .clock
+      → ReadyAt next next′
+  ready-next window next next′ p p′ near clock =
       let last = worldAfter (one c) (p .at + p .more) in
       let last′ = worldAfter (other c) (p′ .at + p′ .more) in
-      let whole = c .sound .whole (p .at + p .more) in
-      let whole′ = c .sound′ .whole (p′ .at + p′ .more) in
       let w = c .watched in
+      let full = whole (one c) (w .possible) (p .at + p .more) in
+      let full′ = whole (other c) (w .possible) (p′ .at + p′ .more) in
       record {
         near =
             rw (p .switched, p′ .switched)
             (near-both plan (quota c) Named last last′ (switchOf plan last) (switchOf plan last′) near
-            (near-switch plan (quota c) Named (w .possible) (w .declared) last whole)
-            (near-switch plan (quota c) Named (w .possible) (w .declared) last′ whole′));
-        clock =
-            clock-at-start (one c) (c .sound) (suc window) next s ∙ sym (clock-at-start (other c) (c .sound′) (suc window) next′ s′);
-        flushed = rw (p .switched, p′ .switched) (switch-flushed plan last last′ whole whole′);
+            (near-switch plan (quota c) Named (w .possible) (w .declared) last full)
+            (near-switch plan (quota c) Named (w .possible) (w .declared) last′ full′));
+        clock = clock;
+        flushed = rw (p .switched, p′ .switched) (switch-flushed plan last last′ full full′);
       }
 
-  pub ready : (count count′ : ℕ) → BoxesKept count count′ → (window at at′ : ℕ) → Starts (one c) window at → at ≤ count
+  pub ready : (count count′ : ℕ) → Given count count′ → (window at at′ : ℕ) → Starts (one c) window at → at ≤ count
       → Starts (other c) window at′ → at′ ≤ count′ → ReadyAt at at′
   unfolding worldAfter steps
-  ready count count′ boxes zero at at′ s h s′ h′ =
+  ready count count′ given zero at at′ s h s′ h′ =
       rw (first-start (one c) at s, first-start (other c) at′ s′) (fresh-ready plan (quota c) Named log log′ (c .logs))
-  ready count count′ boxes (suc window) at at′ s h s′ h′ =
-      let p = completed (one c) (c .sound) window at s in
-      let p′ = completed (other c) (c .sound′) window at′ s′ in
+  ready count count′ given (suc window) at at′ s h s′ h′ =
+      let p = completed (one c) (c .watched .possible) count (given .onTime) window at h s in
+      let p′ = completed (other c) (c .watched .possible) count′ (given .onTime′) window at′ h′ s′ in
       let soFar : p .at ≤ count = omega (arith, p .follows) in
       let soFar′ : p′ .at ≤ count′ = omega (arith, p′ .follows) in
-      let start = ready count count′ boxes window (p .at) (p′ .at) (p .starts) soFar (p′ .starts) soFar′ in
-      ready-next window at at′ s s′ p p′
+      let start = ready count count′ given window (p .at) (p′ .at) (p .starts) soFar (p′ .starts) soFar′ in
+      ready-next window at at′ p p′
       (near-switches window at at′ p p′ start (c .watched .isNamed (ownerOf plan window))
-      (λ named. boxes window (p .at) (p′ .at) (p .room) named (p .starts) soFar (p′ .starts) soFar′))
+      (λ named. given .boxes window (p .at) (p′ .at) (p .room) named (p .starts) soFar (p′ .starts) soFar′))
+      (clock-at-start (one c) (c .watched .possible) count (given .onTime) (suc window) at h s
+      ∙ sym (clock-at-start (other c) (c .watched .possible) count′ (given .onTime′) (suc window) at′ h′ s′))

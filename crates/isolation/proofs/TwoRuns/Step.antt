@@ -1,29 +1,29 @@
 -- One step. In a domain's own window two worlds that are the same for it both do the same op or both switch; in another's window a step keeps what
 -- the domain has outside its windows. Assumes nothing.
 use Prim.Native.Nat.{ℕ, _+_, _*_, _<_}
-use mathlib.Core.Bool.{Bool, true, false, _||_}
+use mathlib.Core.Bool.{Bool, true, false, cond, _||_}
 use mathlib.Core.List.{List}
 use mathlib.Core.Path.{_≡_, refl, sym, ap, _∙_}
-use borrow.Author.Tests.{leb-false}
-use lib.Dec.{leb}
+use borrow.Author.Tests.{ltb-true}
+use lib.Dec.{leb, ltb}
 use lib.ListN.{getD}
 use Rattle.plan.specs.declared.Plan.{Plan}
 use Rattle.plan.specs.Possible.{planPossible}
 use Rattle.plan.proofs.Windows.{owner-declared}
 use Rattle.plan.specs.Windows.{endOf, ownerOf, windowsTotal}
-use Rattle.script.specs.declared.Op.{Op}
 use Rattle.script.specs.declared.Fetched.{Fetched}
 use Rattle.script.specs.declared.Fetched.the-variants.{Op as Fetch, End}
+use Rattle.script.specs.Fetch.{decodeOf, fetchOf}
 use Rattle.machine.specs.Ops.{boxPlace}
 use Rattle.machine.specs.Steps.{activeStep, closedOf, fetchedStep, nextOf, opStepOf, stepOf}
 use Rattle.machine.specs.Switch.{switchOf}
-use Rattle.machine.specs.World.{World, endedOf, positionAt, recordsAt, runningOf}
-use Rattle.isolation.proofs.TwoRuns.Fetch.{Fetchable, fetch-alike, fetched, receivable}
+use Rattle.machine.specs.World.{World, endedOf, positionAt, runningOf}
+use Rattle.machine.proofs.Reached.Fetched.{fetched-within}
+use Rattle.machine.proofs.Reached.Invariant.{step-cases}
 use Rattle.isolation.proofs.TwoRuns.OpStep.{Whole, op-alike, op-away, switch-away}
 use Rattle.isolation.proofs.TwoRuns.Relations.{Alike, Close, alike-refl, same-position, same-records}
 
--- ---- what a step does, by what it tests
-
+-- what a step does, by what it tests: two worlds that pass the same tests take the same branch
 module _ (plan : Plan) (quota : ℕ) where
   stepBy : Bool → Bool → Fetched → World → World
   stepBy true closed next world = world
@@ -48,38 +48,18 @@ module _ (plan : Plan) (quota : ℕ) where
       go false false (Fetch op) = refl
       go false false End = refl
 
--- one world: it stays, switches, or does an op of the running domain, whose part of the log has room
-pub data Stepped (plan : Plan) (quota : ℕ) (world next : World) : Type 0 where
-  stays : endedOf plan (world .state) ≡ true → next ≡ world → Stepped plan quota world next
-  switches : endedOf plan (world .state) ≡ false → next ≡ switchOf plan world → Stepped plan quota world next
-  runs : (op : Op) → endedOf plan (world .state) ≡ false → recordsAt (world .state) (runningOf plan (world .state)) < quota
-      → next ≡ opStepOf plan quota (runningOf plan (world .state)) op world → Stepped plan quota world next
-
-or-right : (a b : Bool) → a || b ≡ false → b ≡ false
-or-right true b e = cc
-or-right false b e = e
-
-has-room : (plan : Plan) (quota : ℕ) (world : World) → closedOf plan quota (world .state) ≡ false
-    → recordsAt (world .state) (runningOf plan (world .state)) < quota
-unfolding closedOf
-has-room plan quota world notClosed =
-    let count = recordsAt (world .state) (runningOf plan (world .state)) in
-    leb-false quota count (or-right (leb (endOf plan (world .state .windows)) (world .state .clock)) (leb quota count) notClosed)
-
-pub stepped : (plan : Plan) (scripts : List ℕ) (quota : ℕ) (world : World) → Stepped plan quota world (stepOf plan scripts quota world)
-unfolding stepBy
-stepped plan scripts quota world =
-    rw (step-by plan quota scripts world)
-    (go (endedOf plan (world .state)) (closedOf plan quota (world .state)) (nextOf plan scripts (world .state)) refl refl)
-  where
-    go : (ended closed : Bool) (next : Fetched) → endedOf plan (world .state) ≡ ended → closedOf plan quota (world .state) ≡ closed
-        → Stepped plan quota world (stepBy plan quota ended closed next world)
-    go true closed next e c = stays e refl
-    go false true next e c = switches e refl
-    go false false (Fetch op) e c = runs op e (has-room plan quota world c) refl
-    go false false End e c = switches e refl
-
 -- ---- two worlds in the domain's own window
+
+-- what stands next, in stores that agree on the domain's numbers
+fetch-alike : (one other : List ℕ) (domain position : ℕ)
+    → ((place : ℕ) → place < 256 → getD one (256 * domain + place) 0 ≡ getD other (256 * domain + place) 0)
+    → fetchOf one domain position ≡ fetchOf other domain position
+unfolding fetchOf
+fetch-alike one other domain position same = go (ltb position 256) refl
+  where
+    go : (within : Bool) → ltb position 256 ≡ within → fetchOf one domain position ≡ fetchOf other domain position
+    go true e = ap (λ (n : ℕ). cond (ltb position 256) (decodeOf n) End) (same position (ltb-true position 256 e))
+    go false e = rw e
 
 -- both did an op and are as before, or both switched
 pub data Together (plan : Plan) (quota domain : ℕ) (Kept : ℕ → Type 0) (one other next next′ : World) : Type 0 where
@@ -115,23 +95,24 @@ module _ (plan : Plan) (quota domain : ℕ) {Kept : ℕ → Type 0} (to : (sende
   unfolding stepBy
   step-alike scripts scripts′ same whole =
       rw (step-by plan quota scripts one, step-by plan quota scripts′ other, ← same-ended, ← same-closed, ← (same-next scripts scripts′ same))
-      (go (endedOf plan (one .state)) (closedOf plan quota (one .state)) (nextOf plan scripts (one .state)) (fetched scripts _ _))
+      (go (endedOf plan (one .state)) (closedOf plan quota (one .state)) (nextOf plan scripts (one .state)) refl)
     where
-      go : (ended closed : Bool) (next : Fetched) → Fetchable next
+      go : (ended closed : Bool) (next : Fetched) → nextOf plan scripts (one .state) ≡ next
           → Together plan quota domain Kept one other (stepBy plan quota ended closed next one) (stepBy plan quota ended closed next other)
-      go true closed next good = still a
-      go false true next good = both refl refl
-      go false false (Fetch op) good = rw (running, same-running) (still (op-alike plan quota domain to op (receivable good) whole a))
-      go false false End good = both refl refl
+      go true closed next e = still a
+      go false true next e = both refl refl
+      go false false (Fetch op) e =
+          rw (running, same-running)
+          (still (op-alike plan quota domain to op (fetched-within scripts _ (positionAt (one .state) _) op e) whole a))
+      go false false End e = both refl refl
 
 -- ---- one world in another's window
 
 pub step-away : (plan : Plan) (scripts : List ℕ) (quota domain : ℕ) (world : World) → planPossible plan ≡ true → domain < plan .domains
     → (domain ≡ runningOf plan (world .state) → ⊥) → Whole world
     → Alike plan quota domain world (stepOf plan scripts quota world)
-step-away plan scripts quota domain world possible declared other whole = go (stepped plan scripts quota world)
-  where
-    go : {next : World} → Stepped plan quota world next → Alike plan quota domain world next
-    go (stays e n) = rw n (alike-refl plan quota domain world)
-    go (switches e n) = rw n (switch-away plan quota domain possible declared world whole)
-    go (runs op e room n) = rw n (op-away plan quota domain possible declared _ op world (owner-declared plan (world .state .windows) possible) other whole room)
+step-away plan scripts quota domain world possible declared other whole =
+    step-cases plan scripts quota world (Alike plan quota domain world) (λ ended. alike-refl plan quota domain world)
+    (λ room. switch-away plan quota domain possible declared world whole)
+    (λ op begins.
+    op-away plan quota domain possible declared _ op world (owner-declared plan (world .state .windows) possible) other whole (begins .room))
