@@ -1,3 +1,4 @@
 -- What is proved of lists of calls.
 pub mod OneRun
 pub mod TwoRuns
+pub mod Isolation
