@@ -2,3 +2,4 @@
 pub mod OneRun
 pub mod TwoRuns
 pub mod Isolation
+pub mod Examples
