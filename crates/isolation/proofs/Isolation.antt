@@ -75,7 +75,7 @@ module _ (observer : ℕ) (one other : CallList) (is : IsList one) (is′ : IsLi
   same-log =
       log-after one is observer (c .declared)
       ∙ same .log
-      ∙ (λ i. logPart (partRecords (c .plans i) (c .logs i)) observer (same .records i) (world′ .log))
+      ∙ (λ i. logPart (partRecords (c .plans i) (c .logs i)) observer (recordsAt (world′ .state) observer) (world′ .log))
       ∙ sym (log-after other is′ observer declared′)
 
   isolated : SameSeen observer one other

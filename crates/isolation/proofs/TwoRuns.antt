@@ -63,7 +63,7 @@ pub record Same (observer : ℕ) (one : Run) (count : ℕ) (other : Run) (count�
   pub log :
       logPart (partRecords (one .plan) (length (one .log))) observer (recordsAt (worldAfter one count .state) observer)
       (worldAfter one count .log)
-      ≡ logPart (partRecords (one .plan) (length (one .log))) observer (recordsAt (worldAfter one count .state) observer)
+      ≡ logPart (partRecords (one .plan) (length (one .log))) observer (recordsAt (worldAfter other count′ .state) observer)
       (worldAfter other count′ .log)
   pub position : positionAt (worldAfter one count .state) observer ≡ positionAt (worldAfter other count′ .state) observer
   pub sets : SameSets (one .plan) observer (worldAfter one count .cache) (worldAfter other count′ .cache)
@@ -93,6 +93,7 @@ module _ (observer : ℕ) (plan : Plan) (scripts scripts′ log log′ : List �
         logs = compared .logs;
       }
 
+  -- equal boxes to the observer are boxes that agree, since they are as many
   kept : BoxesKept comparing count count′
   unfolding worldAfter freshWorld
   kept window at at′ room owner s soFar s′ soFar′ =
@@ -123,7 +124,9 @@ module _ (observer : ℕ) (plan : Plan) (scripts scripts′ log log′ : List �
       let near = near-here comparing count count′ given windows as-many observer refl in
       record {
         records = same-records plan quota observer near;
-        log = part-of-log quota observer _ few (near .log);
+        log =
+            part-of-log quota observer _ few (near .log)
+            ∙ ap (λ (number : ℕ). logPart quota observer number (worldAfter (runBy plan scripts′ log′) count′ .log)) (same-records plan quota observer near);
         position = same-position plan quota observer near;
         sets = λ set way inTable inSet owns. near .sets .at _ (own-set plan observer set way inSet owns);
         ops = λ window past owner. same-ops comparing count count′ given window past (rw (← windows) past) owner;

@@ -19,7 +19,7 @@ use Rattle.isolation.specs.Statement.{Only}
 use Rattle.isolation.proofs.TwoRuns.Flush.{flush-alike, flush-away}
 use Rattle.isolation.proofs.TwoRuns.Log.{raised, stored-alike, stored-away}
 use Rattle.isolation.proofs.TwoRuns.Ops.{effect-alike, effect-away}
-use Rattle.isolation.proofs.TwoRuns.Places.{FlushedPlace, OwnPlace, WorkPlace, flushed, own, own-unflushed, own-untouched}
+use Rattle.isolation.proofs.TwoRuns.Places.{FlushedPlace, OwnPlace, WorkPlace, flushed, own, own-between, own-untouched}
 use Rattle.isolation.proofs.TwoRuns.Relations.{Alike, Close, same-records}
 
 -- the cache table has all its numbers
@@ -91,7 +91,7 @@ module _ (plan : Plan) (quota domain : ℕ) where
         record {
           positions = agree-refl _ _;
           records = agree-refl _ _;
-          sets = flush-away (world .cache) whole (λ place. own-unflushed plan possible domain place declared);
+          sets = flush-away (world .cache) whole (λ place. own-between plan possible domain place declared);
           log = agree-refl _ _;
         }
 

@@ -3,7 +3,7 @@
 use Prim.Native.Nat.{ℕ, _+_, _<_}
 use mathlib.Core.Bool.{Bool, true, false, cond}
 use mathlib.Core.List.{List}
-use mathlib.Core.Path.{_≡_, refl, sym, ap, ap₂, _∙_}
+use mathlib.Core.Path.{_≡_, refl, ap, ap₂, _∙_}
 use native.Mathlib.Omega.{arith}
 use lib.ListN.{length}
 use Rattle.lists.proofs.Agree.{Agree, agree-fewer, agree-refl, agree-trans, set-alike}
@@ -15,15 +15,11 @@ use Rattle.script.proofs.Laws.{Within}
 use Rattle.cache.specs.declared.Found.{Found}
 use Rattle.cache.specs.Access.{accessOf}
 use Rattle.cache.specs.Lines.{tableLength}
+use Rattle.cache.proofs.Laws.{access-length}
 use Rattle.machine.specs.declared.Seen.{Seen}
 use Rattle.machine.specs.Ops.{Effect, boxLine, boxPlace, boxSeen, computeOf, deniedOf, effectOf, fullBox, gateLine, ownsLine, passedOf, receiveOf, seenOf, sendOf, touchOf}
 use Rattle.isolation.proofs.TwoRuns.Access.{AccessAlike, access-alike, access-away}
 use Rattle.isolation.proofs.TwoRuns.Places.{WorkPlace, box-line, gate-line, own-line}
-
--- an access leaves a whole table whole
-access-whole : (writes : Bool) (line : ℕ) (table : List ℕ) → length table ≡ tableLength → length (accessOf writes line table .table) ≡ tableLength
-access-whole writes line table whole =
-    sym (access-away {Place = λ (place : ℕ). ⊥} writes line table whole (λ place h p. p) .len) ∙ whole
 
 module _ (plan : Plan) (domain : ℕ) where
   -- ---- in two worlds
@@ -71,7 +67,7 @@ module _ (plan : Plan) (domain : ℕ) where
       passed-alike sender recipient shown kept =
           let access =
           access-alike true (boxLine sender recipient) (box-line plan domain sender recipient)
-          (access-whole false gateLine one whole) (gate-alike .table)
+          (access-length false gateLine one ∙ whole) (gate-alike .table)
           in
           record {
             ticks = ap₂ (λ (n m : ℕ). 5 + n + m) (gate-alike .ticks) (access .ticks);
@@ -135,7 +131,7 @@ module _ (plan : Plan) (domain : ℕ) where
     unfolding passedOf
     passed-away seen sender recipient boxes =
         agree-trans gate-away
-        (access-away true (boxLine sender recipient) _ (access-whole false gateLine table whole)
+        (access-away true (boxLine sender recipient) _ (access-length false gateLine table ∙ whole)
         (λ place h p. untouched place p (box-line plan domain sender recipient place h)))
 
     -- a send or a receive, whatever the rights say

@@ -74,12 +74,13 @@ box-line plan domain sender recipient place = kernel-line plan domain (boxLine s
 -- ---- apart
 
 module _ (plan : Plan) (possible : planPossible plan ≡ true) (domain place : ℕ) (declared : domain < plan .domains) where
-  -- a domain's part is neither flushed nor touched in another's window
-  pub own-unflushed : OwnPlace plan domain place → FlushedPlace place → ⊥
-  own-unflushed p (kernel h) = omega (arith, owned-below plan domain _ possible declared (p .owned))
-  own-unflushed p (l1 h) = omega arith
+  -- a domain's part lies between L1 and the kernel's sets
+  pub own-between : OwnPlace plan domain place → (indexes ≤ place) × (place < kernelPlace)
+  own-between p = (p .inL2, omega (arith, owned-below plan domain _ possible declared (p .owned)))
 
+  -- and is not touched in another's window
   pub own-untouched : (running : ℕ) → running < plan .domains → (domain ≡ running → ⊥)
       → OwnPlace plan domain place → WorkPlace plan running place → ⊥
   own-untouched running there other p (own q) = masks-disjoint plan domain running _ possible declared there other (p .owned) (q .owned)
-  own-untouched running there other p (flushed q) = own-unflushed p q
+  own-untouched running there other p (flushed (kernel h)) = omega (arith, own-between p .1)
+  own-untouched running there other p (flushed (l1 h)) = omega arith

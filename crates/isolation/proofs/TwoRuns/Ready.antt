@@ -3,15 +3,15 @@
 use Prim.Native.Nat.{ℕ, zero, suc, _+_, _≤_, _<_}
 use mathlib.Core.List.{List}
 use mathlib.Core.Path.{_≡_, refl, sym, _∙_}
-use native.Mathlib.Decide.{decLt}
 use native.Mathlib.Omega.{arith}
-use lib.ListN.{List·getD-eq-default, getD, getD-replicate, length, length-replicate, replicate}
+use lib.ListN.{length}
 use Rattle.lists.proofs.Agree.{Agree, agree-refl}
 use Rattle.plan.specs.declared.Plan.{Plan}
 use Rattle.plan.specs.Windows.{ownerOf, windowsTotal}
 use Rattle.machine.specs.Steps.{steps}
 use Rattle.machine.specs.Switch.{switchOf}
 use Rattle.machine.specs.World.{World, freshState}
+use Rattle.machine.proofs.Reached.Cells.{cell-zeros}
 use Rattle.engine.specs.FreshStart.{freshWorld}
 use Rattle.isolation.specs.Points.{Starts, windowsAfter, worldAfter}
 use Rattle.isolation.proofs.TwoRuns.Lockstep.{Comparing, LockedAt, lockstep, one, other, quota, quota-other, same-end}
@@ -30,13 +30,6 @@ pub record Ready (plan : Plan) (quota : ℕ) (Named : ℕ → Type 0) (one other
 
 -- ---- a fresh start
 
-zeros : (count place : ℕ) → _≡_ {A = ℕ} (getD (replicate count 0) place 0) 0
-zeros count place = go (decLt place count)
-  where
-    go : Dec (place < count) → _≡_ {A = ℕ} (getD (replicate count 0) place 0) 0
-    go (yes h) = getD-replicate count place 0 0 h
-    go (no h) = List·getD-eq-default (replicate count 0) 0 (rw (length-replicate {A = ℕ} count 0) (omega arith))
-
 fresh-ready : (plan : Plan) (quota : ℕ) (Named : ℕ → Type 0) (log log′ : List ℕ) → length log ≡ length log′
     → Ready plan quota Named (freshWorld log) (freshWorld log′)
 unfolding freshWorld freshState
@@ -48,7 +41,7 @@ fresh-ready plan quota Named log log′ same = record { near = alike; clock = re
           positions = agree-refl _ _;
           records = agree-refl _ _;
           sets = agree-refl _ _;
-          log = record { len = same; at = λ place p. absurd (omega (arith, p .from, p .recorded, zeros 8 domain)) };
+          log = record { len = same; at = λ place p. absurd (omega (arith, p .from, p .recorded, cell-zeros 8 domain)) };
         }
 
 -- ---- every window

@@ -1,5 +1,5 @@
--- The windows of two runs of one plan. Each window starts at worlds that are the same for every named domain; a named domain's window then goes in
--- lockstep, and ends after as many ops; another's window leaves what the named ones have. Assumes nothing.
+-- The windows of one run: where each began, the switch that completed it, and the clock at its start; and that the window of a domain which is not named
+-- leaves what the named ones have. Assumes nothing.
 use Prim.Native.Nat.{ℕ, zero, suc, _+_, _-_, _≤_, _<_}
 use mathlib.Core.Bool.{true}
 use mathlib.Core.List.{List}
@@ -19,10 +19,11 @@ use Rattle.machine.proofs.Reached.{cache-length}
 use Rattle.engine.specs.FreshStart.{freshWorld}
 use Rattle.isolation.specs.Points.{Run, Starts, windowsAfter, worldAfter}
 use Rattle.isolation.specs.Statement.{StartedOnTime}
-use Rattle.isolation.proofs.TwoRuns.Near.{Near, near-refl, near-step, near-trans, switched}
+use Rattle.isolation.proofs.TwoRuns.Near.{Near, near-refl, near-step, near-trans}
 use Rattle.isolation.proofs.TwoRuns.OpStep.{Whole}
 use Rattle.isolation.proofs.TwoRuns.Progress.{before, lasts, no-fewer, one-more, one-start}
 
+-- a run by its parts
 abbrev pub runBy : Plan → List ℕ → List ℕ → Run
 runBy plan scripts log = record { plan = plan; scripts = scripts; log = log }
 
@@ -58,15 +59,18 @@ abbrev pub OnTime : Run → ℕ → Type 0
 OnTime run count = (window : ℕ) → window ≤ windowsAfter run count → StartedOnTime run count window
 
 module _ (run : Run) (possible : planPossible (run .plan) ≡ true) (count : ℕ) (onTime : OnTime run count) where
+  -- the start of a window that a point of the run has come to
   pub began : (window point : ℕ) → point ≤ count → window ≤ windowsAfter run point → Began run window point
   began window point soFar reached =
       let t = onTime window (omega (arith, no-fewer run possible point count soFar)) in
-      record { at = t .at; more = point - t .at; starts = t .starts; point = sym (add-sub-of-le (not-later (t .at) (t .starts) (decLt point (t .at)))) }
+      let earlier = not-later (t .at) (t .starts) (decLt point (t .at)) in
+      record { at = t .at; more = point - t .at; starts = t .starts; point = sym (add-sub-of-le earlier) }
     where
       not-later : (at : ℕ) → Starts run window at → Dec (point < at) → at ≤ point
       not-later at s (yes h) = absurd (omega (arith, s .first point h))
       not-later at s (no h) = omega arith
 
+  -- the window before one that has started
   pub completed : (window next : ℕ) → next ≤ count → Starts run (suc window) next → Completed run window next
   completed window next soFar s =
       let b = before run window next s in
