@@ -126,7 +126,8 @@ module _ (observer : ℕ) (plan : Plan) (scripts scripts′ log log′ : List �
         records = same-records plan quota observer near;
         log =
             part-of-log quota observer _ few (near .log)
-            ∙ ap (λ (number : ℕ). logPart quota observer number (worldAfter (runBy plan scripts′ log′) count′ .log)) (same-records plan quota observer near);
+            ∙ ap (λ (number : ℕ). logPart quota observer number (worldAfter (runBy plan scripts′ log′) count′ .log))
+            (same-records plan quota observer near);
         position = same-position plan quota observer near;
         sets = λ set way inTable inSet owns. near .sets .at _ (own-set plan observer set way inSet owns);
         ops = λ window past owner. same-ops comparing count count′ given window past (rw (← windows) past) owner;

@@ -49,8 +49,8 @@ module _ {plan : Plan} {Named Kept : ℕ → Type 0} {scripts scripts′ log log
   both-next running count count′ named runs lock =
       rw (next-world one (c .watched) quota refl count, next-world other (c .watched) quota quota-other count′)
       (locked-step plan quota Named (c .watched .possible) (c .watched .declared) scripts scripts′ (c .agree)
-      (c .watched .to) running (worldAfter one count) (worldAfter other count′) named runs (whole one (c .watched .possible) count) (whole other (c .watched .possible) count′)
-      lock)
+      (c .watched .to) running (worldAfter one count) (worldAfter other count′) named runs
+      (whole one (c .watched .possible) count) (whole other (c .watched .possible) count′) lock)
 
   -- a switch completes a window
   completes : (run : Run) (count : ℕ) → worldAfter run (suc count) ≡ switchOf plan (worldAfter run count)
