@@ -1,2 +1,5 @@
 -- What is proved of lists of calls.
 pub mod OneRun
+pub mod TwoRuns
+pub mod Isolation
+pub mod Examples

@@ -1,2 +1,2 @@
--- The laws on parts of tables that other crates cite.
+pub mod Agree
 pub mod Parts

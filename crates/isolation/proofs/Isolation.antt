@@ -1,0 +1,95 @@
+-- Demand 3: a list of calls leaves so many steps of its fresh start, its windows started when the plan alone says, and where two lists end at
+-- corresponding points a domain sees the same, whatever its rivals' scripts hold. Assumes nothing.
+use Prim.Native.Nat.{ℕ, _<_}
+use mathlib.Core.List.{List}
+use mathlib.Core.Path.{_≡_, sym, ap, subst, subst₂, _∙_}
+use lib.ListN.{length}
+use Rattle.plan.specs.declared.Plan.{Plan}
+use Rattle.machine.specs.declared.State.{State}
+use Rattle.machine.specs.Records.{logPart, partRecords}
+use Rattle.machine.specs.World.{World, positionAt, recordsAt}
+use Rattle.machine.proofs.Reached.{log-length}
+use Rattle.refusal.specs.declared.Verdict.{Verdict}
+use Rattle.refusal.specs.declared.Verdict.the-variants.{Accepted}
+use Rattle.engine.specs.Asking.{logCallOf, logFrom, logRefusalOf}
+use Rattle.engine.specs.FreshStart.{freshWorld}
+use Rattle.isolation.specs.Calls.{CallList, IsList, leavesOf, pointOf}
+use Rattle.isolation.specs.Points.{worldAfter}
+use Rattle.isolation.specs.Statement.{Comparable, Isolation, SameSeen, SameSets, runOfList}
+use Rattle.isolation.proofs.OneRun.{asked, leaves, on-time}
+use Rattle.isolation.proofs.OneRun.Leaves.{list-possible}
+use Rattle.isolation.proofs.TwoRuns.{Same, two-runs}
+
+-- what an asking that is not refused hands back
+handed-back : (plan : Plan) (state : State) (log : List ℕ) (domain : ℕ) → logRefusalOf plan state log domain ≡ Accepted
+    → logCallOf plan state log domain ≡ logPart (partRecords plan (length log)) domain (recordsAt state domain) log
+unfolding logCallOf logRefusalOf
+handed-back plan state log domain accepted = ap (λ (verdict : Verdict). logFrom verdict plan state log domain) accepted
+
+-- after a list: the records so far in the world that its steps leave
+log-after : (list : CallList) (is : IsList list) (domain : ℕ) → domain < list .plan .domains
+    → logCallOf (list .plan) (leavesOf list .state) (leavesOf list .log) domain
+    ≡ logPart (partRecords (list .plan) (length (list .log))) domain (recordsAt (worldAfter (runOfList list) (pointOf list) .state) domain)
+    (worldAfter (runOfList list) (pointOf list) .log)
+unfolding worldAfter freshWorld
+log-after list is domain declared =
+    let world = worldAfter (runOfList list) (pointOf list) in
+    let long = log-length (list .plan) (list .scripts) (list .log) (pointOf list) (list-possible list is) in
+    handed-back (list .plan) (leavesOf list .state) (leavesOf list .log) domain (asked list is domain declared)
+    ∙ ap (λ (w : World). logPart (partRecords (list .plan) (length (w .log))) domain (recordsAt (w .state) domain) (w .log)) (leaves list is)
+    ∙ ap (λ (n : ℕ). logPart (partRecords (list .plan) n) domain (recordsAt (world .state) domain) (world .log)) long
+
+module _ (observer : ℕ) (one other : CallList) (is : IsList one) (is′ : IsList other) (c : Comparable observer one other) where
+  -- the worlds that the two lists leave
+  world : World
+  world = worldAfter (runOfList one) (pointOf one)
+
+  world′ : World
+  world′ = worldAfter (runOfList other) (pointOf other)
+
+  same : Same observer (runOfList one) (pointOf one) (runOfList other) (pointOf other)
+  same =
+      two-runs observer (runOfList one) (pointOf one) (runOfList other) (pointOf other) (c .plans)
+      (record {
+        possible = list-possible one is;
+        declared = c .declared;
+        scripts = c .scripts;
+        logs = c .logs;
+        onTime = on-time one is;
+        onTime′ = on-time other is′;
+        points = c .points;
+        boxes = c .boxes;
+      })
+
+  declared′ : observer < other .plan .domains
+  declared′ = subst (λ (plan : Plan). observer < plan .domains) (c .plans) (c .declared)
+
+  -- a relation between the two worlds, of what the lists leave
+  left : (Related : World → World → Type 0) → Related world world′ → Related (leavesOf one) (leavesOf other)
+  unfolding world world′
+  left Related = subst₂ Related (sym (leaves one is)) (sym (leaves other is′))
+
+  same-log : logCallOf (one .plan) (leavesOf one .state) (leavesOf one .log) observer
+      ≡ logCallOf (other .plan) (leavesOf other .state) (leavesOf other .log) observer
+  unfolding world′
+  same-log =
+      log-after one is observer (c .declared)
+      ∙ same .log
+      ∙ (λ i. logPart (partRecords (c .plans i) (c .logs i)) observer (recordsAt (world′ .state) observer) (world′ .log))
+      ∙ sym (log-after other is′ observer declared′)
+
+  isolated : SameSeen observer one other
+  unfolding world world′
+  isolated =
+      record {
+        asked = asked one is observer (c .declared);
+        asked′ = asked other is′ observer declared′;
+        log = same-log;
+        position = left (λ w w′. positionAt (w .state) observer ≡ positionAt (w′ .state) observer) (same .position);
+        sets = left (λ w w′. SameSets (one .plan) observer (w .cache) (w′ .cache)) (same .sets);
+        ops = λ window past. same .ops window (subst (λ (w : World). window < w .state .windows) (leaves one is) past);
+        clock = λ within. left (λ w w′. w .state .clock ≡ w′ .state .clock) (same .clock within);
+      }
+
+pub isolation : Isolation
+isolation = record { leaves = leaves; onTime = on-time; isolated = isolated }

@@ -1,0 +1,34 @@
+-- The two flushes of a switch: they leave what they empty the same in any two tables, and every other place as it was. Assumes nothing.
+use Prim.Native.Nat.{ℕ, _≤_, _<_}
+use mathlib.Core.List.{List}
+use mathlib.Core.Path.{_≡_, sym, _∙_}
+use native.Mathlib.Omega.{arith}
+use lib.ListN.{getD, length}
+use Rattle.cache.specs.Flush.{kernelFlushed, l1Flushed}
+use Rattle.cache.specs.Lines.{indexes, kernelPlace, tableLength}
+use Rattle.lists.proofs.Agree.{Agree}
+use Rattle.machine.proofs.Reached.Flushes.{flushed-kernel, flushed-l1, flushed-long, flushed-others}
+use Rattle.isolation.proofs.TwoRuns.Places.{FlushedPlace, kernel, l1}
+
+-- the table after both flushes
+abbrev flushedTable : List ℕ → List ℕ
+flushedTable table = l1Flushed (kernelFlushed table)
+
+-- places between L1 and the kernel's sets
+pub flush-away : {Place : ℕ → Type 0} (table : List ℕ) → length table ≡ tableLength
+    → ((place : ℕ) → Place place → (indexes ≤ place) × (place < kernelPlace)) → Agree Place table (flushedTable table)
+flush-away table whole between =
+    record {
+      len = whole ∙ sym (flushed-long table whole);
+      at = λ place p. sym (flushed-others table whole place (between place p .0) (between place p .1));
+    }
+
+-- what was emptied is the same, whatever it held
+pub flush-alike : (one other : List ℕ) → length one ≡ tableLength → length other ≡ tableLength
+    → Agree FlushedPlace (flushedTable one) (flushedTable other)
+flush-alike one other whole whole′ = record { len = flushed-long one whole ∙ sym (flushed-long other whole′); at = go }
+  where
+    go : (place : ℕ) → FlushedPlace place → getD (flushedTable one) place 0 ≡ getD (flushedTable other) place 0
+    go place (kernel h) =
+        flushed-kernel one whole place (h .from) (omega arith) ∙ sym (flushed-kernel other whole′ place (h .from) (omega arith))
+    go place (l1 h) = flushed-l1 one whole place (omega arith) ∙ sym (flushed-l1 other whole′ place (omega arith))

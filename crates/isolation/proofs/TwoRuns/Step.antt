@@ -1,0 +1,118 @@
+-- One step. In a domain's own window two worlds that are the same for it both do the same op or both switch; in another's window a step keeps what
+-- the domain has outside its windows. Assumes nothing.
+use Prim.Native.Nat.{ℕ, _+_, _*_, _<_}
+use mathlib.Core.Bool.{Bool, true, false, cond, _||_}
+use mathlib.Core.List.{List}
+use mathlib.Core.Path.{_≡_, refl, sym, ap, _∙_}
+use borrow.Author.Tests.{ltb-true}
+use lib.Dec.{leb, ltb}
+use lib.ListN.{getD}
+use Rattle.plan.specs.declared.Plan.{Plan}
+use Rattle.plan.specs.Possible.{planPossible}
+use Rattle.plan.proofs.Windows.{owner-declared}
+use Rattle.plan.specs.Windows.{endOf, ownerOf, windowsTotal}
+use Rattle.script.specs.declared.Fetched.{Fetched}
+use Rattle.script.specs.declared.Fetched.the-variants.{Op as Fetch, End}
+use Rattle.script.specs.Fetch.{decodeOf, fetchOf}
+use Rattle.machine.specs.Ops.{boxPlace}
+use Rattle.machine.specs.Steps.{activeStep, closedOf, fetchedStep, nextOf, opStepOf, stepOf}
+use Rattle.machine.specs.Switch.{switchOf}
+use Rattle.machine.specs.World.{World, endedOf, positionAt, runningOf}
+use Rattle.machine.proofs.Reached.Fetched.{fetched-within}
+use Rattle.machine.proofs.Reached.Invariant.{step-cases}
+use Rattle.isolation.proofs.TwoRuns.OpStep.{Whole, op-alike, op-away, switch-away}
+use Rattle.isolation.proofs.TwoRuns.Relations.{Alike, Close, alike-refl, same-position, same-records}
+
+-- what a step does, by what it tests: two worlds that pass the same tests take the same branch
+module _ (plan : Plan) (quota : ℕ) where
+  stepBy : Bool → Bool → Fetched → World → World
+  stepBy true closed next world = world
+  stepBy false true next world = switchOf plan world
+  stepBy false false (Fetch op) world = opStepOf plan quota (runningOf plan (world .state)) op world
+  stepBy false false End world = switchOf plan world
+
+  step-by : (scripts : List ℕ) (world : World)
+      → stepOf plan scripts quota world
+      ≡ stepBy (endedOf plan (world .state)) (closedOf plan quota (world .state)) (nextOf plan scripts (world .state)) world
+  unfolding stepOf activeStep fetchedStep stepBy
+  step-by scripts world = go (endedOf plan (world .state)) (closedOf plan quota (world .state)) (nextOf plan scripts (world .state))
+    where
+      go : (ended closed : Bool) (next : Fetched)
+          → elim ended as (λ (_ : Bool). World) [
+            | true ↦ world
+            | false ↦ elim closed as (λ (_ : Bool). World) [ true ↦ switchOf plan world | false ↦ fetchedStep plan quota next world ]
+          ]
+          ≡ stepBy ended closed next world
+      go true closed next = refl
+      go false true next = refl
+      go false false (Fetch op) = refl
+      go false false End = refl
+
+-- ---- two worlds in the domain's own window
+
+-- what stands next, in stores that agree on the domain's numbers
+fetch-alike : (one other : List ℕ) (domain position : ℕ)
+    → ((place : ℕ) → place < 256 → getD one (256 * domain + place) 0 ≡ getD other (256 * domain + place) 0)
+    → fetchOf one domain position ≡ fetchOf other domain position
+unfolding fetchOf
+fetch-alike one other domain position same = go (ltb position 256) refl
+  where
+    go : (within : Bool) → ltb position 256 ≡ within → fetchOf one domain position ≡ fetchOf other domain position
+    go true e = ap (λ (n : ℕ). cond (ltb position 256) (decodeOf n) End) (same position (ltb-true position 256 e))
+    go false e = rw e
+
+-- both did an op and are as before, or both switched
+pub data Together (plan : Plan) (quota domain : ℕ) (Kept : ℕ → Type 0) (one other next next′ : World) : Type 0 where
+  still : Close plan quota domain Kept next next′ → Together plan quota domain Kept one other next next′
+  both : next ≡ switchOf plan one → next′ ≡ switchOf plan other → Together plan quota domain Kept one other next next′
+
+module _ (plan : Plan) (quota domain : ℕ) {Kept : ℕ → Type 0} (to : (sender : ℕ) → sender < 8 → Kept (boxPlace sender domain))
+    {one other : World} (a : Close plan quota domain Kept one other) (running : runningOf plan (one .state) ≡ domain) where
+  same-ended : endedOf plan (one .state) ≡ endedOf plan (other .state)
+  unfolding endedOf
+  same-ended = ap (λ (n : ℕ). leb (windowsTotal plan) n) (a .windows)
+
+  same-running : runningOf plan (other .state) ≡ domain
+  same-running = ap (ownerOf plan) (sym (a .windows)) ∙ running
+
+  same-closed : closedOf plan quota (one .state) ≡ closedOf plan quota (other .state)
+  unfolding closedOf
+  same-closed =
+      rw (running, same-running)
+      (λ i. leb (endOf plan (a .windows i)) (a .clock i) || leb quota (same-records plan quota domain (a .outside) i))
+
+  same-next : (scripts scripts′ : List ℕ)
+      → ((place : ℕ) → place < 256 → getD scripts (256 * domain + place) 0 ≡ getD scripts′ (256 * domain + place) 0)
+      → nextOf plan scripts (one .state) ≡ nextOf plan scripts′ (other .state)
+  same-next scripts scripts′ same =
+      rw (running, same-running, same-position plan quota domain (a .outside))
+      (fetch-alike scripts scripts′ domain (positionAt (other .state) domain) same)
+
+  pub step-alike : (scripts scripts′ : List ℕ)
+      → ((place : ℕ) → place < 256 → getD scripts (256 * domain + place) 0 ≡ getD scripts′ (256 * domain + place) 0)
+      → Whole one
+      → Together plan quota domain Kept one other (stepOf plan scripts quota one) (stepOf plan scripts′ quota other)
+  unfolding stepBy
+  step-alike scripts scripts′ same whole =
+      rw (step-by plan quota scripts one, step-by plan quota scripts′ other, ← same-ended, ← same-closed, ← (same-next scripts scripts′ same))
+      (go (endedOf plan (one .state)) (closedOf plan quota (one .state)) (nextOf plan scripts (one .state)) refl)
+    where
+      go : (ended closed : Bool) (next : Fetched) → nextOf plan scripts (one .state) ≡ next
+          → Together plan quota domain Kept one other (stepBy plan quota ended closed next one) (stepBy plan quota ended closed next other)
+      go true closed next e = still a
+      go false true next e = both refl refl
+      go false false (Fetch op) e =
+          rw (running, same-running)
+          (still (op-alike plan quota domain to op (fetched-within scripts _ (positionAt (one .state) _) op e) whole a))
+      go false false End e = both refl refl
+
+-- ---- one world in another's window
+
+pub step-away : (plan : Plan) (scripts : List ℕ) (quota domain : ℕ) (world : World) → planPossible plan ≡ true → domain < plan .domains
+    → (domain ≡ runningOf plan (world .state) → ⊥) → Whole world
+    → Alike plan quota domain world (stepOf plan scripts quota world)
+step-away plan scripts quota domain world possible declared other whole =
+    step-cases plan scripts quota world (Alike plan quota domain world) (λ ended. alike-refl plan quota domain world)
+    (λ room. switch-away plan quota domain possible declared world whole)
+    (λ op begins.
+    op-away plan quota domain possible declared _ op world (owner-declared plan (world .state .windows) possible) other whole (begins .room))
