@@ -98,7 +98,7 @@ fn count_valid(table: &[u16], at: usize, left: usize) -> u64
 }
 
 // Empties every number of a part.
-fn empty(entries: &mut [u16])
+pub fn empty(entries: &mut [u16])
     ensures { λ _. ⌜ now (entries .exit) ≡ replicate (length (now (entries .entry))) 0 ⌝ }
 {
     let mut i = 0;

@@ -1,4 +1,5 @@
 pub mod Checks
 pub mod FreshStart
 pub mod Running
+pub mod Answers
 pub mod Asking

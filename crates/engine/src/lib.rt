@@ -1,4 +1,9 @@
-// The entry points of a run, and what each answers.
+// The entry points of a run: each looks at what it was lent, refuses or does its work, and answers every input.
+pub mod asking;
+pub mod checks;
+pub mod running;
+pub mod starting;
+
 use machine::State;
 use refusal::Verdict;
 

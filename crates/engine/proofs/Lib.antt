@@ -1,0 +1,2 @@
+-- The laws of the entry points that their proofs and other crates cite.
+pub mod Verdicts

@@ -1,0 +1,24 @@
+-- `engine::running::step` meets its contract. Assumes nothing.
+use borrow.Author.Needs.{needs}
+use Rattle.engine.specs.Running.{stepCallOf}
+use Rattle.engine.proofs.running.step.Statement.{statement}
+use Rattle.engine.proofs.running.step.Tie as tie
+
+run-requires : tie.Need-run-requires
+run-requires c κs = search needs
+
+same-length : tie.Need-same-length
+same-length c = search needs
+
+same-length-2 : tie.Need-same-length-2
+same-length-2 c = search needs
+
+same-length-3 : tie.Need-same-length-3
+same-length-3 c = search needs
+
+returns : tie.Need-returns
+unfolding stepCallOf
+returns c = c .before .before .before .before .before .before .run .ensures
+
+pub step-spec : {M : Type 1} → statement M
+step-spec = tie.close (tie.spec run-requires same-length same-length-2 same-length-3 returns)

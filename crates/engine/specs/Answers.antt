@@ -1,0 +1,21 @@
+-- What the code of an entry point answers, with the lent things at exit, stands for one record of the definitions. Assumes nothing.
+use Prim.Native.Nat.{ℕ}
+use mathlib.Core.List.{List}
+use Rattle.machine.specs.View.{worldWith}
+use Rattle.machine.specs.World.{World}
+use Rattle.engine.specs.declared.Ending.{Ending}
+use Rattle.engine.specs.declared.Progress.{Progress}
+use Rattle.machine.specs.declared.State.{State}
+use Rattle.refusal.specs.declared.Verdict.{Verdict}
+use Rattle.engine.specs.FreshStart.{Fresh}
+use Rattle.engine.specs.Running.{Run}
+
+abbrev pub answered : Verdict → ℕ → Ending → World → Run
+answered verdict steps ending world = record { verdict = verdict; steps = steps; ending = ending; world = world }
+
+abbrev pub runWith : Progress → List ℕ → List ℕ → List ℕ → Run
+runWith progress cache boxes log =
+    answered (progress .verdict) (progress .steps) (progress .ending) (worldWith (progress .state) cache boxes log)
+
+abbrev pub freshWith : Verdict → State → List ℕ → List ℕ → Fresh
+freshWith verdict state cache boxes = record { verdict = verdict; state = state; cache = cache; boxes = boxes }

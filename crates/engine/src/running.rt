@@ -1,0 +1,78 @@
+// A single step, and running with a number of steps as its limit.
+use crate::Ending;
+use crate::Progress;
+use crate::checks::check_run;
+use machine::State;
+use machine::logging::part_records;
+use machine::stepping::run_steps;
+use plan::Plan;
+use plan::timing::windows_total;
+use refusal::Verdict;
+ghost use mathlib.Core.Path.{_≡_};
+ghost use Prim.Native.Nat.{_≤_};
+ghost use Rattle.machine.specs.World.{endedOf};
+ghost use Rattle.machine.specs.View.{worldWith};
+ghost use Rattle.engine.specs.Running.{endingOf, runCallOf, stepCallOf};
+ghost use Rattle.engine.specs.Answers.{runWith};
+
+// Whether a run is over.
+fn ending_of(plan: Plan, state: State) -> Ending
+    requires { ⌜ (plan .run ≤ 1_000) × (plan .windows ≤ 32) ⌝ }
+    ensures { λ r. ⌜ r ≡ endingOf (endedOf plan state) ⌝ }
+{
+    if windows_total(plan) <= state.windows {
+        Ending::Ended
+    } else {
+        Ending::Stopped
+    }
+}
+
+// Running with a limit.
+pub fn run(
+    plan: Plan,
+    scripts: &[u32],
+    state: State,
+    cache: &mut [u16],
+    boxes: &mut [u32],
+    log: &mut [u8],
+    limit: u64,
+) -> Progress
+    ensures { λ r. ⌜ runWith r (now (cache .exit)) (now (boxes .exit)) (now (log .exit))
+        ≡ runCallOf plan (now (scripts .entry)) (worldWith state (now (cache .entry)) (now (boxes .entry)) (now (log .entry))) limit ⌝ }
+{
+    let verdict = check_run(plan, scripts, state, cache, boxes, log);
+    match verdict {
+        Verdict::Refused(refusal) => Progress {
+            verdict: Verdict::Refused(refusal),
+            steps: 0,
+            ending: Ending::Stopped,
+            state,
+        },
+        Verdict::Accepted => {
+            let quota = part_records(plan.domains, log.len());
+            let advance = run_steps(plan, scripts, quota, limit, state, cache, boxes, log);
+            let last = advance.state;
+            Progress {
+                verdict: Verdict::Accepted,
+                steps: advance.steps,
+                ending: ending_of(plan, last),
+                state: last,
+            }
+        }
+    }
+}
+
+// A single step: running with limit 1.
+pub fn step(
+    plan: Plan,
+    scripts: &[u32],
+    state: State,
+    cache: &mut [u16],
+    boxes: &mut [u32],
+    log: &mut [u8],
+) -> Progress
+    ensures { λ r. ⌜ runWith r (now (cache .exit)) (now (boxes .exit)) (now (log .exit))
+        ≡ stepCallOf plan (now (scripts .entry)) (worldWith state (now (cache .entry)) (now (boxes .entry)) (now (log .entry))) ⌝ }
+{
+    run(plan, scripts, state, cache, boxes, log, 1)
+}

@@ -1,0 +1,56 @@
+// A fresh start: the state, the cache table and the boxes zeroed.
+use crate::Started;
+use crate::checks::check_fresh;
+use cache::empty;
+use machine::State;
+use plan::Plan;
+use refusal::Verdict;
+ghost use mathlib.Core.Path.{_≡_};
+ghost use lib.ListN.{length, replicate};
+ghost use Rattle.machine.specs.World.{freshState};
+ghost use Rattle.engine.specs.Answers.{freshWith};
+ghost use Rattle.engine.specs.FreshStart.{freshStartOf};
+
+fn fresh_state() -> State
+    ensures { λ r. ⌜ r ≡ freshState ⌝ }
+{
+    State {
+        windows: 0,
+        clock: 0,
+        positions: [0; 8],
+        records: [0; 8],
+    }
+}
+
+// Empties every box.
+fn clear_boxes(boxes: &mut [u32])
+    ensures { λ _. ⌜ now (boxes .exit) ≡ replicate (length (now (boxes .entry))) 0 ⌝ }
+{
+    let mut i = 0;
+    while i < boxes.len() {
+        boxes[i] = 0;
+        i += 1;
+    }
+}
+
+// A fresh start, or a refusal that changes nothing.
+pub fn fresh_start(plan: Plan, state: State, cache: &mut [u16], boxes: &mut [u32]) -> Started
+    ensures { λ r. ⌜ freshWith (r .verdict) (r .state) (now (cache .exit)) (now (boxes .exit))
+        ≡ freshStartOf plan state (now (cache .entry)) (now (boxes .entry)) ⌝ }
+{
+    let verdict = check_fresh(plan, cache, boxes);
+    match verdict {
+        Verdict::Refused(refusal) => Started {
+            verdict: Verdict::Refused(refusal),
+            state,
+        },
+        Verdict::Accepted => {
+            empty(cache);
+            clear_boxes(boxes);
+            Started {
+                verdict: Verdict::Accepted,
+                state: fresh_state(),
+            }
+        }
+    }
+}
