@@ -3,7 +3,7 @@ use Prim.Native.Nat.{ℕ, _+_, _≤_, _<_}
 use native.Mathlib.Omega.{arith}
 use mathlib.Core.Bool.{Bool, true, false, cond}
 use mathlib.Core.List.{List, [], _∷_, _++_, append-assoc}
-use mathlib.Core.Path.{_≡_, refl, ap, _∙_}
+use mathlib.Core.Path.{_≡_, refl, ap, subst⁻¹, _∙_}
 use lib.Dec.{ltb}
 use lib.ListN.{drop, getD, length}
 use borrow.Author.Tests.{lt-ltb}
@@ -82,16 +82,11 @@ window-within :
 unfolding windowInside bytesOf
 window-within text declared named at owner ticks rest few below least most left =
     let taken = number-takes text at 0 7 owner _ left (omega arith) (omega arith) (omega arith) refl in
-    let within = length-within text named (taken .end) owner ticks rest least most (taken .left) in
-    record {
-      end = within .end;
-      is =
-          then-takes taken (refusedInside named) _
-          ∙ ap (λ (test : Bool). cond test (lengthInside text named owner (taken .end)) (refusedInside named (WrongDomain (taken .start))))
-          (lt-ltb owner declared below)
-          ∙ within .is;
-      left = within .left;
-    }
+    subst⁻¹ (Within text rest (Window (record { owner = owner; length = ticks })) named)
+    (then-takes taken (refusedInside named) _
+    ∙ ap (λ (test : Bool). cond test (lengthInside text named owner (taken .end)) (refusedInside named (WrongDomain (taken .start))))
+    (lt-ltb owner declared below))
+    (length-within text named (taken .end) owner ticks rest least most (taken .left))
 
 -- ---- the lines
 
