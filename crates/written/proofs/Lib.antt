@@ -4,3 +4,6 @@ pub mod Forms
 pub mod Bits
 pub mod Recipients
 pub mod Domains
+pub mod Filled
+pub mod Walk
+pub mod Progress
