@@ -48,6 +48,14 @@ digits-some places number =
     by-digits (λ (run : List ℕ). 0 < length run) places number (λ small. omega arith)
     (λ large. omega (arith, length-append (digitsOf places (number / 10)) ((48 + number % 10) ∷ [])))
 
+-- no number is written by more digits than there are places
+pub digits-most : (places number : ℕ) → length (digitsOf places number) ≤ places
+unfolding digitsOf
+digits-most zero number = omega arith
+digits-most (suc places) number =
+    by-digits (λ (run : List ℕ). length run ≤ suc places) places number (λ small. omega arith)
+    (λ large. omega (arith, length-append (digitsOf places (number / 10)) ((48 + number % 10) ∷ []), digits-most places (number / 10)))
+
 -- a number of at most so many digits is written by at most so many
 pub digits-few : (places more number : ℕ) → number < 10 ^ suc more → length (digitsOf places number) ≤ suc more
 unfolding digitsOf
@@ -84,6 +92,10 @@ decimal-all number = digits-all 20 number
 pub decimal-some : (number : ℕ) → 0 < length (decimalOf number)
 unfolding decimalOf
 decimal-some number = digits-some 19 number
+
+pub decimal-most : (number : ℕ) → length (decimalOf number) ≤ 20
+unfolding decimalOf
+decimal-most number = digits-most 20 number
 
 -- a number of at most ten digits
 pub decimal-few : (number : ℕ) → number < 10_000_000_000 → length (decimalOf number) ≤ 10

@@ -12,6 +12,12 @@ firstPlaces zero (number ∷ array) = 0 ∷ firstPlaces zero array
 firstPlaces (suc count) [] = []
 firstPlaces (suc count) (number ∷ array) = number ∷ firstPlaces count array
 
+-- a list of zeros has 0 at every place, and past its end
+pub zeros : (count place : ℕ) → getD {A = ℕ} (replicate count 0) place 0 ≡ 0
+zeros zero place = refl
+zeros (suc count) zero = refl
+zeros (suc count) (suc place) = zeros count place
+
 -- before the first place is filled
 pub filled-none : (array : List ℕ) → firstPlaces 0 array ≡ replicate (length array) 0
 unfolding firstPlaces
@@ -32,11 +38,11 @@ filled-more count array = rw add-one (more count array)
 -- once only zeros are left
 pub filled-all : (count : ℕ) (array : List ℕ) → ((place : ℕ) → count ≤ place → place < length array → getD array place 0 ≡ 0) → firstPlaces count array ≡ array
 unfolding firstPlaces
-filled-all zero [] zeros = refl
-filled-all zero (number ∷ array) zeros =
-    let first : number ≡ 0 = zeros 0 (omega arith) (omega arith) in
+filled-all zero [] none = refl
+filled-all zero (number ∷ array) none =
+    let first : number ≡ 0 = none 0 (omega arith) (omega arith) in
     ap₂ (λ (one : ℕ) (rest : List ℕ). one ∷ rest) (sym first)
-    (filled-all zero array (λ place past within. zeros (suc place) (omega arith) (omega arith)))
-filled-all (suc count) [] zeros = refl
-filled-all (suc count) (number ∷ array) zeros =
-    ap (λ (rest : List ℕ). number ∷ rest) (filled-all count array (λ place past within. zeros (suc place) (omega arith) (omega arith)))
+    (filled-all zero array (λ place past within. none (suc place) (omega arith) (omega arith)))
+filled-all (suc count) [] none = refl
+filled-all (suc count) (number ∷ array) none =
+    ap (λ (rest : List ℕ). number ∷ rest) (filled-all count array (λ place past within. none (suc place) (omega arith) (omega arith)))

@@ -7,3 +7,6 @@ pub mod Domains
 pub mod Filled
 pub mod Walk
 pub mod Progress
+pub mod Final
+pub mod Fits
+pub mod ReadBack
