@@ -3,17 +3,15 @@
 use Prim.Native.Nat.{ℕ, _+_, _-_, _≤_, _<_}
 use native.Mathlib.Nat.{add-zero, not-suc-le-zero}
 use native.Mathlib.Omega.{arith}
-use mathlib.Core.Bool.{Bool, true, false, cond, not, _&&_, _||_, and-eq-true-iff, true≢false, false≢true}
+use mathlib.Core.Bool.{Bool, true, false, cond, not, _||_, and-eq-true-iff, true≢false}
 use mathlib.Core.List.{List, [], _∷_, _++_}
 use mathlib.Core.Path.{_≡_, refl, sym, ap, _∙_}
-use lib.Dec.{leb, ltb}
-use lib.ListN.{drop, getD, length, take, length-drop}
+use lib.ListN.{drop, getD, length, length-drop}
 use lib.Seq.{drop-append-seam, drop-drop, getD-drop, take-append-seam}
 use borrow.Author.Tests.{le-ltb, lt-ltb, ne-eqb, not-true}
 use Rattle.lists.specs.Part.{part}
-use Rattle.text.specs.declared.Token.{Token}
-use Rattle.text.specs.declared.Token.the-variants.{LineEnd, Open, Close, Word, Number, LongNumber, Other}
-use Rattle.text.specs.Bytes.{endsRun, isClose, isDigit, isLetter, isLineFeed, isNoSpace, isOpen, isSpace}
+use Rattle.text.specs.declared.Token.the-variants.{LineEnd, Open, Close}
+use Rattle.text.specs.Bytes.{endsRun, isClose, isLineFeed, isNoSpace, isOpen, isSpace}
 use Rattle.text.specs.Scan.{allBytes, scanFrom, scanOf}
 use Rattle.text.specs.Tokens.{longestRun, runToken, tokenAt, tokenFrom}
 

@@ -3,18 +3,17 @@
 use Prim.Native.Nat.{ℕ, _+_, _≤_, _<_}
 use native.Mathlib.Nat.{not-suc-le-zero}
 use native.Mathlib.Omega.{arith}
-use mathlib.Core.Bool.{Bool, true, false, _&&_, and-eq-true-iff}
+use mathlib.Core.Bool.{true, false, and-eq-true-iff}
 use mathlib.Core.List.{List, [], _∷_, _++_}
-use mathlib.Core.Path.{_≡_, refl, _∙_}
+use mathlib.Core.Path.{_≡_, _∙_}
 use lib.Dec.{leb}
 use lib.ListN.{drop, length}
 use borrow.Author.Tests.{le-leb, leb-true, lt-leb}
-use Rattle.text.specs.declared.Token.{Token}
 use Rattle.text.specs.declared.Token.the-variants.{Word, Number}
 use Rattle.text.specs.Bytes.{endsRun, isDigit, isLetter}
 use Rattle.text.specs.Decimal.{decimalOf}
 use Rattle.text.specs.Scan.{allBytes}
-use Rattle.text.specs.Tokens.{digitsToken, runToken, tokenAt, valueOf}
+use Rattle.text.specs.Tokens.{digitsToken, runToken, tokenAt}
 use Rattle.text.proofs.Decimals.{decimal-all, decimal-few, decimal-some, decimal-value}
 use Rattle.text.proofs.Scanned.{all-weaker, in-run, inRun, run-token, stopsAt}
 

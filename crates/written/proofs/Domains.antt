@@ -1,10 +1,10 @@
 -- The written line of a domain is read as its share and its rights, and names only declared domains as recipients. Assumes nothing.
 use Prim.Native.Nat.{ℕ, _+_, _^_, _≤_, _<_}
 use native.Mathlib.Omega.{arith}
-use mathlib.Core.Bool.{Bool, true, false, cond}
-use mathlib.Core.List.{List, [], _∷_, _++_, append-assoc}
+use mathlib.Core.Bool.{Bool, false, cond}
+use mathlib.Core.List.{List, _∷_, _++_, append-assoc}
 use mathlib.Core.Path.{_≡_, refl, ap, subst⁻¹, _∙_}
-use lib.ListN.{drop, length}
+use lib.ListN.{drop}
 use borrow.Author.Tests.{eq-eqb}
 use Rattle.lists.specs.Ascii.{bytesOf}
 use Rattle.plan.specs.declared.Plan.{Plan}
@@ -14,7 +14,6 @@ use Rattle.refusal.specs.declared.Refusal.the-variants.{WrongDomain}
 use Rattle.text.specs.Decimal.{decimalOf}
 use Rattle.text.specs.Scan.{allBytes}
 use Rattle.text.proofs.Scanned.{left-next, left-past}
-use Rattle.reader.specs.declared.DomainLine.{DomainLine}
 use Rattle.reader.specs.declared.Form.{Form}
 use Rattle.reader.specs.declared.Form.the-variants.{Domain}
 use Rattle.reader.specs.declared.Inside.{Inside}
@@ -49,65 +48,65 @@ module _
     (small : rights < 2 ^ total)
     (not-own : hasBit rights own ≡ false)
     (quiet : Quiet total named)
-    where
-  may-declares :
-      (at : ℕ) (rest : List ℕ)
-      → drop at text ≡ bytesOf "(may" ++ (spaced (recipientsOf rights) ++ 41 ∷ rest)
-      → Declares text rest total share rights (mayInside text own named share at)
-  unfolding mayInside listedInside bytesOf allBytes
-  may-declares at rest left =
-      let opened = open-goes text at _ left in
-      let worded = word-goes text (opened .end) (bytesOf "may") _ (opened .left) (omega arith) refl (spaced-ends (recipientsOf rights) rest) in
-      let list = recipients-list text rest total own rights few small not-own (worded .end) named (worded .left) quiet in
-      record {
-        named = list .named;
-        within =
-            record {
-              end = list .end;
-              is =
-                  then-goes opened (refusedInside named) _
-                  ∙ then-goes worded (refusedInside named) _
-                  ∙ ap (listedInside share) (list .is);
-              left = list .left;
-            };
-        quiet = list .quiet;
-      }
+  where
+    may-declares :
+        (at : ℕ) (rest : List ℕ)
+        → drop at text ≡ bytesOf "(may" ++ (spaced (recipientsOf rights) ++ 41 ∷ rest)
+        → Declares text rest total share rights (mayInside text own named share at)
+    unfolding mayInside listedInside bytesOf allBytes
+    may-declares at rest left =
+        let opened = open-goes text at _ left in
+        let worded = word-goes text (opened .end) (bytesOf "may") _ (opened .left) (omega arith) refl (spaced-ends (recipientsOf rights) rest) in
+        let list = recipients-list text rest total own rights few small not-own (worded .end) named (worded .left) quiet in
+        record {
+          named = list .named;
+          within =
+              record {
+                end = list .end;
+                is =
+                    then-goes opened (refusedInside named) _
+                    ∙ then-goes worded (refusedInside named) _
+                    ∙ ap (listedInside share) (list .is);
+                left = list .left;
+              };
+          quiet = list .quiet;
+        }
 
-  share-declares :
-      (at : ℕ) (rest : List ℕ)
-      → 1 ≤ share
-      → share ≤ 1_000
-      → drop at text ≡ bytesOf "(share " ++ (decimalOf share ++ (bytesOf ")(may" ++ (spaced (recipientsOf rights) ++ 41 ∷ rest)))
-      → Declares text rest total share rights (shareInside text own named at)
-  unfolding shareInside bytesOf allBytes
-  share-declares at rest least most left =
-      let opened = open-goes text at _ left in
-      let worded = word-goes text (opened .end) (bytesOf "share") _ (opened .left) (omega arith) refl refl in
-      let taken = number-takes text (worded .end) 1 1_000 share _ (worded .left) least most (omega arith) refl in
-      let closed = close-goes text (taken .end) _ (taken .left) in
-      subst⁻¹ (Declares text rest total share rights)
-      (then-goes opened (refusedInside named) _
-      ∙ then-goes worded (refusedInside named) _
-      ∙ then-takes taken (refusedInside named) _
-      ∙ then-goes closed (refusedInside named) _)
-      (may-declares (closed .end) rest (closed .left))
+    share-declares :
+        (at : ℕ) (rest : List ℕ)
+        → 1 ≤ share
+        → share ≤ 1_000
+        → drop at text ≡ bytesOf "(share " ++ (decimalOf share ++ (bytesOf ")(may" ++ (spaced (recipientsOf rights) ++ 41 ∷ rest)))
+        → Declares text rest total share rights (shareInside text own named at)
+    unfolding shareInside bytesOf allBytes
+    share-declares at rest least most left =
+        let opened = open-goes text at _ left in
+        let worded = word-goes text (opened .end) (bytesOf "share") _ (opened .left) (omega arith) refl refl in
+        let taken = number-takes text (worded .end) 1 1_000 share _ (worded .left) least most (omega arith) refl in
+        let closed = close-goes text (taken .end) _ (taken .left) in
+        subst⁻¹ (Declares text rest total share rights)
+        (then-goes opened (refusedInside named) _
+        ∙ then-goes worded (refusedInside named) _
+        ∙ then-takes taken (refusedInside named) _
+        ∙ then-goes closed (refusedInside named) _)
+        (may-declares (closed .end) rest (closed .left))
 
-  domain-declares :
-      (at : ℕ) (rest : List ℕ)
-      → own ≤ 7
-      → 1 ≤ share
-      → share ≤ 1_000
-      → drop at text
-      ≡ 32 ∷ (decimalOf own ++ (bytesOf "(share " ++ (decimalOf share ++ (bytesOf ")(may" ++ (spaced (recipientsOf rights) ++ 41 ∷ rest)))))
-      → Declares text rest total share rights (domainInside text own named at)
-  unfolding domainInside bytesOf
-  domain-declares at rest below least most left =
-      let taken = number-takes text at 0 7 own _ left (omega arith) below (omega arith) refl in
-      subst⁻¹ (Declares text rest total share rights)
-      (then-takes taken (refusedInside named) _
-      ∙ ap (λ (test : Bool). cond test (shareInside text own named (taken .end)) (refusedInside named (WrongDomain (taken .start))))
-      (eq-eqb own own refl))
-      (share-declares (taken .end) rest least most (taken .left))
+    domain-declares :
+        (at : ℕ) (rest : List ℕ)
+        → own ≤ 7
+        → 1 ≤ share
+        → share ≤ 1_000
+        → drop at text
+        ≡ 32 ∷ (decimalOf own ++ (bytesOf "(share " ++ (decimalOf share ++ (bytesOf ")(may" ++ (spaced (recipientsOf rights) ++ 41 ∷ rest)))))
+        → Declares text rest total share rights (domainInside text own named at)
+    unfolding domainInside bytesOf
+    domain-declares at rest below least most left =
+        let taken = number-takes text at 0 7 own _ left (omega arith) below (omega arith) refl in
+        subst⁻¹ (Declares text rest total share rights)
+        (then-takes taken (refusedInside named) _
+        ∙ ap (λ (test : Bool). cond test (shareInside text own named (taken .end)) (refusedInside named (WrongDomain (taken .start))))
+        (eq-eqb own own refl))
+        (share-declares (taken .end) rest least most (taken .left))
 
 -- the line of a domain, with `domain` domains declared above it
 pub domain-reads :

@@ -2,11 +2,10 @@
 -- on to what follows it. Each law hands on what is left from there, so that they chain. Assumes nothing.
 use Prim.Native.Nat.{ℕ, _+_, _-_, _≤_, _<_}
 use native.Mathlib.Omega.{arith}
-use mathlib.Core.Bool.{Bool, true, false, cond, _&&_}
+use mathlib.Core.Bool.{true}
 use mathlib.Core.List.{List, [], _∷_, _++_}
 use mathlib.Core.Path.{_≡_, refl, ap, _∙_}
-use lib.Dec.{leb}
-use lib.ListN.{drop, length, take}
+use lib.ListN.{drop, length}
 use lib.Seq.{take-append-seam}
 use borrow.Author.Tests.{eq-eqb, le-leb}
 use Rattle.lists.specs.Ascii.{bytesOf}
@@ -15,7 +14,6 @@ use Rattle.refusal.specs.declared.Refusal.{Refusal}
 use Rattle.text.specs.Bytes.{endsRun, isLetter}
 use Rattle.text.specs.Decimal.{decimalOf}
 use Rattle.text.specs.Scan.{allBytes}
-use Rattle.text.specs.Tokens.{tokenAt}
 use Rattle.text.proofs.Scanned.{close-token, end-token, feed-token, left-next, left-past, open-token, stopsAt, token-space}
 use Rattle.text.proofs.Spelled.{number-token, word-token}
 use Rattle.reader.specs.declared.Passed.{Passed}
@@ -104,7 +102,6 @@ module _ (text : List ℕ) (at : ℕ) where
             ∙ rw (le-leb low number least, le-leb number high most);
         left = left-past text (at + 1) (decimalOf number) rest next;
       }
-
 
 -- ---- going on from what was there
 

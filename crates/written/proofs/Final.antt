@@ -2,26 +2,24 @@
 use Prim.Native.Nat.{ℕ, zero, suc, _+_, _≤_, _<_}
 use native.Mathlib.Numerals.{add-one}
 use native.Mathlib.Omega.{arith}
-use mathlib.Core.Bool.{Bool, true, false, cond, _&&_, _||_}
-use mathlib.Core.List.{List, [], _∷_}
+use mathlib.Core.Bool.{Bool, true, false, cond}
+use mathlib.Core.List.{List, _∷_}
 use mathlib.Core.Path.{_≡_, refl, sym, ap, ap₂, _∙_}
-use lib.Dec.{eqb, leb, ltb}
+use lib.Dec.{ltb}
 use lib.ListN.{drop, getD, length, replicate, drop-of-length-le}
 use lib.Seq.{drop-cons}
-use borrow.Author.Tests.{eqb-true, le-ltb, lt-ltb, ltb-false, ltb-true, ne-eqb}
+use borrow.Author.Tests.{eqb-true, le-ltb, ltb-false, ltb-true, ne-eqb}
 use Rattle.plan.specs.declared.Plan.{Plan}
 use Rattle.plan.specs.Colours.{coloursAt, firstColour, maskAt, maskOf, sharesTotal}
 use Rattle.plan.specs.Possible.{planPossible, windowPossible}
 use Rattle.plan.specs.Windows.{ticksTotal}
 use Rattle.plan.proofs.Possible.{both, counts, declared, parts, undeclared}
 use Rattle.plan.proofs.Sums.{all-below}
-use Rattle.refusal.specs.declared.Verdict.{Verdict}
 use Rattle.refusal.specs.declared.Verdict.the-variants.{Accepted}
-use Rattle.reader.specs.declared.Draft.{Draft}
 use Rattle.reader.specs.Draft.{noPlan}
 use Rattle.reader.specs.Final.{finalVerdict, firstColourless, firstUndeclared, lacking, masksFrom, planWithMasks}
 use Rattle.written.specs.Shaped.{Shaped}
-use Rattle.written.proofs.Filled.{filled-all, filled-none, firstPlaces}
+use Rattle.written.proofs.Filled.{filled-all, filled-none}
 use Rattle.written.proofs.Progress.{soFar}
 use Rattle.written.proofs.Recipients.{Quiet}
 use Rattle.written.proofs.Walk.{draftWith}

@@ -1,10 +1,9 @@
 -- The written lines of pad, run and windows are read as what they say. Assumes nothing.
-use Prim.Native.Nat.{ℕ, _+_, _≤_, _<_}
+use Prim.Native.Nat.{ℕ, _≤_, _<_}
 use native.Mathlib.Omega.{arith}
-use mathlib.Core.Bool.{Bool, true, false, cond}
-use mathlib.Core.List.{List, [], _∷_, _++_, append-assoc}
+use mathlib.Core.Bool.{Bool, cond}
+use mathlib.Core.List.{List, _∷_, _++_, append-assoc}
 use mathlib.Core.Path.{_≡_, refl, ap, subst⁻¹, _∙_}
-use lib.Dec.{ltb}
 use lib.ListN.{drop, getD, length}
 use borrow.Author.Tests.{lt-ltb}
 use Rattle.lists.specs.Ascii.{bytesOf}
@@ -12,11 +11,8 @@ use Rattle.plan.specs.declared.Plan.{Plan}
 use Rattle.refusal.specs.declared.Refusal.the-variants.{WrongDomain}
 use Rattle.text.specs.Decimal.{decimalOf}
 use Rattle.text.specs.Scan.{allBytes}
-use Rattle.text.proofs.Scanned.{left-next, left-past}
-use Rattle.reader.specs.declared.Form.{Form}
 use Rattle.reader.specs.declared.Form.the-variants.{Pad, Run, Window}
-use Rattle.reader.specs.declared.WindowLine.{WindowLine}
-use Rattle.reader.specs.Forms.{insideOf, insideWith, lengthInside, padInside, refusedInside, runInside, windowInside}
+use Rattle.reader.specs.Forms.{insideOf, lengthInside, padInside, refusedInside, runInside, windowInside}
 use Rattle.reader.specs.Lines.{lineAt}
 use Rattle.reader.specs.Tokens.{sameBytes}
 use Rattle.written.specs.Lines.{followed, padLine, runLine, windowLine}

@@ -3,6 +3,7 @@ pub mod Lines
 pub mod Forms
 pub mod Bits
 pub mod Recipients
+pub mod Rising
 pub mod Domains
 pub mod Filled
 pub mod Walk
@@ -10,3 +11,5 @@ pub mod Progress
 pub mod Final
 pub mod Fits
 pub mod ReadBack
+pub mod Meaning
+pub mod Example

@@ -1,8 +1,8 @@
 -- A line of a written text: its opening bracket, the word that opens its form, the form itself, its closing bracket and its end. What a form says is
 -- left to the form's own law. Assumes nothing.
 use Prim.Native.Nat.{ℕ, _+_, _<_}
-use mathlib.Core.Bool.{Bool, true, false, cond}
-use mathlib.Core.List.{List, [], _∷_, _++_}
+use mathlib.Core.Bool.{true, cond}
+use mathlib.Core.List.{List, _∷_, _++_}
 use mathlib.Core.Path.{_≡_, ap, _∙_}
 use lib.ListN.{drop, length}
 use Rattle.lists.specs.Ascii.{bytesOf}

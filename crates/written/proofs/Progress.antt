@@ -1,13 +1,11 @@
 -- Reading the lines of a written plan, one after the other: the plan so far has the lines' things and zeros elsewhere. Any lines may follow. Assumes
 -- nothing.
-use Prim.Native.Nat.{ℕ, zero, suc, _+_, _≤_, _<_}
-use native.Mathlib.Nat.{add-zero}
+use Prim.Native.Nat.{ℕ, zero, suc, _+_, _<_}
 use native.Mathlib.Omega.{arith}
-use mathlib.Core.Bool.{Bool, true, cond}
-use mathlib.Core.List.{List, [], _∷_, _++_, append-assoc}
-use mathlib.Core.Path.{_≡_, refl, sym, ap, subst, _∙_}
-use lib.Dec.{leb}
-use lib.ListN.{drop, getD, length, replicate, set}
+use mathlib.Core.Bool.{true}
+use mathlib.Core.List.{List, _∷_, _++_, append-assoc}
+use mathlib.Core.Path.{_≡_, refl, subst}
+use lib.ListN.{getD, length, replicate}
 use borrow.Author.Tests.{lt-leb}
 use Rattle.lists.specs.Ascii.{bytesOf}
 use Rattle.plan.specs.declared.Plan.{Plan}
@@ -15,9 +13,7 @@ use Rattle.plan.specs.Colours.{shareOf}
 use Rattle.plan.specs.Possible.{planPossible}
 use Rattle.plan.specs.Rights.{rightsAt}
 use Rattle.plan.proofs.Possible.{counts, declared, declared-window}
-use Rattle.reader.specs.declared.DomainLine.{DomainLine}
 use Rattle.reader.specs.declared.Form.the-variants.{Pad, Run, Domain, Window}
-use Rattle.reader.specs.declared.WindowLine.{WindowLine}
 use Rattle.reader.specs.Draft.{Outcome, kept, noOps, planWithDomain, planWithPad, planWithRun, planWithWindow, takeDomain, takeForm, takePad, takeRun, takeWindow}
 use Rattle.written.specs.Lines.{domainLine, linesFrom, padLine, planLines, runLine, windowLine}
 use Rattle.written.proofs.Domains.{domain-reads}
@@ -91,7 +87,7 @@ module _ (text : List ℕ) (whole : Outcome) (plan : Plan) (possible : planPossi
         later = named;
         reads = pad-reads text at 0 named plan more (count .pad-least) (count .pad-most) left;
         quiet = quiet;
-        takes = λ bracket. pad-taken plan named bracket;
+        adds = λ bracket. pad-taken plan named bracket;
       })
       stands
 
@@ -109,7 +105,7 @@ module _ (text : List ℕ) (whole : Outcome) (plan : Plan) (possible : planPossi
         later = named;
         reads = run-reads text at domains named plan more (count .run-least) (count .run-most) left;
         quiet = quiet;
-        takes = λ bracket. run-taken plan named bracket pad domains windows;
+        adds = λ bracket. run-taken plan named bracket pad domains windows;
       })
       stands
 
@@ -132,7 +128,7 @@ module _ (text : List ℕ) (whole : Outcome) (plan : Plan) (possible : planPossi
         later = line .named;
         reads = line .reads;
         quiet = line .quiet;
-        takes = λ bracket. domain-taken plan named bracket pad domain (line .named);
+        adds = λ bracket. domain-taken plan named bracket pad domain (line .named);
       })
       stands
 
@@ -153,7 +149,7 @@ module _ (text : List ℕ) (whole : Outcome) (plan : Plan) (possible : planPossi
         reads =
             window-reads text at (plan .domains) named plan more slot (count .domains-most) (own .owner) (own .length-least) (own .length-most) left;
         quiet = quiet;
-        takes = λ bracket. window-taken plan named bracket pad (plan .domains) slot (omega arith);
+        adds = λ bracket. window-taken plan named bracket pad (plan .domains) slot (omega arith);
       })
       stands
 

@@ -1,26 +1,23 @@
--- "12, both ways": a plan that passes the check for 12 is given by a text, namely its own written one, and a plan that a text gives passes it. Assumes
--- nothing.
-use Prim.Native.Nat.{ℕ, _≤_}
+-- The text of a plan that passes the check for 12 is accepted, and gives that plan back and an empty script store. Assumes nothing.
+use Prim.Native.Nat.{ℕ}
 use native.Mathlib.Omega.{arith}
-use mathlib.Core.Bool.{Bool, true}
+use mathlib.Core.Bool.{true}
 use mathlib.Core.List.{List, [], _++_, append-nil}
-use mathlib.Core.Path.{_≡_, refl, sym, ap, subst, _∙_}
+use mathlib.Core.Path.{_≡_, refl, ap, _∙_}
 use lib.ListN.{length, replicate}
 use borrow.Author.Tests.{eq-eqb, le-ltb}
 use Rattle.plan.specs.declared.Plan.{Plan}
 use Rattle.plan.specs.Possible.{planPossible}
 use Rattle.refusal.specs.declared.Verdict.{Verdict}
 use Rattle.refusal.specs.declared.Verdict.the-variants.{Accepted}
-use Rattle.reader.specs.Draft.{Outcome, kept, noDraft, noOps, noPlan, storeLength}
-use Rattle.reader.specs.Final.{finalVerdict, planWithMasks}
-use Rattle.reader.specs.Read.{Read, finished, judged, readOf, walkFrom}
-use Rattle.written.specs.Lines.{joined, planLines, planText}
-use Rattle.written.specs.Shaped.{Given, Shaped}
+use Rattle.reader.specs.Draft.{Outcome, noDraft, noOps}
+use Rattle.reader.specs.Read.{finished, judged, readOf, walkFrom}
+use Rattle.written.specs.Lines.{planLines, planText}
+use Rattle.written.specs.Shaped.{Shaped}
 use Rattle.written.proofs.Final.{accepted, masks-kept, read-all, read-none, unmasked}
 use Rattle.written.proofs.Filled.{zeros}
 use Rattle.written.proofs.Fits.{text-fits}
 use Rattle.written.proofs.Progress.{plan-stands, soFar}
-use Rattle.written.proofs.Recipients.{Quiet}
 use Rattle.written.proofs.Walk.{Ended, Stands, draftWith, no-line}
 
 module _ (plan : Plan) (shaped : Shaped plan) (possible : planPossible plan ≡ true) where

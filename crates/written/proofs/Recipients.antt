@@ -1,15 +1,15 @@
 -- A written list of recipients is read as the rights that it was written from. The recipients rise, so that each is new to those before it, and what
 -- is read before a domain are the rights below it. Assumes nothing.
-use Prim.Native.Nat.{ℕ, zero, suc, _+_, _*_, _/_, _%_, _^_, _≤_, _<_}
+use Prim.Native.Nat.{ℕ, zero, suc, _+_, _%_, _^_, _≤_, _<_}
 use native.Mathlib.Nat.{mod-one, not-suc-le-zero}
 use native.Mathlib.Omega.{arith}
-use mathlib.Core.Bool.{Bool, true, false, cond, _||_, false≢true}
+use mathlib.Core.Bool.{Bool, true, false, cond, false≢true}
 use mathlib.Core.List.{List, [], _∷_, _++_, append-assoc}
 use mathlib.Core.Path.{_≡_, refl, sym, ap, _∙_}
-use lib.Dec.{eqb, leb}
+use lib.Dec.{eqb}
 use lib.ListN.{drop, getD, length, set, length-append, length-drop}
 use lib.Seq.{getD-set-other}
-use borrow.Author.Tests.{eqb-true, eqb-false, le-leb, ne-eqb}
+use borrow.Author.Tests.{le-leb, ne-eqb}
 use Rattle.lists.specs.Ascii.{bytesOf}
 use Rattle.plan.specs.Colours.{hasBit}
 use Rattle.text.specs.Bytes.{endsRun}
@@ -17,7 +17,6 @@ use Rattle.text.specs.Decimal.{decimalOf}
 use Rattle.text.proofs.Scanned.{close-token, left-next, left-past, stopsAt, token-space}
 use Rattle.text.proofs.Spelled.{number-token}
 use Rattle.reader.specs.declared.Passed.the-variants.{To}
-use Rattle.reader.specs.declared.Recipient.{Recipient}
 use Rattle.reader.specs.declared.Recipient.the-variants.{Next, Done}
 use Rattle.reader.specs.declared.Recipients.{Recipients}
 use Rattle.reader.specs.Forms.{mention, recipientAt, recipientOf, recipientsAt, recipientsFrom}

@@ -1,6 +1,5 @@
 -- The walk over the lines of a written text: what is left of it gives what the whole walk gives. Assumes nothing.
 use Prim.Native.Nat.{ℕ, zero, suc, _+_, _≤_, _<_}
-use native.Mathlib.Nat.{not-suc-le-zero}
 use native.Mathlib.Omega.{arith}
 use mathlib.Core.List.{List, [], _∷_, _++_}
 use mathlib.Core.Path.{_≡_, refl, sym, ap, _∙_}
@@ -32,13 +31,13 @@ pub record Stands (text : List ℕ) (whole : Outcome) (total : ℕ) (lines : Lis
   pub quiet : Quiet total named
   pub same : walkFrom turns text at (draftWith plan named) noOps ≡ whole
 
--- the line at an offset is read, and takes the plan so far to the next
-pub record Takes (text : List ℕ) (total at : ℕ) (named : List ℕ) (more : List (List ℕ)) (before after : Plan) : Type 0 where
+-- the line at an offset is read, and adds to the plan so far
+pub record Adds (text : List ℕ) (total at : ℕ) (named : List ℕ) (more : List (List ℕ)) (before after : Plan) : Type 0 where
   pub form : Form
   pub later : List ℕ
   pub reads : Reads text (followed more) form later (lineAt text (before .domains) named at)
   pub quiet : Quiet total later
-  pub takes : (bracket : ℕ) → takeForm form bracket later (draftWith before named) noOps ≡ kept (draftWith after later) noOps
+  pub adds : (bracket : ℕ) → takeForm form bracket later (draftWith before named) noOps ≡ kept (draftWith after later) noOps
 
 -- ---- one line
 
@@ -70,7 +69,7 @@ taken-line :
     → length (line ++ followed more) ≤ turns
     → drop at text ≡ line ++ followed more
     → walkFrom turns text at (draftWith before named) noOps ≡ whole
-    → Takes text total at named more before after
+    → Adds text total at named more before after
     → Stands text whole total more after
 taken-line text whole total line more before after zero at named some enough left same taking = absurd (omega (arith, length-append line (followed more)))
 taken-line text whole total line more before after (suc turns) at named some enough left same taking =
@@ -87,14 +86,14 @@ taken-line text whole total line more before after (suc turns) at named some eno
       same =
           sym
           (walk-next turns text at (draftWith before named) (draftWith after (taking .later)) noOps noOps (taking .form) (reads .bracket) (reads .end) (taking .later)
-          within (reads .is) (taking .takes (reads .bracket)))
+          within (reads .is) (taking .adds (reads .bracket)))
           ∙ same;
     }
 
 pub next-line :
     (text : List ℕ) (whole : Outcome) (total : ℕ) (line : List ℕ) (more : List (List ℕ)) (before after : Plan)
     → 0 < length line
-    → ((at : ℕ) (named : List ℕ) → Quiet total named → drop at text ≡ line ++ followed more → Takes text total at named more before after)
+    → ((at : ℕ) (named : List ℕ) → Quiet total named → drop at text ≡ line ++ followed more → Adds text total at named more before after)
     → Stands text whole total (line ∷ more) before
     → Stands text whole total more after
 unfolding joined

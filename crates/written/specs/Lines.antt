@@ -1,7 +1,7 @@
 -- Request E4, "The plan written back": a plan's text in its single form. Pad, domains, windows, run; one space between two words or numbers and none
 -- beside a bracket; shares as read, recipients rising, no leading zeros; one LF between lines and none after the last. Assumes nothing.
-use Prim.Native.Nat.{ℕ, zero, suc, _+_}
-use mathlib.Core.Bool.{Bool, true, false}
+use Prim.Native.Nat.{ℕ, zero, suc, _+_, _≤_}
+use mathlib.Core.Bool.{true, false}
 use mathlib.Core.List.{List, [], _∷_, _++_}
 use lib.ListN.{getD}
 use Rattle.lists.specs.Ascii.{bytesOf}
@@ -24,6 +24,11 @@ risingFrom rights (suc left) domain =
 -- domain numbers are 0 to 7
 unfoldable pub recipientsOf : ℕ → List ℕ
 recipientsOf rights = risingFrom rights 8 0
+
+-- numbers that rise, from a least one on
+abbrev pub Rising : ℕ → List ℕ → Type 0
+Rising least [] = Unit {0}
+Rising least (number ∷ more) = (least ≤ number) × Rising (number + 1) more
 
 -- numbers, each after one space
 unfoldable pub spaced : List ℕ → List ℕ
