@@ -1,3 +1,4 @@
+-- What is proved of written plans: their lines are read one after the other, they fit, and they are read back.
 pub mod Due
 pub mod Lines
 pub mod Forms
