@@ -1,0 +1,23 @@
+-- What a plan value is known to be by its type, and what it is for a text to give it. Assumes nothing.
+use Prim.Native.Nat.{ℕ}
+use mathlib.Core.List.{List}
+use mathlib.Core.Path.{_≡_}
+use lib.ListN.{length}
+use Rattle.plan.specs.declared.Plan.{Plan}
+use Rattle.refusal.specs.declared.Verdict.the-variants.{Accepted}
+use Rattle.reader.specs.Read.{readOf}
+
+-- a plan's arrays have their lengths: 8 places for domains and 32 for windows. So has every plan value of the code.
+pub record Shaped (plan : Plan) : Type 0 where
+  pub shares : length (plan .shares) ≡ 8
+  pub rights : length (plan .rights) ≡ 8
+  pub masks : length (plan .masks) ≡ 8
+  pub owners : length (plan .owners) ≡ 32
+  pub lengths : length (plan .lengths) ≡ 32
+
+-- a plan that the reader gives with 0, 0, from some text into some script store
+pub record Given (plan : Plan) : Type 0 where
+  pub text : List ℕ
+  pub scripts : List ℕ
+  pub accepted : readOf text scripts .verdict ≡ Accepted
+  pub gives : readOf text scripts .plan ≡ plan
