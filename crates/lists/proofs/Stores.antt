@@ -1,8 +1,8 @@
 -- Laws on a run of stores into a buffer: where one run ends the next begins. A store past the buffer's end does nothing. Assumes nothing.
 use Prim.Native.Nat.{ℕ, zero, suc, _+_, _<_}
 use mathlib.Core.Path.{_≡_, ap, _∙_}
-use mathlib.Core.List.{List, [], _∷_, _++_}
-use native.Mathlib.Nat.{add-zero}
+use mathlib.Core.List.{List, [], _∷_, _++_, append-assoc}
+use native.Mathlib.Nat.{add-zero, zero-add}
 use native.Mathlib.Numerals.{add-one}
 use native.Mathlib.Omega.{arith}
 use lib.ListN.{getD, length, length-append, set, take}
@@ -26,19 +26,31 @@ sets-next buffer at count bytes within =
     let long : length (take count bytes) ≡ count = length-take-le count bytes (omega arith) in
     rw (add-one count, take-suc bytes count 0 within, ← sets-append buffer at (take count bytes), long)
 
--- what a writer does: it leaves the buffer with its bytes stored from a place on, and answers the place past them
-pub record Wrote (before : List ℕ) (at : ℕ) (bytes : List ℕ) (after : List ℕ) (next : ℕ) : Type 0 where
-  pub place : next ≡ at + length bytes
-  pub stores : after ≡ sets before at bytes
+-- what a writer does: it answers the place past its bytes, and leaves the buffer with them stored
+abbrev pub Wrote : List ℕ → ℕ → List ℕ → List ℕ → ℕ → Type 0
+Wrote buffer at bytes after next = (next ≡ at + length bytes) × (after ≡ sets buffer at bytes)
 
 -- a writer, then another from where the first ended, write the bytes of both
-pub joined :
-    {before middle after first second : List ℕ} {at next end : ℕ}
-    → Wrote before at first middle next
+pub wrote-both :
+    (buffer : List ℕ) (at : ℕ) (first second : List ℕ) {middle after : List ℕ} {next end : ℕ}
+    → Wrote buffer at first middle next
     → Wrote middle next second after end
-    → Wrote before at (first ++ second) after end
-joined {before = before} {first = first} {second = second} {at = at} one two =
-    record {
-      place = simp length-append (omega (arith, one .place, two .place));
-      stores = two .stores ∙ rw (one .stores, one .place) (sets-append before at first second);
-    }
+    → Wrote buffer at (first ++ second) after end
+wrote-both buffer at first second one two =
+    (simp length-append (omega (arith, one .0, two .0)), two .1 ∙ rw (one .1, one .0) (sets-append buffer at first second))
+
+-- the same where the second writes two pieces
+pub wrote-three :
+    (buffer : List ℕ) (at : ℕ) (first second third : List ℕ) {middle after : List ℕ} {next end : ℕ}
+    → Wrote buffer at first middle next
+    → Wrote middle next (second ++ third) after end
+    → Wrote buffer at (first ++ second ++ third) after end
+wrote-three buffer at first second third one two =
+    rw (append-assoc first second third) (wrote-both buffer at first (second ++ third) one two)
+
+-- from the buffer's start on, the place past the bytes is their number
+pub wrote-first :
+    (buffer bytes : List ℕ) {after : List ℕ} {next : ℕ}
+    → Wrote buffer 0 bytes after next
+    → (next ≡ length bytes) × (after ≡ sets buffer 0 bytes)
+wrote-first buffer bytes written = (written .0 ∙ zero-add (length bytes), written .1)
