@@ -1,5 +1,5 @@
 -- Laws on a run of stores into a buffer: where one run ends the next begins. A store past the buffer's end does nothing. Assumes nothing.
-use Prim.Native.Nat.{ℕ, zero, suc, _+_, _<_}
+use Prim.Native.Nat.{ℕ, suc, _+_, _<_}
 use mathlib.Core.Path.{_≡_, ap, _∙_}
 use mathlib.Core.List.{List, [], _∷_, _++_, append-assoc}
 use native.Mathlib.Nat.{add-zero, zero-add}
@@ -15,7 +15,8 @@ pub sets-append :
 sets-append buffer at [] second = ap (λ (place : ℕ). sets buffer place second) (add-zero at)
 sets-append buffer at (byte ∷ first) second =
     let place : at + suc (length first) ≡ suc at + length first = omega arith in
-    ap (λ (n : ℕ). sets (sets (set buffer at byte) (suc at) first) n second) place ∙ sets-append (set buffer at byte) (suc at) first second
+    ap (λ (n : ℕ). sets (sets (set buffer at byte) (suc at) first) n second) place
+    ∙ sets-append (set buffer at byte) (suc at) first second
 
 -- the stores of a list's first bytes, and of the next one
 pub sets-next :

@@ -1,5 +1,5 @@
 -- Where the records lie: within their parts, and the parts within the log. Assumes nothing.
-use Prim.Native.Nat.{ℕ, suc, _+_, _*_, _/_, _≤_, _<_}
+use Prim.Native.Nat.{ℕ, _+_, _*_, _/_, _≤_, _<_}
 use mathlib.Core.Path.{_≡_}
 use mathlib.Core.Bool.{true, _&&_}
 use native.Mathlib.Nat.{div-mul-le-self, mul-le-mul-left, mul-left-comm, mul-suc}

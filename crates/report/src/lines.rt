@@ -29,7 +29,8 @@ pub fn write_pair(out: &mut [u8], at: usize, word: &[u8], first: u64, second: u6
     requires { ⌜ at + length (now word) + 43 < 2 ^ 64 ⌝ }
     ensures { λ r.
         ⌜ (r ≡ at + length (now (word .entry) ++ decimalOf first ++ bytesOf " " ++ decimalOf second ++ bytesOf ")\n"))
-        × (now (out .exit) ≡ sets (now (out .entry)) at (now (word .entry) ++ decimalOf first ++ bytesOf " " ++ decimalOf second ++ bytesOf ")\n")) ⌝ }
+        × (now (out .exit)
+        ≡ sets (now (out .entry)) at (now (word .entry) ++ decimalOf first ++ bytesOf " " ++ decimalOf second ++ bytesOf ")\n")) ⌝ }
 {
     let middle = write_numbered(out, at, word, first);
     let end = write_numbered(out, middle, b" ", second);
@@ -70,7 +71,8 @@ fn write_kind_and_value(out: &mut [u8], at: usize, kind: u8, value: u64) -> usiz
     requires { ⌜ at + 32 < 2 ^ 64 ⌝ }
     ensures { λ r.
         ⌜ (r ≡ at + length (bytesOf " (" ++ bytesOf (kindWord kind) ++ bytesOf " " ++ decimalOf value ++ bytesOf "))\n"))
-        × (now (out .exit) ≡ sets (now (out .entry)) at (bytesOf " (" ++ bytesOf (kindWord kind) ++ bytesOf " " ++ decimalOf value ++ bytesOf "))\n")) ⌝ }
+        × (now (out .exit)
+        ≡ sets (now (out .entry)) at (bytesOf " (" ++ bytesOf (kindWord kind) ++ bytesOf " " ++ decimalOf value ++ bytesOf "))\n")) ⌝ }
 {
     let word = write_bytes(out, at, b" (");
     let space = write_kind(out, word, kind);

@@ -1,5 +1,5 @@
 -- Laws on a number's decimal digits, as they are made from the last one on into the back of a list. Assumes nothing.
-use Prim.Native.Nat.{ℕ, zero, suc, _+_, _*_, _-_, _/_, _%_, _^_, _≤_, _<_}
+use Prim.Native.Nat.{ℕ, zero, suc, _+_, _-_, _/_, _%_, _^_, _≤_, _<_}
 use mathlib.Core.Path.{_≡_, ap}
 use mathlib.Core.Bool.{Bool, true, false}
 use mathlib.Core.List.{List, [], _∷_, _++_, append-assoc}
@@ -28,7 +28,7 @@ unfolding digitsOf
 more-digits places number large = ap (byTest places number) (le-ltb number 10 large)
 
 -- no more digits than places
-pub digits-limit : (places number : ℕ) → length (digitsOf places number) ≤ places
+digits-limit : (places number : ℕ) → length (digitsOf places number) ≤ places
 unfolding digitsOf
 digits-limit zero number = omega arith
 digits-limit (suc places) number = go (ltb number 10) (digits-limit places (number / 10))
@@ -42,10 +42,17 @@ unfolding decimalOf
 decimal-limit number = digits-limit 20 number
 
 -- a list from a place on, after a store there
-from-store : (digits : List ℕ) (place digit : ℕ) → place < length digits → drop place (set digits place digit) ≡ digit ∷ drop (suc place) digits
+from-store :
+    (digits : List ℕ) (place digit : ℕ)
+    → place < length digits
+    → drop place (set digits place digit) ≡ digit ∷ drop (suc place) digits
 from-store digits place digit within =
     let inside : place < length (set digits place digit) = simp length-set within in
-    rw (drop-cons (set digits place digit) place 0 inside, getD-set-same digits place digit 0 within, drop-set-lt (suc place) digits place digit (omega arith))
+    rw (
+      drop-cons (set digits place digit) place 0 inside,
+      getD-set-same digits place digit 0 within,
+      drop-set-lt (suc place) digits place digit (omega arith),
+    )
 
 -- where a number of more than one digit fits so many places, its front fits one place fewer, and at least one is left
 pub front-fits : (places number : ℕ) → 9 < number → number < 10 ^ places → (number / 10 < 10 ^ (places - 1)) × (1 < places)

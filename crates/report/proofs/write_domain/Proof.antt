@@ -12,7 +12,8 @@ use Rattle.report.proofs.write_domain.Statement.{statement}
 use Rattle.report.proofs.write_domain.Tie as tie
 
 abbrev Inv-loop : tie.InvT-loop
-Inv-loop out₀ at log quota domain count next₀ number₀ out next number = (number ≤ count) × Wrote out₀ at (domainLines quota domain log number) out next
+Inv-loop out₀ at log quota domain count next₀ number₀ out next number =
+    (number ≤ count) × Wrote out₀ at (domainLines quota domain log number) out next
 
 abbrev μ-loop : tie.MeasureT-loop
 μ-loop out₀ at log quota domain count next₀ number₀ out next number = count - number

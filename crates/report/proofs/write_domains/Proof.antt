@@ -13,7 +13,8 @@ use Rattle.report.proofs.write_domains.Statement.{statement}
 use Rattle.report.proofs.write_domains.Tie as tie
 
 abbrev Inv-loop : tie.InvT-loop
-Inv-loop out₀ log quota domains state next₀ domain₀ out next domain = (domain ≤ domains) × Wrote out₀ 0 (seenLines quota state log domain) out next
+Inv-loop out₀ log quota domains state next₀ domain₀ out next domain =
+    (domain ≤ domains) × Wrote out₀ 0 (seenLines quota state log domain) out next
 
 abbrev μ-loop : tie.MeasureT-loop
 μ-loop out₀ log quota domains state next₀ domain₀ out next domain = domains - domain

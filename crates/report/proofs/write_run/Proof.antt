@@ -55,7 +55,10 @@ returns c =
     let first = last .before .before .before .before in
     let quota = first .before .before .before .part-records in
     let args = first .before .before .before .before .before .before .args in
-    run-written (args .out .now) (args .log .now) (args .plan) (args .state) (quota .result) (quota .ensures (args .plan) refl) (first .write-domains .ensures) (last .write-end .ensures)
+    run-written (args .out .now) (args .log .now) (args .plan) (args .state) (quota .result)
+    (quota .ensures (args .plan) refl)
+    (first .write-domains .ensures)
+    (last .write-end .ensures)
 
 pub write-run-spec : {M : Type 1} → statement M
 write-run-spec =

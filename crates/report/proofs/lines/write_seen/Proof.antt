@@ -58,7 +58,9 @@ returns c =
     let value = first .before .before .before .value-at in
     let clock = first .before .before .before .before .clock-at in
     let args = first .before .before .before .before .before .before .before .before .args in
-    seen-written (args .out .now) (args .log .now) (args .at) (args .domain) (args .place) (clock .result) (value .result) (clock .ensures) (value .ensures)
+    seen-written (args .out .now) (args .log .now) (args .at) (args .domain) (args .place) (clock .result) (value .result)
+    (clock .ensures)
+    (value .ensures)
     (first .write-numbered .ensures)
     (second .write-numbered2 .ensures)
     (third .write-kind-and-value .ensures)
