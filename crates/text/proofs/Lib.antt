@@ -1,4 +1,5 @@
--- The laws on the tokens of a text that other crates cite.
-pub mod Scanned
+-- The laws on the tokens of a text, and on its numbers, that other crates cite.
 pub mod Decimals
+pub mod DigitsMade
+pub mod Scanned
 pub mod Spelled

@@ -1,4 +1,5 @@
 // The tokens of a plan text: a byte slice, read from an offset.
+pub mod decimal;
 
 // What stands next in a line. `start` is the offset of the token's first byte and `end` the offset past its last.
 pub enum Token {
