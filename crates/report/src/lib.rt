@@ -1,6 +1,7 @@
 // The printed lines of a run or of a refusal, as bytes in a lent buffer. What lies past the buffer's end is left out.
 mod fields;
 mod lines;
+pub mod program;
 
 use lines::write_end;
 use lines::write_pair;
