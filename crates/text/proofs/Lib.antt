@@ -1,3 +1,3 @@
-pub mod Both
+pub mod Reached
 pub mod Scanning
 pub mod Values

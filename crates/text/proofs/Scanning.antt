@@ -2,12 +2,11 @@
 use Prim.Native.Nat.{ℕ, zero, suc, _+_, _≤_, _<_}
 use native.Mathlib.Numerals.{add-one}
 use native.Mathlib.Omega.{arith}
-use mathlib.Core.Bool.{Bool, true, false}
+use mathlib.Core.Bool.{Bool, true, false, and-eq-true-iff}
 use mathlib.Core.List.{List, [], _∷_}
 use mathlib.Core.Path.{_≡_}
 use lib.ListN.{length, getD, drop, drop-of-length-le, length-drop}
 use lib.Seq.{drop-cons}
-use Rattle.text.proofs.Both.{both-left, both-right}
 use Rattle.text.specs.Scan.{allBytes, scanFrom, scanOf}
 
 -- ---- the first byte that passes a test
@@ -77,5 +76,5 @@ module _ (test : ℕ → Bool) where
   pub all-at : (run : List ℕ) (i : ℕ) → allBytes test run ≡ true → i < length run → test (getD run i 0) ≡ true
   unfolding allBytes
   all-at [] i e h = absurd (omega arith)
-  all-at (byte ∷ rest) zero e h = both-left (test byte) (allBytes test rest) e
-  all-at (byte ∷ rest) (suc i) e h = all-at rest i (both-right (test byte) (allBytes test rest) e) (omega arith)
+  all-at (byte ∷ rest) zero e h = and-eq-true-iff (test byte) (allBytes test rest) .0 e .0
+  all-at (byte ∷ rest) (suc i) e h = all-at rest i (and-eq-true-iff (test byte) (allBytes test rest) .0 e .1) (omega arith)

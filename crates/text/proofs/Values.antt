@@ -3,14 +3,13 @@ use Prim.Native.Nat.{ℕ, _+_, _*_, _-_, _^_, _≤_, _<_}
 use native.Mathlib.Nat.{pow-suc, pow-le-pow-right}
 use native.Mathlib.Numerals.{add-one}
 use native.Mathlib.Omega.{arith}
-use mathlib.Core.Bool.{true}
+use mathlib.Core.Bool.{true, and-eq-true-iff}
 use mathlib.Core.List.{List}
 use mathlib.Core.Path.{_≡_}
 use lib.Dec.{leb, lit<}
 use lib.ListN.{length, getD, drop, drop-of-length-le}
 use lib.Seq.{drop-cons}
 use borrow.Author.Tests.{leb-true}
-use Rattle.text.proofs.Both.{both-left, both-right}
 use Rattle.text.specs.Bytes.{isDigit}
 use Rattle.text.specs.Tokens.{valueAfter}
 
@@ -38,4 +37,5 @@ ten-digits i value h k = omega (arith, pow-le-pow-right {n = 10} (lit< tt) k)
 -- a digit is one of ten bytes
 pub digit-limits : (byte : ℕ) → isDigit byte ≡ true → (48 ≤ byte) × (byte ≤ 57)
 digit-limits byte e =
-    (leb-true _ _ (both-left (leb 48 byte) (leb byte 57) e), leb-true _ _ (both-right (leb 48 byte) (leb byte 57) e))
+    let parts = and-eq-true-iff (leb 48 byte) (leb byte 57) .0 e in
+    (leb-true _ _ (parts .0), leb-true _ _ (parts .1))
