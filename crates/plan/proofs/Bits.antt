@@ -2,12 +2,12 @@
 use mathlib.Core.Path.{_≡_, refl, sym, ap, _∙_, subst}
 use mathlib.Core.Bool.{Bool, true, false, true≢false, false≢true}
 use Prim.Native.Nat.{ℕ, zero, suc, _+_, _*_, _-_, _/_, _%_, _^_, _≤_, _<_}
-use native.Mathlib.Nat.{add-zero, div-eq-of-lt, lt-of-lt-of-le, mul-assoc, zero-mod}
+use native.Mathlib.Nat.{add-zero, div-eq-of-lt, lt-of-lt-of-le, mul-assoc, one-mul}
 use native.Mathlib.Omega.{arith}
 use lib.Bits.{shifted-even}
 use lib.Count.{ones, ones-cat, ones-ones}
 use lib.Dec.{eqb, ltb}
-use lib.Pow.{ones-lt, pow-add, pow-mono, pow-pos, shl-lt, shl-shr}
+use lib.Pow.{ones-lt, pow-add, pow-mono, pow-pos, shl-exact, shl-lt, shl-shr}
 use borrow.Author.Tests.{eqb-true, le-ltb, lt-ltb, ltb-false, ltb-true, ne-eqb}
 use Rattle.plan.specs.Colours.{hasBit, maskFrom}
 
@@ -63,3 +63,17 @@ mask-ones first count =
     ∙ ones-cat first (2 ^ count - 1) 0 (pow-pos first)
     ∙ ap (λ (n : ℕ). n + ones 0) (ones-ones count)
     ∙ add-zero count
+
+-- a mask of at most 15 colours, as it is computed at 32 bits
+pub one-shifted : (count : ℕ) → count ≤ 15 → 1 * 2 ^ count % 2 ^ 32 ≡ 2 ^ count
+one-shifted count small = shl-exact 1 count 32 (omega arith) (omega arith) ∙ one-mul (2 ^ count)
+
+pub mask-shifted : (first count : ℕ) → first + count ≤ 15 → (1 * 2 ^ count % 2 ^ 32 - 1) * 2 ^ first % 2 ^ 32 ≡ maskFrom first count
+unfolding maskFrom
+mask-shifted first count small =
+    ap (λ (n : ℕ). (n - 1) * 2 ^ first % 2 ^ 32) (one-shifted count (omega arith))
+    ∙ shl-exact count first 32 (ones-lt count) (omega arith)
+
+pub mask-fits : (first count : ℕ) → first + count ≤ 15 → maskFrom first count < 2 ^ 16
+unfolding maskFrom
+mask-fits first count small = lt-of-lt-of-le (shl-lt count first (ones-lt count)) (pow-mono {i = count + first} {j = 16} (omega arith))

@@ -8,7 +8,7 @@ use lib.ListN.{getD}
 use borrow.Author.Tests.{eqb-true, leb-true, ltb-true, lt-ltb, le-ltb, not-true}
 use Rattle.plan.specs.declared.Plan.{Plan}
 use Rattle.plan.specs.Colours.{coloursAt, maskAt, maskOf, shareOf, sharesTotal}
-use Rattle.plan.specs.Possible.{countsPossible, declaredPossible, domainPossible, planPossible, undeclaredPossible, windowPossible, within}
+use Rattle.plan.specs.Possible.{countsPossible, declaredPossible, domainPossible, maskPossible, planPossible, undeclaredPossible, windowPossible, within}
 use Rattle.plan.specs.Rights.{maySend, rightsAt}
 use Rattle.plan.specs.Sums.{allBelow}
 use Rattle.plan.specs.Windows.{ticksTotal}
@@ -22,18 +22,20 @@ both a b h = and-eq-true-iff a b .0 h
 pub limits : (low high number : ℕ) → within low high number ≡ true → (low ≤ number) × (number ≤ high)
 limits low high number h = let parts = both (leb low number) (leb number high) h in (leb-true _ _ (parts .0), leb-true _ _ (parts .1))
 
--- the five parts of the check
+-- the six parts of the check
 pub record Possible (plan : Plan) : Type 0 where
   pub counts : countsPossible plan ≡ true
   pub domains : allBelow (domainPossible plan) 8 ≡ true
   pub shares : sharesTotal plan (plan .domains) ≤ 1_000
+  pub masks : allBelow (maskPossible plan) 8 ≡ true
   pub windows : allBelow (windowPossible plan) 32 ≡ true
   pub ticks : ticksTotal plan ≤ 4_294_967_295
 
 pub parts : (plan : Plan) → planPossible plan ≡ true → Possible plan
 unfolding planPossible
 parts plan possible =
-    let fifth = both _ _ possible in
+    let sixth = both _ _ possible in
+    let fifth = both _ _ (sixth .0) in
     let fourth = both _ _ (fifth .0) in
     let third = both _ _ (fourth .0) in
     let second = both _ _ (third .0) in
@@ -41,8 +43,9 @@ parts plan possible =
       counts = second .0;
       domains = second .1;
       shares = leb-true _ _ (third .1);
-      windows = fourth .1;
-      ticks = leb-true _ _ (fifth .1);
+      masks = fourth .1;
+      windows = fifth .1;
+      ticks = leb-true _ _ (sixth .1);
     }
 
 -- the four counts
@@ -56,10 +59,10 @@ pub record Counts (plan : Plan) : Type 0 where
   pub windows-least : 1 ≤ plan .windows
   pub windows-most : plan .windows ≤ 32
 
-pub counts : (plan : Plan) → planPossible plan ≡ true → Counts plan
+pub counts-of : (plan : Plan) → countsPossible plan ≡ true → Counts plan
 unfolding countsPossible
-counts plan possible =
-    let third = both _ _ (parts plan possible .counts) in
+counts-of plan possible =
+    let third = both _ _ possible in
     let second = both _ _ (third .0) in
     let first = both _ _ (second .0) in
     let pad = limits _ _ _ (first .0) in
@@ -77,6 +80,9 @@ counts plan possible =
       windows-most = windows .1;
     }
 
+pub counts : (plan : Plan) → planPossible plan ≡ true → Counts plan
+counts plan possible = counts-of plan (parts plan possible .counts)
+
 -- a declared domain
 pub record Declared (plan : Plan) (domain : ℕ) : Type 0 where
   pub share-least : 1 ≤ shareOf plan domain
@@ -86,14 +92,19 @@ pub record Declared (plan : Plan) (domain : ℕ) : Type 0 where
   pub not-own : maySend plan domain domain ≡ false
   pub mask : maskAt plan domain ≡ maskOf plan domain
 
+-- the mask at a place
+mask-at :
+    (plan : Plan) (domain : ℕ) → planPossible plan ≡ true → domain < 8 → maskAt plan domain ≡ cond (ltb domain (plan .domains)) (maskOf plan domain) 0
+unfolding maskPossible
+mask-at plan domain possible below = eqb-true _ _ (all-below (maskPossible plan) 8 domain (parts plan possible .masks) below)
+
 pub declared : (plan : Plan) (domain : ℕ) → planPossible plan ≡ true → domain < plan .domains → Declared plan domain
 unfolding domainPossible declaredPossible
 declared plan domain possible below =
     let most : plan .domains ≤ 8 = counts plan possible .domains-most in
     let whole : domainPossible plan domain ≡ true = all-below (domainPossible plan) 8 domain (parts plan possible .domains) (omega arith) in
     let own : declaredPossible plan domain ≡ true = rw (lt-ltb domain (plan .domains) below) at whole in
-    let fifth = both _ _ own in
-    let fourth = both _ _ (fifth .0) in
+    let fourth = both _ _ own in
     let third = both _ _ (fourth .0) in
     let second = both _ _ (third .0) in
     let share = limits _ _ _ (second .0) in
@@ -103,7 +114,7 @@ declared plan domain possible below =
       colour = leb-true _ _ (second .1);
       rights-most = ltb-true _ _ (third .1);
       not-own = not-true _ (fourth .1);
-      mask = eqb-true _ _ (fifth .1);
+      mask = rw (lt-ltb domain (plan .domains) below) at (mask-at plan domain possible (omega arith));
     }
 
 -- a place that no domain is declared for
@@ -117,9 +128,12 @@ unfolding domainPossible undeclaredPossible
 undeclared plan domain possible past below =
     let whole : domainPossible plan domain ≡ true = all-below (domainPossible plan) 8 domain (parts plan possible .domains) below in
     let none : undeclaredPossible plan domain ≡ true = rw (le-ltb domain (plan .domains) past) at whole in
-    let third = both _ _ none in
-    let second = both _ _ (third .0) in
-    record { share = eqb-true _ _ (second .0); rights = eqb-true _ _ (second .1); mask = eqb-true _ _ (third .1) }
+    let second = both _ _ none in
+    record {
+      share = eqb-true _ _ (second .0);
+      rights = eqb-true _ _ (second .1);
+      mask = rw (le-ltb domain (plan .domains) past) at (mask-at plan domain possible below);
+    }
 
 -- a declared window
 pub record DeclaredWindow (plan : Plan) (slot : ℕ) : Type 0 where
@@ -136,3 +150,33 @@ declared-window plan slot possible below =
     let second = both _ _ own in
     let length = limits _ _ _ (second .1) in
     record { owner = ltb-true _ _ (second .0); length-least = length .0; length-most = length .1 }
+
+-- where every place for a domain is possible, no share is over 1,000
+pub shares-most :
+    (plan : Plan) → allBelow (domainPossible plan) 8 ≡ true → (domain : ℕ) → domain < 8 → getD (plan .shares) domain 0 ≤ 1_000
+unfolding domainPossible declaredPossible undeclaredPossible
+shares-most plan all domain below = go (ltb domain (plan .domains)) (all-below (domainPossible plan) 8 domain all below)
+  where
+    go : (b : Bool) → cond b (declaredPossible plan domain) (undeclaredPossible plan domain) ≡ true → shareOf plan domain ≤ 1_000
+    go true own = limits _ _ _ (both _ _ (both _ _ (both _ _ own .0) .0) .0) .1
+    go false none = let zero : shareOf plan domain ≡ 0 = eqb-true _ _ (both _ _ none .0) in omega arith
+
+-- where every place for a window is possible, no length is over 1,000,000
+pub lengths-most :
+    (plan : Plan) → allBelow (windowPossible plan) 32 ≡ true → (slot : ℕ) → slot < 32 → getD (plan .lengths) slot 0 ≤ 1_000_000
+unfolding windowPossible
+lengths-most plan all slot below = go (ltb slot (plan .windows)) (all-below (windowPossible plan) 32 slot all below)
+  where
+    go :
+        (b : Bool)
+        → cond b (ltb (getD (plan .owners) slot 0) (plan .domains) && within 1 1_000_000 (getD (plan .lengths) slot 0))
+        (eqb (getD (plan .owners) slot 0) 0 && eqb (getD (plan .lengths) slot 0) 0)
+        ≡ true
+        → getD (plan .lengths) slot 0 ≤ 1_000_000
+    go true own =
+        limits 1 1_000_000 _
+        (both (ltb (getD (plan .owners) slot 0) (plan .domains)) (within 1 1_000_000 (getD (plan .lengths) slot 0)) own .1) .1
+    go false none =
+        let zero : getD (plan .lengths) slot 0 ≡ 0 =
+        eqb-true _ _ (both (eqb (getD (plan .owners) slot 0) 0) (eqb (getD (plan .lengths) slot 0) 0) none .1) in
+        omega arith

@@ -1,11 +1,15 @@
 -- Sums and tests over the first places of an array: place by place, and monotone. Assumes nothing.
-use mathlib.Core.Path.{_≡_, refl, ap₂}
-use mathlib.Core.Bool.{Bool, true, false, _&&_, and-eq-true-iff}
+use mathlib.Core.Path.{_≡_, refl, sym, ap, ap₂, _∙_}
+use mathlib.Core.Bool.{Bool, true, false, false≢true, cond, _&&_, and-eq-true-iff}
 use Prim.Native.Nat.{ℕ, zero, suc, _+_, _*_, _≤_, _<_, zero-le}
 use native.Mathlib.Nat.{mul-suc, not-suc-le-zero}
 use native.Mathlib.Omega.{arith}
-use lib.Dec.{eqb}
-use borrow.Author.Tests.{eqb-true, eqb-false}
+use mathlib.Core.List.{List}
+use native.Mathlib.Numerals.{add-one}
+use lib.Dec.{eqb, leb·suc-zero, ltb}
+use lib.ListN.{getD, getD-replicate, length, replicate, set}
+use lib.Seq.{getD-set-other, getD-set-same}
+use borrow.Author.Tests.{eqb-true, eqb-false, le-ltb, lt-ltb, ltb-false, ltb-true}
 use Rattle.plan.specs.Sums.{sumTo, allBelow}
 
 -- a place below count + 1 is the last one or an earlier one
@@ -63,3 +67,51 @@ sum-most f most (suc count) each =
     let before : sumTo f count ≤ most * count = sum-most f most count (λ place below. each place (omega arith)) in
     let here : f count ≤ most = each count (omega arith) in
     rw mul-suc (omega arith)
+
+-- one place more
+pub sum-more : (f : ℕ → ℕ) (total count : ℕ) → total ≡ sumTo f count → total + f count ≡ sumTo f (count + 1)
+unfolding sumTo
+sum-more f total count so-far = rw (so-far, add-one)
+
+-- an array of eight zeros is filled by any rule up to place 0
+pub filled-none : (rule : ℕ → ℕ) (place : ℕ) → place < 8 → getD (replicate 8 0) place 0 ≡ cond (ltb place 0) (rule place) 0
+filled-none rule place below = getD-replicate 8 place 0 0 below ∙ sym (ap (λ (b : Bool). cond b (rule place) 0) (leb·suc-zero place))
+
+-- an array of eight, filled by a rule up to a place, filled one place further
+pub filled-more :
+    (rule : ℕ → ℕ) (array : List ℕ) (count : ℕ)
+    → length array ≡ 8
+    → count < 8
+    → ((place : ℕ) → place < 8 → getD array place 0 ≡ cond (ltb place count) (rule place) 0)
+    → (place : ℕ)
+    → place < 8
+    → getD (set array count (rule count)) place 0 ≡ cond (ltb place (count + 1)) (rule place) 0
+filled-more rule array count long below filled place within = go (eqb place count) refl
+  where
+    go : (b : Bool) → eqb place count ≡ b → getD (set array count (rule count)) place 0 ≡ cond (ltb place (count + 1)) (rule place) 0
+    go true e =
+        let same : place ≡ count = eqb-true place count e in
+        rw (same, lt-ltb count (count + 1) (omega arith)) (getD-set-same array count (rule count) 0 (omega arith))
+    go false e =
+        let differs : (place ≡ count → ⊥) = eqb-false place count e in
+        getD-set-other array count place (rule count) 0 differs ∙ filled place within ∙ ap (λ (b : Bool). cond b (rule place) 0) (tests (ltb place count) refl)
+      where
+        tests : (b : Bool) → ltb place count ≡ b → b ≡ ltb place (count + 1)
+        tests true l = let less : place < count = ltb-true place count l in sym (lt-ltb place (count + 1) (omega arith))
+        tests false l =
+            let past : count ≤ place = ltb-false place count l in
+            let differs : (place ≡ count → ⊥) = eqb-false place count e in
+            sym (le-ltb place (count + 1) (omega arith))
+
+-- a test that fails at a place fails over any number of places that has it
+pub all-below-fails : (test : ℕ → Bool) (count place : ℕ) → place < count → test place ≡ false → false ≡ allBelow test count
+all-below-fails test count place below fails = go (allBelow test count) refl
+  where
+    go : (b : Bool) → allBelow test count ≡ b → false ≡ allBelow test count
+    go true e = absurd (false≢true (sym fails ∙ all-below test count place e below))
+    go false e = sym e
+
+-- one place more
+pub all-below-more : (test : ℕ → Bool) (count : ℕ) → allBelow test count ≡ true → test count ≡ true → allBelow test (count + 1) ≡ true
+unfolding allBelow
+all-below-more test count before here = rw add-one (and-eq-true-iff (allBelow test count) (test count) .1 (before, here))

@@ -9,8 +9,8 @@ use Rattle.plan.specs.declared.Plan.{Plan}
 use Rattle.plan.specs.Possible.{planPossible}
 use Rattle.plan.specs.Sums.{sumTo}
 use Rattle.plan.specs.Windows.{endOf, lengthOf, ownerOf, paddedLength, slotOf, startOf, ticksTotal, windowsTotal}
-use Rattle.plan.proofs.Possible.{counts, declared-window}
-use Rattle.plan.proofs.Sums.{sum-mono}
+use Rattle.plan.proofs.Possible.{counts, declared-window, parts}
+use Rattle.plan.proofs.Sums.{sum-most}
 
 pub pad-least : (plan : Plan) → planPossible plan ≡ true → 276 ≤ plan .pad
 pad-least plan possible = counts plan possible .pad-least
@@ -94,3 +94,26 @@ start-most plan window possible within =
     let later : window + rest ≡ windowsTotal plan = omega arith in
     let last : startOf plan (window + rest) ≡ ticksTotal plan = ap (startOf plan) later ∙ start-total plan possible in
     rw last at (start-mono plan window rest)
+
+-- the first declared windows with their pads, each of at most 2,000,000 ticks
+pub padded-most :
+    (plan : Plan) (count : ℕ)
+    → plan .pad ≤ 1_000_000
+    → ((slot : ℕ) → slot < count → getD (plan .lengths) slot 0 ≤ 1_000_000)
+    → sumTo (paddedLength plan) count ≤ 2_000_000 * count
+padded-most plan count pad lengths = sum-most (paddedLength plan) 2_000_000 count (λ slot below. omega (arith, lengths slot below))
+
+-- the start in closed form, as whole repeats of what the declared windows take once through
+pub start-repeats :
+    (plan : Plan) (window : ℕ)
+    → planPossible plan ≡ true
+    → window / plan .windows * sumTo (paddedLength plan) (plan .windows) + sumTo (paddedLength plan) (slotOf plan window) ≡ startOf plan window
+unfolding frame
+start-repeats plan window possible = sym (start-closed plan window (counts plan possible .windows-least))
+
+-- no start of a run is over the largest total
+pub start-fits :
+    (plan : Plan) (window : ℕ) → planPossible plan ≡ true → window ≤ windowsTotal plan → startOf plan window ≤ 4_294_967_295
+start-fits plan window possible within =
+    let most : startOf plan window ≤ ticksTotal plan = start-most plan window possible within in
+    omega (arith, parts plan possible .ticks)

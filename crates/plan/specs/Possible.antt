@@ -18,21 +18,24 @@ unfoldable pub countsPossible : Plan → Bool
 countsPossible plan =
     within 276 1_000_000 (plan .pad) && within 1 1_000 (plan .run) && within 1 8 (plan .domains) && within 1 32 (plan .windows)
 
--- a declared domain: a share of 1 to 1,000 that gives a colour; a list of declared recipients without its own number; the mask that its share gives
+-- a declared domain: a share of 1 to 1,000 that gives a colour; a list of declared recipients without its own number
 unfoldable pub declaredPossible : Plan → ℕ → Bool
 declaredPossible plan domain =
     within 1 1_000 (shareOf plan domain)
     && leb 1 (coloursAt plan domain)
     && ltb (rightsAt plan domain) (2 ^ plan .domains)
     && not (maySend plan domain domain)
-    && eqb (maskAt plan domain) (maskOf plan domain)
 
 -- a place that no domain is declared for holds zeros
 unfoldable pub undeclaredPossible : Plan → ℕ → Bool
-undeclaredPossible plan domain = eqb (shareOf plan domain) 0 && eqb (rightsAt plan domain) 0 && eqb (maskAt plan domain) 0
+undeclaredPossible plan domain = eqb (shareOf plan domain) 0 && eqb (rightsAt plan domain) 0
 
 unfoldable pub domainPossible : Plan → ℕ → Bool
 domainPossible plan domain = cond (ltb domain (plan .domains)) (declaredPossible plan domain) (undeclaredPossible plan domain)
+
+-- a declared domain keeps the mask that its share gives, and a place that none is declared for holds 0
+unfoldable pub maskPossible : Plan → ℕ → Bool
+maskPossible plan domain = eqb (maskAt plan domain) (cond (ltb domain (plan .domains)) (maskOf plan domain) 0)
 
 -- a declared window is a declared domain's, of 1 to 1,000,000 ticks; a place that no window is declared for holds zeros
 unfoldable pub windowPossible : Plan → ℕ → Bool
@@ -47,5 +50,6 @@ planPossible plan =
     countsPossible plan
     && allBelow (domainPossible plan) 8
     && leb (sharesTotal plan (plan .domains)) 1_000
+    && allBelow (maskPossible plan) 8
     && allBelow (windowPossible plan) 32
     && leb (ticksTotal plan) 4_294_967_295

@@ -1,4 +1,7 @@
 // A plan: what the reader hands on to the machine.
+pub mod checking;
+pub mod sharing;
+pub mod timing;
 
 pub struct Plan {
     // ticks from a window's end to the next window's start

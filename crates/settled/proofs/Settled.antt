@@ -7,7 +7,7 @@ use Rattle.lists.specs.Part.{part, splice}
 use Rattle.script.specs.Fetch.{opOf, decodeOf, fetchOf}
 use Rattle.script.specs.Stored.{storedOf}
 use Rattle.plan.specs.Colours.{coloursOf, sharesTotal, firstColour, maskFrom, maskOf, holdingOf, hasBit}
-use Rattle.plan.specs.Possible.{countsPossible, declaredPossible, undeclaredPossible, domainPossible, windowPossible, planPossible}
+use Rattle.plan.specs.Possible.{countsPossible, declaredPossible, undeclaredPossible, domainPossible, maskPossible, windowPossible, planPossible}
 use Rattle.plan.specs.Sums.{sumTo, allBelow}
 use Rattle.plan.specs.Windows.{ownerOf, lengthOf, startOf, endOf, windowsTotal, ticksTotal}
 use Rattle.text.specs.Decimal.{digitsOf, decimalOf}
@@ -38,5 +38,5 @@ use Rattle.report.specs.Planrun.{ranLines, planrunOf}
 use Rattle.settled.specs.Table.{fullRun, shares, lineHundred, boxLines, leastPad, dirtyTo, flushes, tableAfter, allMiss, fiveReads, sixthRead, firstWindowAt, stepAt, beginsBeforeEnd, noneAtEnd, emptyText, entries, allHold}
 
 pub settled : allHold entries ≡ true
-unfolding bytesOf part splice opOf decodeOf fetchOf storedOf coloursOf sharesTotal firstColour maskFrom maskOf holdingOf hasBit countsPossible declaredPossible undeclaredPossible domainPossible windowPossible planPossible sumTo allBelow ownerOf lengthOf startOf endOf windowsTotal ticksTotal digitsOf decimalOf scanFrom scanOf allBytes valueAfter valueOf digitsToken runToken longestRun tokenFrom tokenAt noPlan noDraft noOps planWithPad planWithRun planWithDomain planWithWindow takePad takeRun takeDomain takeWindow takeOp takeLine lacking firstUndeclared firstColourless finalVerdict masksFrom planWithMasks padInside runInside lengthInside windowInside opHeadAt opNumbers scriptInside opInside recipientAt mention recipientsFrom recipientsAt listedInside mayInside shareInside domainInside headAt insideOf closedLine insideLine tokenLine lineAt walkFrom refusedRead readOf sameBytes isWord passOpen passClose passLineEnd passWord takeNumber lookHit1 lookL2 lookOf lookAt accessOf countOf dirtyLines validLines kernelFlushTicks l1FlushTicks kernelFlushed l1Flushed has behind used lineAllowed l1EntrySound allEmpty waysSound setSound boxSound tablesSound clockPossible machineCountsPossible statePossible ownsLine touchOf deniedOf passedOf sendOf boxSeen receiveOf computeOf effectOf recordBytes partRecords stored logPart opStepOf closedOf fetchedStep activeStep stepOf steps runOf flushedClock paddedClock switchOf endedOf freshState logCallOf logRefusalOf stateVerdict freshVerdict runVerdict logVerdict freshStartOf freshWorld ranFrom runCallOf stepCallOf seenLine domainLines seenLines endLine runLines refusedLine ranLines planrunOf fullRun shares lineHundred boxLines leastPad dirtyTo flushes tableAfter allMiss fiveReads sixthRead firstWindowAt stepAt beginsBeforeEnd noneAtEnd emptyText entries allHold
+unfolding bytesOf part splice opOf decodeOf fetchOf storedOf coloursOf sharesTotal firstColour maskFrom maskOf holdingOf hasBit countsPossible declaredPossible undeclaredPossible domainPossible maskPossible windowPossible planPossible sumTo allBelow ownerOf lengthOf startOf endOf windowsTotal ticksTotal digitsOf decimalOf scanFrom scanOf allBytes valueAfter valueOf digitsToken runToken longestRun tokenFrom tokenAt noPlan noDraft noOps planWithPad planWithRun planWithDomain planWithWindow takePad takeRun takeDomain takeWindow takeOp takeLine lacking firstUndeclared firstColourless finalVerdict masksFrom planWithMasks padInside runInside lengthInside windowInside opHeadAt opNumbers scriptInside opInside recipientAt mention recipientsFrom recipientsAt listedInside mayInside shareInside domainInside headAt insideOf closedLine insideLine tokenLine lineAt walkFrom refusedRead readOf sameBytes isWord passOpen passClose passLineEnd passWord takeNumber lookHit1 lookL2 lookOf lookAt accessOf countOf dirtyLines validLines kernelFlushTicks l1FlushTicks kernelFlushed l1Flushed has behind used lineAllowed l1EntrySound allEmpty waysSound setSound boxSound tablesSound clockPossible machineCountsPossible statePossible ownsLine touchOf deniedOf passedOf sendOf boxSeen receiveOf computeOf effectOf recordBytes partRecords stored logPart opStepOf closedOf fetchedStep activeStep stepOf steps runOf flushedClock paddedClock switchOf endedOf freshState logCallOf logRefusalOf stateVerdict freshVerdict runVerdict logVerdict freshStartOf freshWorld ranFrom runCallOf stepCallOf seenLine domainLines seenLines endLine runLines refusedLine ranLines planrunOf fullRun shares lineHundred boxLines leastPad dirtyTo flushes tableAfter allMiss fiveReads sixthRead firstWindowAt stepAt beginsBeforeEnd noneAtEnd emptyText entries allHold
 settled = refl

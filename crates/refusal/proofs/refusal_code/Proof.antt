@@ -1,10 +1,7 @@
+-- `refusal::refusal_code` meets its contract. Assumes nothing.
 use borrow.Author.Needs.{needs}
-use borrow.Author.Tests.{lt-ltb, le-ltb, le-leb, lt-leb, eq-eqb, ne-eqb}
-use Rattle.refusal.specs.Code.{refusalCode}
 use Rattle.refusal.proofs.refusal_code.Statement.{statement}
 use Rattle.refusal.proofs.refusal_code.Tie as tie
-use Rattle.refusal.proofs.refusal_code.Reads as reads
-use Rattle.refusal.proofs.refusal_code.Lts as lts
 
 enum-told : tie.Need-enum-told
 enum-told c = search needs
@@ -49,59 +46,45 @@ enum-told-6 : tie.Need-enum-told-6
 enum-told-6 c = search needs
 
 returns : tie.Need-returns
-unfolding refusalCode
 returns c = simp (c .enum-told .given .1)
 
 returns-2 : tie.Need-returns-2
-unfolding refusalCode
 returns-2 c = simp (c .before .refusal .given .1)
 
 returns-3 : tie.Need-returns-3
-unfolding refusalCode
 returns-3 c = simp (c .before .refusal2 .given .1)
 
 returns-4 : tie.Need-returns-4
-unfolding refusalCode
 returns-4 c = simp (c .before .refusal3 .given .1)
 
 returns-5 : tie.Need-returns-5
-unfolding refusalCode
 returns-5 c = simp (c .before .refusal4 .given .1)
 
 returns-6 : tie.Need-returns-6
-unfolding refusalCode
 returns-6 c = simp (c .before .refusal5 .given .1)
 
 returns-7 : tie.Need-returns-7
-unfolding refusalCode
 returns-7 c = simp (c .before .refusal6 .given .1)
 
 returns-8 : tie.Need-returns-8
-unfolding refusalCode
 returns-8 c = simp (c .before .refusal7 .given .1)
 
 returns-9 : tie.Need-returns-9
-unfolding refusalCode
 returns-9 c = simp (c .enum-told2 .given .1)
 
 returns-10 : tie.Need-returns-10
-unfolding refusalCode
 returns-10 c = simp (c .before .refusal8 .given .1)
 
 returns-11 : tie.Need-returns-11
-unfolding refusalCode
 returns-11 c = simp (c .enum-told3 .given .1)
 
 returns-12 : tie.Need-returns-12
-unfolding refusalCode
 returns-12 c = simp (c .enum-told4 .given .1)
 
 returns-13 : tie.Need-returns-13
-unfolding refusalCode
 returns-13 c = simp (c .enum-told5 .given .1)
 
 returns-14 : tie.Need-returns-14
-unfolding refusalCode
 returns-14 c = simp (c .enum-told6 .given .1)
 
 pub refusal-code-spec : {M : Type 1} → statement M

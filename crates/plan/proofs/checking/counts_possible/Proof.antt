@@ -1,0 +1,31 @@
+-- `plan::checking::counts_possible` meets its contract. Assumes nothing.
+use borrow.Author.Needs.{needs}
+use Rattle.plan.specs.Possible.{countsPossible}
+use Rattle.plan.proofs.checking.counts_possible.Statement.{statement}
+use Rattle.plan.proofs.checking.counts_possible.Tie as tie
+
+is-within-requires : tie.Need-is-within-requires
+is-within-requires c κs = search needs
+
+is-within-requires-2 : tie.Need-is-within-requires-2
+is-within-requires-2 c κs = search needs
+
+is-within-requires-3 : tie.Need-is-within-requires-3
+is-within-requires-3 c κs = search needs
+
+is-within-requires-4 : tie.Need-is-within-requires-4
+is-within-requires-4 c κs = search needs
+
+returns : tie.Need-returns
+unfolding countsPossible
+returns c = simp (← (c .before .before .before .is-within .ensures), ← (c .before .before .is-within2 .ensures), ← (c .before .is-within3 .ensures), ← (c .is-within4 .ensures))
+
+pub counts-possible-spec : {M : Type 1} → statement M
+counts-possible-spec =
+    tie.close
+    (tie.spec
+    is-within-requires
+    is-within-requires-2
+    is-within-requires-3
+    is-within-requires-4
+    returns)

@@ -1,0 +1,19 @@
+-- `plan::sharing::holding` meets its contract. Assumes nothing.
+use mathlib.Core.Path.{refl}
+use borrow.Author.Needs.{needs}
+use Rattle.plan.specs.Colours.{holdingOf}
+use Rattle.plan.proofs.sharing.holding.Statement.{statement}
+use Rattle.plan.proofs.sharing.holding.Tie as tie
+
+mul-result : tie.Need-mul-result
+mul-result c = search needs
+
+array-read-result : tie.Need-array-read-result
+array-read-result c = search needs
+
+returns : tie.Need-returns
+unfolding holdingOf
+returns c = refl
+
+pub holding-spec : {M : Type 1} → statement M
+holding-spec = tie.close (tie.spec mul-result array-read-result returns)

@@ -1,0 +1,114 @@
+-- `plan::sharing::masks_of` meets its contract. Assumes nothing.
+use mathlib.Core.Bool.{cond}
+use mathlib.Core.List.{List}
+use mathlib.Core.Path.{_∙_, _≡_, ap, ap₂, refl}
+use Prim.Native.Nat.{_+_, _-_, _<_, _≤_, ℕ}
+use native.Mathlib.Omega.{arith}
+use lib.Dec.{ltb}
+use lib.ListN.{getD, length, length-set}
+use borrow.Author.Needs.{needs}
+use Rattle.plan.specs.Colours.{coloursOf, firstColour, maskFrom, maskOf}
+use Rattle.plan.specs.Sums.{sumTo}
+use Rattle.plan.proofs.Sums.{filled-more, filled-none, sum-mono, sum-more}
+use Rattle.plan.proofs.sharing.masks_of.Statement.{statement}
+use Rattle.plan.proofs.sharing.masks_of.Tie as tie
+
+-- the mask of a domain, from the shares alone
+abbrev ruleOf : List ℕ → ℕ → ℕ
+ruleOf shares domain =
+    maskFrom (sumTo (λ (place : ℕ). coloursOf (getD shares place 0)) domain) (coloursOf (getD shares domain 0))
+
+abbrev Inv-loop : tie.InvT-loop
+Inv-loop shares domains masks₀ first₀ i₀ masks first i =
+    (i ≤ domains)
+    × (domains ≤ 8)
+    × (first ≡ sumTo (λ (place : ℕ). coloursOf (getD shares place 0)) i)
+    × (length masks ≡ 8)
+    × ((place : ℕ) → place < 8 → getD masks place 0 ≡ cond (ltb place i) (ruleOf shares place) 0)
+
+abbrev μ-loop : tie.MeasureT-loop
+μ-loop shares domains masks₀ first₀ i₀ masks first i = domains - i
+
+cast-domains : tie.Need-cast-domains Inv-loop μ-loop
+cast-domains c = search needs
+
+loop-holds : tie.Need-loop-holds Inv-loop μ-loop
+unfolding sumTo
+loop-holds c = (omega arith, c .before .before .pre .0, refl, refl, filled-none _)
+
+mul-colours-of : tie.Need-mul-colours-of Inv-loop μ-loop
+mul-colours-of c = omega arith
+
+array-read-colours-of : tie.Need-array-read-colours-of Inv-loop μ-loop
+array-read-colours-of c = omega arith
+
+colours-of-requires : tie.Need-colours-of-requires Inv-loop μ-loop
+colours-of-requires c κs = c .before .before .before .before .pre .1 (c .before .loop .i) (omega arith)
+
+mask-from-requires : tie.Need-mask-from-requires Inv-loop μ-loop
+unfolding firstColour
+mask-from-requires c κs =
+    let loop = c .before .before .loop in
+    let start = c .before .before .before .before .before in
+    let rule : ℕ → ℕ = λ place. coloursOf (getD (start .args .plan .shares) place 0) in
+    let next : loop .first + rule (loop .i) ≡ sumTo rule (loop .i + 1) = sum-more rule _ (loop .i) (loop .inv .2) in
+    let more : sumTo rule (loop .i + 1) ≤ sumTo rule (start .args .plan .domains) = sum-mono rule _ _ (omega arith) in
+    let total : sumTo rule (start .args .plan .domains) ≤ 15 = start .pre .2 in
+    omega (arith, c .colours-of .ensures)
+
+mul-masks : tie.Need-mul-masks Inv-loop μ-loop
+mul-masks c = omega arith
+
+array-write-masks : tie.Need-array-write-masks Inv-loop μ-loop
+array-write-masks c = omega (arith, c .before .before .before .loop .inv)
+
+add-first : tie.Need-add-first Inv-loop μ-loop
+add-first c = omega (arith, mask-from-requires (c .before) (c .mask-from .lifetimes))
+
+add-i : tie.Need-add-i Inv-loop μ-loop
+add-i c = omega arith
+
+loop-less : tie.Need-loop-less Inv-loop μ-loop
+loop-less c = omega arith
+
+loop-again : tie.Need-loop-again Inv-loop μ-loop
+loop-again c =
+    let loop = c .before .before .before .loop in
+    let start = c .before .before .before .before .before .before in
+    let rule : ℕ → ℕ = ruleOf (start .args .plan .shares) in
+    let mask : c .mask-from .result ≡ rule (loop .i) =
+    c .mask-from .ensures ∙ ap₂ maskFrom (loop .inv .2) (c .before .colours-of .ensures) in (
+      omega (arith, c .before .before .loop-test),
+      loop .inv .1,
+      ap (λ (n : ℕ). loop .first + n) (c .before .colours-of .ensures) ∙ sum-more _ _ (loop .i) (loop .inv .2),
+      simp length-set (loop .inv .3),
+      rw mask (filled-more rule (loop .masks) (loop .i) (loop .inv .3) (omega (arith, c .before .before .loop-test)) (loop .inv .4)),
+    )
+
+returns : tie.Need-returns Inv-loop μ-loop
+unfolding maskOf firstColour
+returns c =
+    let loop = c .before .loop in
+    let start = c .before .before .before .before in
+    let ended : loop .i ≡ start .args .plan .domains = omega arith in
+    (loop .inv .3, λ place below. loop .inv .4 place below ∙ ap (λ (n : ℕ). cond (ltb place n) (ruleOf (start .args .plan .shares) place) 0) ended)
+
+pub masks-of-spec : {M : Type 1} → statement M
+masks-of-spec =
+    tie.close
+    (tie.spec
+    Inv-loop
+    μ-loop
+    cast-domains
+    loop-holds
+    mul-colours-of
+    array-read-colours-of
+    colours-of-requires
+    mask-from-requires
+    mul-masks
+    array-write-masks
+    add-first
+    add-i
+    loop-less
+    loop-again
+    returns)

@@ -1,0 +1,69 @@
+-- `plan::sharing::shares_total` meets its contract. Assumes nothing.
+use mathlib.Core.Path.{_∙_, _≡_, ap, refl}
+use Prim.Native.Nat.{_*_, _-_, _≤_, ℕ}
+use native.Mathlib.Omega.{arith}
+use lib.ListN.{getD}
+use borrow.Author.Needs.{needs}
+use Rattle.plan.specs.Colours.{sharesTotal}
+use Rattle.plan.specs.Sums.{sumTo}
+use Rattle.plan.proofs.Sums.{sum-more, sum-most}
+use Rattle.plan.proofs.sharing.shares_total.Statement.{statement}
+use Rattle.plan.proofs.sharing.shares_total.Tie as tie
+
+abbrev Inv-loop : tie.InvT-loop
+Inv-loop shares domains total₀ i₀ total i = (i ≤ domains) × (total ≡ sumTo (λ (place : ℕ). getD shares place 0) i) × (domains ≤ 8)
+
+abbrev μ-loop : tie.MeasureT-loop
+μ-loop shares domains total₀ i₀ total i = domains - i
+
+cast-domains : tie.Need-cast-domains Inv-loop μ-loop
+cast-domains c = search needs
+
+loop-holds : tie.Need-loop-holds Inv-loop μ-loop
+unfolding sumTo
+loop-holds c = (omega arith, refl, c .before .before .pre .0)
+
+mul-total : tie.Need-mul-total Inv-loop μ-loop
+mul-total c = omega arith
+
+array-read-total : tie.Need-array-read-total Inv-loop μ-loop
+array-read-total c = omega arith
+
+add-total : tie.Need-add-total Inv-loop μ-loop
+add-total c =
+    let pre = c .before .before .before .before .pre in
+    let loop = c .before .loop in
+    let most : sumTo (λ (place : ℕ). getD (c .before .before .before .before .args .plan .shares) place 0) (loop .i) ≤ 1_000 * loop .i =
+    sum-most _ 1_000 (loop .i) (λ place below. pre .1 place (omega arith)) in
+    omega (arith, pre .1 (loop .i) (omega arith))
+
+add-i : tie.Need-add-i Inv-loop μ-loop
+add-i c = omega arith
+
+loop-less : tie.Need-loop-less Inv-loop μ-loop
+loop-less c = omega arith
+
+loop-again : tie.Need-loop-again Inv-loop μ-loop
+loop-again c = (omega arith, sum-more _ _ (c .before .loop .i) (c .before .loop .inv .1), c .before .loop .inv .2)
+
+returns : tie.Need-returns Inv-loop μ-loop
+unfolding sharesTotal
+returns c =
+    let ended : c .before .loop .i ≡ c .before .before .before .before .args .plan .domains = omega arith in
+    c .before .loop .inv .1 ∙ ap (sumTo _) ended
+
+pub shares-total-spec : {M : Type 1} → statement M
+shares-total-spec =
+    tie.close
+    (tie.spec
+    Inv-loop
+    μ-loop
+    cast-domains
+    loop-holds
+    mul-total
+    array-read-total
+    add-total
+    add-i
+    loop-less
+    loop-again
+    returns)

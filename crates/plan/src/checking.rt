@@ -1,0 +1,149 @@
+// The check for 12: whether the reader could give a plan value.
+use crate::Plan;
+use crate::sharing::colours_of;
+use crate::sharing::has_bit;
+use crate::sharing::masks_of;
+use crate::sharing::shares_total;
+use crate::timing::ticks_total;
+ghost use mathlib.Core.Path.{_≡_};
+ghost use mathlib.Core.Bool.{true};
+ghost use Prim.Native.Nat.{ℕ, _≤_, _<_};
+ghost use lib.ListN.{getD};
+ghost use Rattle.plan.specs.Colours.{firstColour};
+ghost use Rattle.plan.specs.Possible.{countsPossible, declaredPossible, domainPossible, maskPossible, planPossible, undeclaredPossible, windowPossible, within};
+ghost use Rattle.plan.specs.Sums.{allBelow};
+
+// Whether a number is within limits, both included.
+fn is_within(low: u32, high: u32, number: u32) -> bool
+    ensures { λ r. ⌜ r ≡ within low high number ⌝ }
+{
+    (low <= number) & (number <= high)
+}
+
+// Whether the four counts are possible.
+fn counts_possible(plan: Plan) -> bool
+    ensures { λ r. ⌜ r ≡ countsPossible plan ⌝ }
+{
+    let pad = is_within(276, 1_000_000, plan.pad);
+    let run = is_within(1, 1_000, plan.run);
+    let domains = is_within(1, 8, plan.domains);
+    let windows = is_within(1, 32, plan.windows);
+    pad & run & domains & windows
+}
+
+// Whether a declared domain's share and recipients are possible.
+fn declared_possible(plan: Plan, domain: usize) -> bool
+    requires { ⌜ (domain < 8) × (plan .domains ≤ 8) ⌝ }
+    ensures { λ r. ⌜ r ≡ declaredPossible plan domain ⌝ }
+{
+    let shares = plan.shares;
+    let rights = plan.rights;
+    let share = shares[domain];
+    let right = rights[domain];
+    if !is_within(1, 1_000, share) {
+        return false;
+    }
+    let colours = colours_of(share);
+    let own = has_bit(right, domain as u32);
+    (1 <= colours) & (right < (1u32 << plan.domains)) & !own
+}
+
+// Whether a place for a domain is possible, but for its mask.
+fn domain_possible(plan: Plan, domain: usize) -> bool
+    requires { ⌜ (domain < 8) × (plan .domains ≤ 8) ⌝ }
+    ensures { λ r. ⌜ r ≡ domainPossible plan domain ⌝ }
+{
+    let domains = plan.domains as usize;
+    if domain < domains {
+        return declared_possible(plan, domain);
+    }
+    let shares = plan.shares;
+    let rights = plan.rights;
+    (shares[domain] == 0) & (rights[domain] == 0)
+}
+
+// Whether every place for a domain is possible, but for its mask.
+fn domains_possible(plan: Plan) -> bool
+    requires { ⌜ plan .domains ≤ 8 ⌝ }
+    ensures { λ r. ⌜ r ≡ allBelow (domainPossible plan) 8 ⌝ }
+{
+    let mut domain: usize = 0;
+    while domain < 8 {
+        if !domain_possible(plan, domain) {
+            return false;
+        }
+        domain += 1;
+    }
+    true
+}
+
+// Whether every place for a mask is possible.
+fn masks_possible(plan: Plan) -> bool
+    requires { ⌜ (plan .domains ≤ 8) × ((i : ℕ) → i < 8 → getD (plan .shares) i 0 ≤ 1_000) × (firstColour plan (plan .domains) ≤ 15) ⌝ }
+    ensures { λ r. ⌜ r ≡ allBelow (maskPossible plan) 8 ⌝ }
+{
+    let kept = plan.masks;
+    let given = masks_of(plan);
+    let mut domain: usize = 0;
+    while domain < 8 {
+        if kept[domain] != given[domain] {
+            return false;
+        }
+        domain += 1;
+    }
+    true
+}
+
+// Whether a place for a window is possible.
+fn window_possible(plan: Plan, slot: usize) -> bool
+    requires { ⌜ slot < 32 ⌝ }
+    ensures { λ r. ⌜ r ≡ windowPossible plan slot ⌝ }
+{
+    let owners = plan.owners;
+    let lengths = plan.lengths;
+    let owner = owners[slot];
+    let length = lengths[slot];
+    let windows = plan.windows as usize;
+    if slot < windows {
+        let within = is_within(1, 1_000_000, length);
+        (owner < plan.domains) & within
+    } else {
+        (owner == 0) & (length == 0)
+    }
+}
+
+// Whether every place for a window is possible.
+fn windows_possible(plan: Plan) -> bool
+    ensures { λ r. ⌜ r ≡ allBelow (windowPossible plan) 32 ⌝ }
+{
+    let mut slot: usize = 0;
+    while slot < 32 {
+        if !window_possible(plan, slot) {
+            return false;
+        }
+        slot += 1;
+    }
+    true
+}
+
+// Whether the reader could give this plan.
+pub fn is_possible(plan: Plan) -> bool
+    ensures { λ r. ⌜ r ≡ planPossible plan ⌝ }
+{
+    if !counts_possible(plan) {
+        return false;
+    }
+    if !domains_possible(plan) {
+        return false;
+    }
+    if 1_000 < shares_total(plan) {
+        return false;
+    }
+    if !masks_possible(plan) {
+        return false;
+    }
+    if !windows_possible(plan) {
+        return false;
+    }
+    ticks_total(plan) <= 4_294_967_295
+}

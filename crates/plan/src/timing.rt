@@ -1,0 +1,83 @@
+// Windows: whose they are, how long, when they start, and the run's total.
+use crate::Plan;
+ghost use mathlib.Core.Path.{_≡_};
+ghost use mathlib.Core.Bool.{true};
+ghost use Prim.Native.Nat.{ℕ, _*_, _≤_, _<_};
+ghost use lib.ListN.{getD};
+ghost use Rattle.plan.specs.Possible.{planPossible};
+ghost use Rattle.plan.specs.Sums.{sumTo};
+ghost use Rattle.plan.specs.Windows.{lengthOf, ownerOf, paddedLength, startOf, ticksTotal, windowsTotal};
+
+// The ticks of the first declared windows with their pads, once through.
+pub fn padded_lengths(plan: Plan, count: usize) -> u64
+    requires { ⌜ (count ≤ 32) × (plan .pad ≤ 1_000_000) × ((i : ℕ) → i < count → getD (plan .lengths) i 0 ≤ 1_000_000) ⌝ }
+    ensures { λ r. ⌜ r ≡ sumTo (paddedLength plan) count ⌝ }
+{
+    let lengths = plan.lengths;
+    let pad = plan.pad as u64;
+    let mut total: u64 = 0;
+    let mut i: usize = 0;
+    while i < count {
+        let length = lengths[i] as u64;
+        total += length + pad;
+        i += 1;
+    }
+    total
+}
+
+// The run's total of ticks.
+pub fn ticks_total(plan: Plan) -> u64
+    requires { ⌜ (plan .run ≤ 1_000) × (plan .windows ≤ 32) × (plan .pad ≤ 1_000_000) × ((i : ℕ) → i < 32 → getD (plan .lengths) i 0 ≤ 1_000_000) ⌝ }
+    ensures { λ r. ⌜ r ≡ ticksTotal plan ⌝ }
+{
+    let windows = plan.windows as usize;
+    let frame = padded_lengths(plan, windows);
+    let run = plan.run as u64;
+    run * frame
+}
+
+// The number of windows of the whole run.
+pub fn windows_total(plan: Plan) -> u64
+    requires { ⌜ (plan .run ≤ 1_000) × (plan .windows ≤ 32) ⌝ }
+    ensures { λ r. ⌜ r ≡ windowsTotal plan ⌝ }
+{
+    let run = plan.run as u64;
+    let windows = plan.windows as u64;
+    run * windows
+}
+
+// The domain whose window it is.
+pub fn owner_of(plan: Plan, window: u64) -> u32
+    requires { ⌜ planPossible plan ≡ true ⌝ }
+    ensures { λ r. ⌜ r ≡ ownerOf plan window ⌝ }
+{
+    let owners = plan.owners;
+    let windows = plan.windows as u64;
+    let slot = (window % windows) as usize;
+    owners[slot]
+}
+
+// How long a window is.
+pub fn length_of(plan: Plan, window: u64) -> u32
+    requires { ⌜ planPossible plan ≡ true ⌝ }
+    ensures { λ r. ⌜ r ≡ lengthOf plan window ⌝ }
+{
+    let lengths = plan.lengths;
+    let windows = plan.windows as u64;
+    let slot = (window % windows) as usize;
+    lengths[slot]
+}
+
+// When a window starts: whole repeats, and the windows of this repeat before it.
+pub fn start_of(plan: Plan, window: u64) -> u64
+    requires { ⌜ (planPossible plan ≡ true) × (window ≤ windowsTotal plan) ⌝ }
+    ensures { λ r. ⌜ r ≡ startOf plan window ⌝ }
+{
+    let windows = plan.windows as u64;
+    let count = plan.windows as usize;
+    let slot = (window % windows) as usize;
+    let before = padded_lengths(plan, slot);
+    let frame = padded_lengths(plan, count);
+    let repeats = window / windows;
+    repeats * frame + before
+}
