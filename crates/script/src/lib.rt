@@ -1,4 +1,9 @@
 // The five operations of a script, and the number that a script store holds for each.
+ghost use mathlib.Core.Path.{_≡_};
+ghost use Prim.Native.Nat.{_<_, _≤_};
+ghost use lib.ListN.{length};
+ghost use Rattle.script.specs.Stored.{packed, storedOf};
+ghost use Rattle.script.specs.Fetch.{decodeOf, fetchOf, opOf};
 
 // An operation with its numbers: the line of a read or a write; the recipient and the word of a send; the sender of a
 // receive; the ticks of a compute.
@@ -14,4 +19,69 @@ pub enum Op {
 pub enum Fetched {
     Op(Op),
     End,
+}
+
+// The number made of a kind, another domain and a value.
+fn pack(kind: u32, other: u8, value: u16) -> u32
+    requires { ⌜ kind ≤ 5 ⌝ }
+    ensures { λ r. ⌜ r ≡ packed kind other value ⌝ }
+{
+    kind * 1_048_576 + (other as u32) * 65_536 + value as u32
+}
+
+// The number that a script store holds for an operation.
+pub fn stored(op: Op) -> u32
+    ensures { λ r. ⌜ r ≡ storedOf op ⌝ }
+{
+    match op {
+        Op::Read(line) => pack(1, 0, line),
+        Op::Write(line) => pack(2, 0, line),
+        Op::Send(recipient, word) => pack(3, recipient, word),
+        Op::Receive(sender) => pack(4, sender, 0),
+        Op::Compute(ticks) => pack(5, 0, ticks as u16),
+    }
+}
+
+// The operation that three parts give, or the end of the script where they are outside an operation's limits.
+fn op_of(kind: u32, other: u8, value: u16) -> Fetched
+    ensures { λ r. ⌜ r ≡ opOf kind other value ⌝ }
+{
+    if (kind == 1) & (other == 0) {
+        return Fetched::Op(Op::Read(value));
+    }
+    if (kind == 2) & (other == 0) {
+        return Fetched::Op(Op::Write(value));
+    }
+    if (kind == 3) & (other <= 7) {
+        return Fetched::Op(Op::Send(other, value));
+    }
+    if (kind == 4) & (other <= 7) & (value == 0) {
+        return Fetched::Op(Op::Receive(other));
+    }
+    if (kind == 5) & (other == 0) & (1 <= value) & (value <= 200) {
+        return Fetched::Op(Op::Compute(value as u8));
+    }
+    Fetched::End
+}
+
+// What a stored number stands for: its three parts are taken apart.
+pub fn decode(number: u32) -> Fetched
+    ensures { λ r. ⌜ r ≡ decodeOf number ⌝ }
+{
+    let other = number / 65_536 % 16;
+    let value = number % 65_536;
+    op_of(number / 1_048_576, other as u8, value as u16)
+}
+
+// What stands at a position of a domain's script. A script ends at position 256 at the latest.
+pub fn fetch(scripts: &[u32], domain: u32, position: u64) -> Fetched
+    requires { ⌜ (length (now scripts) ≡ 2048) × (domain < 8) ⌝ }
+    ensures { λ r. ⌜ r ≡ fetchOf (now (scripts .entry)) domain position ⌝ }
+{
+    if position < 256 {
+        let place = 256 * (domain as usize) + position as usize;
+        decode(scripts[place])
+    } else {
+        Fetched::End
+    }
 }

@@ -1,0 +1,6 @@
+-- The laws of the cache that other crates cite.
+pub mod Counts
+pub mod Emptied
+pub mod Outcome
+pub mod Ticks
+pub mod Ways

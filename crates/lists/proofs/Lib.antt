@@ -1,0 +1,2 @@
+-- The laws on parts of tables that other crates cite.
+pub mod Parts

@@ -1,0 +1,2 @@
+-- The laws of stored operations that other crates cite.
+pub mod Laws
