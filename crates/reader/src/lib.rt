@@ -1,4 +1,6 @@
 // The plan reader: from a text to a plan and the scripts, or a refusal with its place.
+mod tokens;
+
 use plan::Plan;
 use refusal::Refusal;
 use refusal::Verdict;

@@ -3,7 +3,7 @@ use Prim.Native.Nat.{ℕ, _-_, _≤_, _<_}
 use native.Mathlib.Omega.{arith}
 use mathlib.Core.Bool.{Bool, true, false, cond, true≢false}
 use mathlib.Core.List.{List, [], _∷_}
-use mathlib.Core.Path.{_≡_, refl}
+use mathlib.Core.Path.{_≡_, refl, sym, subst, _∙_}
 use lib.Dec.{leb, ltb}
 use lib.ListN.{length, getD, take, drop, length-take}
 use borrow.Author.Tests.{ltb-true}
@@ -76,3 +76,7 @@ from-reached text at start a within =
 pub token-reached : (text : List ℕ) (at : ℕ) → Reached text at (tokenAt text at)
 unfolding tokenAt
 token-reached text at = from-reached text at _ (scan-least isNoSpace text at) (scan-most isNoSpace text at)
+
+-- the same of a token that is known to be of some kind
+pub reached : (text : List ℕ) (at : ℕ) {token kind : Token} → token ≡ tokenAt text at → token ≡ kind → Reached text at kind
+reached text at next known = subst (Reached text at) (sym next ∙ known) (token-reached text at)

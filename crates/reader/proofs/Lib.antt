@@ -1,0 +1,2 @@
+pub mod OtherKinds
+pub mod Words
