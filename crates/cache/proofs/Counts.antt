@@ -21,12 +21,21 @@ module _ (test : ℕ → Bool) (at : ℕ) (table : List ℕ) where
   count-none = refl
 
   -- the first number, then the rest
-  pub count-next : (left : ℕ) → 0 < left → at + left ≤ length table → cond (test (getD table at 0)) 1 0 + countOf test (part (at + 1) (left - 1) table) ≡ countOf test (part at left table)
+  pub count-next :
+      (left : ℕ)
+      → 0 < left
+      → at + left ≤ length table
+      → cond (test (getD table at 0)) 1 0 + countOf test (part (at + 1) (left - 1) table) ≡ countOf test (part at left table)
   unfolding countOf
   count-next left some within = rw (part-next at left table (omega arith) some)
 
   -- what a turn adds up is at most the number that was left
-  pub count-turn-limit : (left one rest : ℕ) → 0 < left → one ≡ cond (test (getD table at 0)) 1 0 → rest ≡ countOf test (part (at + 1) (left - 1) table) → one + rest ≤ left
+  pub count-turn-limit :
+      (left one rest : ℕ)
+      → 0 < left
+      → one ≡ cond (test (getD table at 0)) 1 0
+      → rest ≡ countOf test (part (at + 1) (left - 1) table)
+      → one + rest ≤ left
   count-turn-limit left one rest some is counted =
       omega (
         arith,

@@ -1,18 +1,16 @@
 -- What an access answers and leaves, from what its steps find. Assumes nothing.
 use Prim.Native.Nat.{ℕ, _+_}
-use mathlib.Core.Path.{_≡_, refl, sym, ap}
+use mathlib.Core.Path.{_≡_, refl}
 use mathlib.Core.Bool.{Bool, true, false, cond}
 use mathlib.Core.List.{List, _++_}
-use lib.ListN.{drop, getD, length, set, take, length-set}
-use lib.Seq.{drop-set-lt}
+use lib.ListN.{drop, getD, set, take}
 use Rattle.lists.specs.Part.{part, splice}
-use Rattle.lists.proofs.Parts.{splice-length, splice-part}
+use Rattle.lists.proofs.Parts.{splice-part}
 use Rattle.cache.specs.declared.Found.{Found}
 use Rattle.cache.specs.declared.Found.the-variants.{Hit1, Hit2, Miss}
 use Rattle.cache.specs.Lines.{cleanEntry, dirtyEntry, entryFor, holdsLine, indexOf, setOf, setPlace, waysOfSet}
 use Rattle.cache.specs.Sets.{has, used}
 use Rattle.cache.specs.Access.{accessOf, lookAt, lookHit1, lookL2, lookOf, replaceTicks}
-use Rattle.cache.proofs.Ways.{used-length}
 
 -- L1 holds a line where its index has the line's number
 abbrev pub inL1 : ℕ → List ℕ → Bool
@@ -24,22 +22,50 @@ waysOf line table = part (setPlace (setOf line)) waysOfSet table
 
 module _ (writes : Bool) (line : ℕ) (table : List ℕ) where
   -- L1 holds the line
-  pub look-held : inL1 line table ≡ true → lookAt writes line table ≡ lookHit1 writes line (getD table (indexOf line) 0) (waysOf line table)
+  pub look-held :
+      inL1 line table ≡ true
+      → lookAt writes line table ≡ lookHit1 writes line (getD table (indexOf line) 0) (waysOf line table)
   unfolding lookAt lookOf
   look-held held = rw held
 
   -- L1 lacks the line
-  pub look-lacked : inL1 line table ≡ false → lookAt writes line table ≡ lookL2 writes line (getD table (indexOf line) 0) (waysOf line table)
+  pub look-lacked :
+      inL1 line table ≡ false
+      → lookAt writes line table ≡ lookL2 writes line (getD table (indexOf line) 0) (waysOf line table)
   unfolding lookAt lookOf
   look-lacked lacked = rw lacked
 
+  -- what an access answers and leaves
+  abbrev pub Outcome : Found → ℕ → List ℕ → Type 0
+  Outcome found ticks left =
+      (found ≡ accessOf writes line table .found)
+      × (ticks ≡ accessOf writes line table .ticks)
+      × (left ≡ accessOf writes line table .table)
+
   -- what the code does where L1 holds the line
-  pub held-outcome : (entry : ℕ) → inL1 line table ≡ true → entry ≡ cond writes (dirtyEntry line) (getD table (indexOf line) 0) → (Hit1 ≡ accessOf writes line table .found) × (1 ≡ accessOf writes line table .ticks) × (set table (indexOf line) entry ≡ accessOf writes line table .table)
+  pub held-outcome :
+      (entry : ℕ)
+      → inL1 line table ≡ true
+      → entry ≡ cond writes (dirtyEntry line) (getD table (indexOf line) 0)
+      → Outcome Hit1 1 (set table (indexOf line) entry)
   unfolding accessOf lookHit1
   held-outcome entry held is = rw (look-held held, is, splice-part) (refl, refl, refl)
 
-  -- what the code does where L1 lacks the line, the set of so many ways lent on
-  pub lacked-outcome : (width : ℕ) (known : Bool) (ways : List ℕ) (found : Found) (entry search late : ℕ) → width ≡ waysOfSet → inL1 line table ≡ false → known ≡ has (cleanEntry line) (take width (drop (setPlace (setOf line)) table)) → ways ≡ used (cleanEntry line) (take width (drop (setPlace (setOf line)) table)) → entry ≡ entryFor writes line → found ≡ cond known Hit2 Miss → search ≡ cond known 10 100 → late ≡ replaceTicks (getD table (indexOf line) 0) → (found ≡ accessOf writes line table .found) × (search + late ≡ accessOf writes line table .ticks) × (set (take (setPlace (setOf line)) table ++ (ways ++ drop width (drop (setPlace (setOf line)) table))) (indexOf line) entry ≡ accessOf writes line table .table)
-  unfolding accessOf lookL2 part splice
-  lacked-outcome width known ways found entry search late wide lacked knows uses enters finds searched lately =
-      rw (look-lacked lacked, finds, searched, lately, enters, uses, knows, wide) (refl, refl, refl)
+  -- what the code does where L1 lacks the line: the set, so many ways from the place first, is lent on
+  module _ (width : ℕ) (wide : width ≡ waysOfSet) where
+    abbrev first : ℕ
+    first = setPlace (setOf line)
+
+    pub lacked-outcome :
+        (known : Bool) (ways : List ℕ) (found : Found) (entry search late : ℕ)
+        → inL1 line table ≡ false
+        → known ≡ has (cleanEntry line) (take width (drop first table))
+        → ways ≡ used (cleanEntry line) (take width (drop first table))
+        → found ≡ cond known Hit2 Miss
+        → entry ≡ entryFor writes line
+        → search ≡ cond known 10 100
+        → late ≡ replaceTicks (getD table (indexOf line) 0)
+        → Outcome found (search + late) (set (take first table ++ (ways ++ drop width (drop first table))) (indexOf line) entry)
+    unfolding accessOf lookL2 part splice
+    lacked-outcome known ways found entry search late lacked knows uses finds enters searched lately =
+        rw (look-lacked lacked, finds, searched, lately, enters, uses, knows, wide) (refl, refl, refl)

@@ -1,7 +1,7 @@
 -- Laws of an L2 set of any number of ways: search from the front, and the set once a number was used. Assumes nothing.
 use Prim.Native.Nat.{ℕ, zero, suc, _+_, _≤_, _<_}
 use mathlib.Core.Path.{_≡_, refl, sym, ap, _∙_}
-use mathlib.Core.Bool.{Bool, true, false, _||_, true≢false}
+use mathlib.Core.Bool.{Bool, true, false, _||_, or-assoc, true≢false}
 use mathlib.Core.List.{List, [], _∷_, _++_, append-nil}
 use native.Mathlib.Nat.{le-of-suc-le-suc, not-suc-le-zero}
 use native.Mathlib.Numerals.{add-one}
@@ -17,10 +17,6 @@ neither : (first second : Bool) → first || second ≡ false → (first ≡ fal
 neither true second none = absurd (true≢false none)
 neither false second none = (refl, none)
 
-join-assoc : (first second third : Bool) → first || (second || third) ≡ first || second || third
-join-assoc true second third = refl
-join-assoc false second third = refl
-
 -- a join holds where its second test does
 join-second : (first second : Bool) → second ≡ true → first || second ≡ true
 join-second true second holds = refl
@@ -29,10 +25,15 @@ join-second false second holds = holds
 has-append : (entry : ℕ) (front back : List ℕ) → has entry (front ++ back) ≡ has entry front || has entry back
 unfolding has
 has-append entry [] back = refl
-has-append entry (way ∷ front) back = rw (has-append entry front back) (join-assoc (eqb way entry) (has entry front) (has entry back))
+has-append entry (way ∷ front) back = rw (has-append entry front back) (sym (or-assoc (eqb way entry) (has entry front) (has entry back)))
 
 -- a way passed in a search: the ways so far lack the number, and so does this one
-pub search-next : (entry place : ℕ) (set : List ℕ) → place < length set → has entry (take place set) ≡ false → (getD set place 0 ≡ entry → ⊥) → has entry (take (place + 1) set) ≡ false
+pub search-next :
+    (entry place : ℕ) (set : List ℕ)
+    → place < length set
+    → has entry (take place set) ≡ false
+    → (getD set place 0 ≡ entry → ⊥)
+    → has entry (take (place + 1) set) ≡ false
 unfolding has
 search-next entry place set within lacks other =
     rw (add-one, take-suc set place 0 within, has-append, lacks, ne-eqb (getD set place 0) entry other)
@@ -46,12 +47,20 @@ behind-here : (entry way next : ℕ) (ways : List ℕ) → eqb way entry ≡ tru
 unfolding behind
 behind-here entry way next ways here = rw (here, behind)
 
-behind-past : (entry way next : ℕ) (ways : List ℕ) → eqb way entry ≡ false → behind entry (way ∷ (next ∷ ways)) ≡ way ∷ behind entry (next ∷ ways)
+behind-past :
+    (entry way next : ℕ) (ways : List ℕ)
+    → eqb way entry ≡ false
+    → behind entry (way ∷ (next ∷ ways)) ≡ way ∷ behind entry (next ∷ ways)
 unfolding behind
 behind-past entry way next ways past = rw (past, behind)
 
 -- found at a place: that one goes, and the others stay as they were
-behind-found : (entry place : ℕ) (set : List ℕ) → place < length set → has entry (take place set) ≡ false → getD set place 0 ≡ entry → behind entry set ≡ take place set ++ drop (suc place) set
+behind-found :
+    (entry place : ℕ) (set : List ℕ)
+    → place < length set
+    → has entry (take place set) ≡ false
+    → getD set place 0 ≡ entry
+    → behind entry set ≡ take place set ++ drop (suc place) set
 unfolding has
 behind-found entry place [] within lacks found = absurd (not-suc-le-zero within)
 behind-found entry zero (way ∷ []) within lacks found = behind-one entry way
@@ -62,7 +71,10 @@ behind-found entry (suc place) (way ∷ (next ∷ ways)) within lacks found =
     behind-past entry way next ways (none .0) ∙ ap (λ (rest : List ℕ). way ∷ rest) (behind-found entry place (next ∷ ways) (le-of-suc-le-suc within) (none .1) found)
 
 -- not found: the last goes
-behind-lacks : (entry way : ℕ) (ways : List ℕ) → has entry (way ∷ ways) ≡ false → behind entry (way ∷ ways) ≡ take (length ways) (way ∷ ways)
+behind-lacks :
+    (entry way : ℕ) (ways : List ℕ)
+    → has entry (way ∷ ways) ≡ false
+    → behind entry (way ∷ ways) ≡ take (length ways) (way ∷ ways)
 unfolding has
 behind-lacks entry way [] lacks = behind-one entry way
 behind-lacks entry way (next ∷ ways) lacks =
@@ -77,7 +89,12 @@ has-found entry (suc place) (way ∷ ways) within found =
     join-second (eqb way entry) (has entry ways) (has-found entry place ways (le-of-suc-le-suc within) found)
 
 -- what a number found at a place leaves: it moves to the front of the ways up to its place
-pub use-found : (entry place : ℕ) (set : List ℕ) → place < length set → has entry (take place set) ≡ false → getD set place 0 ≡ entry → (true ≡ has entry set) × (take (place + 1) (entry ∷ set) ++ drop (place + 1) set ≡ used entry set)
+pub use-found :
+    (entry place : ℕ) (set : List ℕ)
+    → place < length set
+    → has entry (take place set) ≡ false
+    → getD set place 0 ≡ entry
+    → (true ≡ has entry set) × (take (place + 1) (entry ∷ set) ++ drop (place + 1) set ≡ used entry set)
 unfolding used
 use-found entry place [] within lacks found = absurd (not-suc-le-zero within)
 use-found entry place (way ∷ ways) within lacks found = (
@@ -85,7 +102,10 @@ use-found entry place (way ∷ ways) within lacks found = (
   rw add-one (sym (ap (λ (rest : List ℕ). entry ∷ rest) (behind-found entry place (way ∷ ways) within lacks found))),
 )
 
-used-lacks : (entry : ℕ) (set : List ℕ) → has entry set ≡ false → take (length set) (entry ∷ set) ++ drop (length set) set ≡ used entry set
+used-lacks :
+    (entry : ℕ) (set : List ℕ)
+    → has entry set ≡ false
+    → take (length set) (entry ∷ set) ++ drop (length set) set ≡ used entry set
 unfolding used
 used-lacks entry [] lacks = refl
 used-lacks entry (way ∷ ways) lacks =
@@ -93,7 +113,11 @@ used-lacks entry (way ∷ ways) lacks =
     (ap (λ (rest : List ℕ). entry ∷ rest) (append-nil (take (length ways) (way ∷ ways)) ∙ sym (behind-lacks entry way ways lacks)))
 
 -- what a number that a whole search did not find leaves: it goes in front of all ways, and the last is dropped
-pub use-lacks : (entry place : ℕ) (set : List ℕ) → length set ≤ place → has entry (take place set) ≡ false → (false ≡ has entry set) × (take (length set) (entry ∷ set) ++ drop (length set) set ≡ used entry set)
+pub use-lacks :
+    (entry place : ℕ) (set : List ℕ)
+    → length set ≤ place
+    → has entry (take place set) ≡ false
+    → (false ≡ has entry set) × (take (length set) (entry ∷ set) ++ drop (length set) set ≡ used entry set)
 use-lacks entry place set whole lacks =
     let none : has entry set ≡ false = rw (take-all place set whole) at lacks in (sym none, used-lacks entry set none)
 
@@ -102,7 +126,10 @@ unfolding behind
 behind-length entry way [] = refl
 behind-length entry way (next ∷ ways) = go (eqb way entry) (behind-length entry next ways)
   where
-    go : (here : Bool) → length (behind entry (next ∷ ways)) ≡ length ways → length {A = ℕ} (elim here [ true ↦ next ∷ ways | false ↦ way ∷ behind entry (next ∷ ways) ]) ≡ suc (length ways)
+    go :
+        (here : Bool)
+        → length (behind entry (next ∷ ways)) ≡ length ways
+        → length {A = ℕ} (elim here [ true ↦ next ∷ ways | false ↦ way ∷ behind entry (next ∷ ways) ]) ≡ suc (length ways)
     go true rest = refl
     go false rest = ap suc rest
 
@@ -121,19 +148,31 @@ pub shifted-length : (entry place : ℕ) (ways : List ℕ) → place ≤ length 
 shifted-length entry place ways within = simp (length-append, length-take, length-drop) (omega arith)
 
 -- what a turn stores
-shifted-suc : (entry place : ℕ) (ways : List ℕ) → place < length ways → set (shifted entry place ways) place (getD (entry ∷ ways) place 0) ≡ shifted entry (suc place) ways
+shifted-suc :
+    (entry place : ℕ) (ways : List ℕ)
+    → place < length ways
+    → set (shifted entry place ways) place (getD (entry ∷ ways) place 0) ≡ shifted entry (suc place) ways
 shifted-suc entry place [] within = absurd (not-suc-le-zero within)
 shifted-suc entry zero (way ∷ ways) within = refl
 shifted-suc entry (suc place) (way ∷ ways) within = ap (λ (rest : List ℕ). entry ∷ rest) (shifted-suc way place ways (le-of-suc-le-suc within))
 
-pub shifted-next : (entry place : ℕ) (ways : List ℕ) → place < length ways → set (shifted entry place ways) place (getD (entry ∷ ways) place 0) ≡ shifted entry (place + 1) ways
+pub shifted-next :
+    (entry place : ℕ) (ways : List ℕ)
+    → place < length ways
+    → set (shifted entry place ways) place (getD (entry ∷ ways) place 0) ≡ shifted entry (place + 1) ways
 shifted-next entry place ways within = rw (add-one place) (shifted-suc entry place ways within)
 
 -- what a turn carries on
-shifted-here : (entry place : ℕ) (ways : List ℕ) → place < length ways → getD (shifted entry place ways) place 0 ≡ getD ways place 0
+shifted-here :
+    (entry place : ℕ) (ways : List ℕ)
+    → place < length ways
+    → getD (shifted entry place ways) place 0 ≡ getD ways place 0
 shifted-here entry place [] within = absurd (not-suc-le-zero within)
 shifted-here entry zero (way ∷ ways) within = refl
 shifted-here entry (suc place) (way ∷ ways) within = shifted-here way place ways (le-of-suc-le-suc within)
 
-pub shifted-read : (entry place : ℕ) (ways : List ℕ) → place < length ways → getD (shifted entry place ways) place 0 ≡ getD (entry ∷ ways) (place + 1) 0
+pub shifted-read :
+    (entry place : ℕ) (ways : List ℕ)
+    → place < length ways
+    → getD (shifted entry place ways) place 0 ≡ getD (entry ∷ ways) (place + 1) 0
 shifted-read entry place ways within = rw (add-one place) (shifted-here entry place ways within)

@@ -47,7 +47,10 @@ fn found_in_set(known: bool) -> Found
 // An access of a line. The four numbers of its set are lent on to be rewritten, and only where L1 lacks the line.
 pub fn access(table: &mut [u16], line: u16, writes: bool) -> Touched
     requires { ⌜ (length (now table) ≡ 272) × (line < 4096) ⌝ }
-    ensures { λ r. ⌜ (r .found ≡ accessOf writes line (now (table .entry)) .found) × (r .ticks ≡ accessOf writes line (now (table .entry)) .ticks) × (now (table .exit) ≡ accessOf writes line (now (table .entry)) .table) ⌝ }
+    ensures { λ r.
+        ⌜ (r .found ≡ accessOf writes line (now (table .entry)) .found)
+        × (r .ticks ≡ accessOf writes line (now (table .entry)) .ticks)
+        × (now (table .exit) ≡ accessOf writes line (now (table .entry)) .table) ⌝ }
 {
     let clean = line + 1;
     let dirty = line + 1 + 32_768;

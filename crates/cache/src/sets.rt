@@ -8,7 +8,10 @@ ghost use Rattle.cache.specs.Sets.{has, used};
 
 // The first place that holds an entry, or the number of ways where none does.
 fn place_of(set: &[u16], entry: u16) -> usize
-    ensures { λ r. ⌜ (r ≤ length (now (set .entry))) × (has entry (take r (now (set .entry))) ≡ false) × (r < length (now (set .entry)) → getD (now (set .entry)) r 0 ≡ entry) ⌝ }
+    ensures { λ r.
+        ⌜ (r ≤ length (now (set .entry)))
+        × (has entry (take r (now (set .entry))) ≡ false)
+        × (r < length (now (set .entry)) → getD (now (set .entry)) r 0 ≡ entry) ⌝ }
 {
     let mut place = 0;
     while place < set.len() {

@@ -5,3 +5,4 @@ pub mod Switch
 pub mod Steps
 pub mod Damage
 pub mod Impossible
+pub mod View

@@ -1,4 +1,6 @@
-// The machine of an accepted plan: its state, what a domain sees, one step and so many steps.
+// The machine of an accepted plan: its state, what a domain sees, one step and so many steps, and the checks of what is lent to it.
+pub mod logging;
+pub mod operating;
 
 // Document 01's small state. Every field is wide enough for any number that a caller may lend.
 pub struct State {
@@ -17,9 +19,15 @@ pub enum Seen {
     Hit2(u16),
     Miss(u16),
     Sent(u8),
-    Got(u16),
+    Got(u32),
     Empty(u8),
     Denied(u8),
     Ran(u8),
     Barred(u16),
+}
+
+// What an op answers, beside the cache table and the boxes.
+pub struct Done {
+    pub ticks: u64,
+    pub seen: Seen,
 }

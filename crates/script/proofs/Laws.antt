@@ -1,10 +1,10 @@
 -- Storing an op and decoding its number undo each other, within document 01's limits. Assumes nothing.
-use Prim.Native.Nat.{ℕ, _+_, _*_, _/_, _%_, _≤_, _<_}
-use mathlib.Core.Path.{_≡_, refl, sym, subst}
-use mathlib.Core.Bool.{Bool, true, false, cond, _&&_, false≢true}
+use Prim.Native.Nat.{ℕ, _≤_, _<_}
+use mathlib.Core.Path.{_≡_, refl, subst}
+use mathlib.Core.Bool.{Bool, true, false, cond, _&&_, and-eq-true-iff}
 use native.Mathlib.Omega.{arith}
 use lib.Dec.{eqb, leb}
-use borrow.Author.Tests.{eqb-true, leb-true, eq-eqb, le-leb}
+use borrow.Author.Tests.{eqb-true, leb-true, le-leb}
 use Rattle.script.specs.declared.Op.{Op}
 use Rattle.script.specs.declared.Op.the-variants.{Read, Write, Send, Receive, Compute}
 use Rattle.script.specs.declared.Fetched.{Fetched}
@@ -20,14 +20,9 @@ Within (Send recipient word) = (recipient ≤ 7) × (word < 65_536)
 Within (Receive sender) = sender ≤ 7
 Within (Compute ticks) = (1 ≤ ticks) × (ticks ≤ 200)
 
--- both tests of a joined test hold where it holds
-pub both : (first second : Bool) → first && second ≡ true → (first ≡ true) × (second ≡ true)
-both true second joined = (refl, joined)
-both false second joined = absurd (false≢true joined)
-
 -- a compute's ticks fit a byte
 pub compute-fits : (kind other value : ℕ) → eqb kind 5 && eqb other 0 && leb 1 value && leb value 200 ≡ true → value ≤ 200
-compute-fits kind other value tests = leb-true value 200 (both (eqb kind 5 && eqb other 0 && leb 1 value) (leb value 200) tests .1)
+compute-fits kind other value tests = leb-true value 200 (and-eq-true-iff (eqb kind 5 && eqb other 0 && leb 1 value) (leb value 200) .0 tests .1)
 
 -- the three parts of a number made of three parts are those
 decode-packed : (kind other value : ℕ) → other < 16 → value < 65_536 → decodeOf (packed kind other value) ≡ opOf kind other value
@@ -49,7 +44,11 @@ decode-stored (Compute ticks) within =
     rw (decode-packed 5 0 ticks (omega arith) (omega arith), le-leb 1 ticks (within .0), le-leb ticks 200 (within .1))
 
 -- what is so of both outcomes of a test is so of the choice
-choice : (P : Fetched → Type 0) (test : Bool) (first second : Fetched) → (test ≡ true → P first) → P second → P (cond test first second)
+choice :
+    (P : Fetched → Type 0) (test : Bool) (first second : Fetched)
+    → (test ≡ true → P first)
+    → P second
+    → P (cond test first second)
 choice P true first second here rest = here refl
 choice P false first second here rest = rest
 
@@ -62,34 +61,36 @@ module _ (kind other value : ℕ) (fits : value < 65_536) where
   read-gives : eqb kind 1 && eqb other 0 ≡ true → Gives (packed kind other value) (Fetch (Read value))
   unfolding Gives storedOf Within
   read-gives tests =
-      let parts = both (eqb kind 1) (eqb other 0) tests in
+      let parts = and-eq-true-iff (eqb kind 1) (eqb other 0) .0 tests in
       (omega (arith, eqb-true kind 1 (parts .0), eqb-true other 0 (parts .1)), fits)
 
   write-gives : eqb kind 2 && eqb other 0 ≡ true → Gives (packed kind other value) (Fetch (Write value))
   unfolding Gives storedOf Within
   write-gives tests =
-      let parts = both (eqb kind 2) (eqb other 0) tests in
+      let parts = and-eq-true-iff (eqb kind 2) (eqb other 0) .0 tests in
       (omega (arith, eqb-true kind 2 (parts .0), eqb-true other 0 (parts .1)), fits)
 
   send-gives : eqb kind 3 && leb other 7 ≡ true → Gives (packed kind other value) (Fetch (Send other value))
   unfolding Gives storedOf Within
   send-gives tests =
-      let parts = both (eqb kind 3) (leb other 7) tests in
+      let parts = and-eq-true-iff (eqb kind 3) (leb other 7) .0 tests in
       (omega (arith, eqb-true kind 3 (parts .0)), (leb-true other 7 (parts .1), fits))
 
   receive-gives : eqb kind 4 && leb other 7 && eqb value 0 ≡ true → Gives (packed kind other value) (Fetch (Receive other))
   unfolding Gives storedOf Within
   receive-gives tests =
-      let parts = both (eqb kind 4 && leb other 7) (eqb value 0) tests in
-      let fronts = both (eqb kind 4) (leb other 7) (parts .0) in
+      let parts = and-eq-true-iff (eqb kind 4 && leb other 7) (eqb value 0) .0 tests in
+      let fronts = and-eq-true-iff (eqb kind 4) (leb other 7) .0 (parts .0) in
       (omega (arith, eqb-true kind 4 (fronts .0), eqb-true value 0 (parts .1)), leb-true other 7 (fronts .1))
 
-  compute-gives : eqb kind 5 && eqb other 0 && leb 1 value && leb value 200 ≡ true → Gives (packed kind other value) (Fetch (Compute value))
+  compute-gives :
+      eqb kind 5 && eqb other 0 && leb 1 value && leb value 200 ≡ true
+      → Gives (packed kind other value) (Fetch (Compute value))
   unfolding Gives storedOf Within
   compute-gives tests =
-      let parts = both (eqb kind 5 && eqb other 0 && leb 1 value) (leb value 200) tests in
-      let middles = both (eqb kind 5 && eqb other 0) (leb 1 value) (parts .0) in
-      let fronts = both (eqb kind 5) (eqb other 0) (middles .0) in
+      let parts = and-eq-true-iff (eqb kind 5 && eqb other 0 && leb 1 value) (leb value 200) .0 tests in
+      let middles = and-eq-true-iff (eqb kind 5 && eqb other 0) (leb 1 value) .0 (parts .0) in
+      let fronts = and-eq-true-iff (eqb kind 5) (eqb other 0) .0 (middles .0) in
       (omega (arith, eqb-true kind 5 (fronts .0), eqb-true other 0 (fronts .1)), (leb-true 1 value (middles .1), leb-true value 200 (parts .1)))
 
   end-gives : Gives (packed kind other value) End

@@ -1,128 +1,74 @@
 -- The proof of `count_valid`, which calls itself. The measure is the number left. Assumes nothing.
-use Prim.Native.Nat.{_+_, _-_}
+use Prim.Native.Nat.{ℕ, _+_, _-_, _<_}
 use mathlib.Core.Path.{sym}
 use native.Mathlib.Omega.{arith}
-use Rattle.cache.specs.Lines.{isValid}
-use Rattle.cache.proofs.Counts.{above-zero, count-next, count-none, count-turn-limit}
-use Prim.Native.Nat.{ℕ, _<_}
 use borrow.Fn.Kinds.{In}
 use borrow.Fn.PlainCycle.{Measures, is, falls, and}
-use Rattle.cache.proofs.count_valid.Reads as count-valid
-use Rattle.cache.proofs.count_valid.Kinds as count-valid-kinds
-use Rattle.cache.proofs.+count_valid.Lts-count_valid as count-valid-lts
+use Rattle.cache.specs.Lines.{isValid}
+use Rattle.cache.proofs.Counts.{above-zero, count-next, count-none, count-turn-limit}
 use Rattle.cache.proofs.choose_ticks.Reads as choose-ticks-reads
+use Rattle.cache.proofs.count_valid.Reads as reads
+use Rattle.cache.proofs.count_valid.Kinds as kinds
+use Rattle.cache.proofs.+count_valid.Lts-count_valid as lts
 use Rattle.cache.proofs.+count_valid.{statement}
 use Rattle.cache.proofs.+count_valid.Tie.{close}
 
-abbrev μ-count-valid : Measures 1 count-valid-kinds.ps ℕ
-μ-count-valid κs a = a .1 .1 .0
+abbrev μ : Measures 1 kinds.ps ℕ
+μ κs a = a .1 .1 .0
 
-abbrev count-valid-at : ℕ → In 1 count-valid-kinds.ps
-count-valid-at t =
-    and 1 count-valid-kinds.ps (is 1 count-valid-kinds.ps μ-count-valid t) count-valid.Pre
+-- what the function is given at the measure t, and what a call of it asks below t
+abbrev at : ℕ → In 1 kinds.ps
+at t = and 1 kinds.ps (is 1 kinds.ps μ t) reads.Pre
 
-abbrev count-valid-below : ℕ → In 1 count-valid-kinds.ps
-count-valid-below t =
-    and 1 count-valid-kinds.ps (falls 1 count-valid-kinds.ps _<_ μ-count-valid t) count-valid.Pre
+abbrev below : ℕ → In 1 kinds.ps
+below t = and 1 kinds.ps (falls 1 kinds.ps _<_ μ t) reads.Pre
 
-count-valid-mul-choose-ticks : (t : ℕ) → count-valid-lts.Need-mul-choose-ticks (
-  choose-ticks-reads.Asked,
-  choose-ticks-reads.Learnt,
-  count-valid-below t,
-  count-valid.Post,
-) (count-valid-at t) count-valid.Post
-count-valid-mul-choose-ticks t c = omega arith
+abbrev claims : ℕ → lts.Claims
+claims t = (choose-ticks-reads.Asked, choose-ticks-reads.Learnt, below t, reads.Post)
 
-count-valid-shared-slice-read-choose-ticks :
-    (t : ℕ) → count-valid-lts.Need-shared-slice-read-choose-ticks (
-      choose-ticks-reads.Asked,
-      choose-ticks-reads.Learnt,
-      count-valid-below t,
-      count-valid.Post,
-    ) (count-valid-at t) count-valid.Post
-count-valid-shared-slice-read-choose-ticks t c =
-    omega (arith, above-zero (c .before .if1 .left))
+mul-choose-ticks : (t : ℕ) → lts.Need-mul-choose-ticks (claims t) (at t) reads.Post
+mul-choose-ticks t c = omega arith
 
-count-valid-choose-ticks-requires : (t : ℕ) → count-valid-lts.Need-choose-ticks-requires (
-  choose-ticks-reads.Asked,
-  choose-ticks-reads.Learnt,
-  count-valid-below t,
-  count-valid.Post,
-) (count-valid-at t) count-valid.Post
-count-valid-choose-ticks-requires t c κs = tt
+shared-slice-read-choose-ticks : (t : ℕ) → lts.Need-shared-slice-read-choose-ticks (claims t) (at t) reads.Post
+shared-slice-read-choose-ticks t c = omega (arith, above-zero (c .before .if1 .left))
 
-count-valid-add-count-valid : (t : ℕ) → count-valid-lts.Need-add-count-valid (
-  choose-ticks-reads.Asked,
-  choose-ticks-reads.Learnt,
-  count-valid-below t,
-  count-valid.Post,
-) (count-valid-at t) count-valid.Post
-count-valid-add-count-valid t c = omega (arith, above-zero (c .before .before .if1 .left))
+choose-ticks-requires : (t : ℕ) → lts.Need-choose-ticks-requires (claims t) (at t) reads.Post
+choose-ticks-requires t c κs = tt
 
-count-valid-sub-count-valid : (t : ℕ) → count-valid-lts.Need-sub-count-valid (
-  choose-ticks-reads.Asked,
-  choose-ticks-reads.Learnt,
-  count-valid-below t,
-  count-valid.Post,
-) (count-valid-at t) count-valid.Post
-count-valid-sub-count-valid t c = above-zero (c .before .before .if1 .left)
+add-count-valid : (t : ℕ) → lts.Need-add-count-valid (claims t) (at t) reads.Post
+add-count-valid t c = omega (arith, above-zero (c .before .before .if1 .left))
 
-count-valid-count-valid-requires : (t : ℕ) → count-valid-lts.Need-count-valid-requires (
-  choose-ticks-reads.Asked,
-  choose-ticks-reads.Learnt,
-  count-valid-below t,
-  count-valid.Post,
-) (count-valid-at t) count-valid.Post
-count-valid-count-valid-requires t c κs = omega (arith, above-zero (c .before .before .if1 .left))
+sub-count-valid : (t : ℕ) → lts.Need-sub-count-valid (claims t) (at t) reads.Post
+sub-count-valid t c = above-zero (c .before .before .if1 .left)
 
-count-valid-add-result : (t : ℕ) → count-valid-lts.Need-add-result (
-  choose-ticks-reads.Asked,
-  choose-ticks-reads.Learnt,
-  count-valid-below t,
-  count-valid.Post,
-) (count-valid-at t) count-valid.Post
-count-valid-add-result t c =
+count-valid-requires : (t : ℕ) → lts.Need-count-valid-requires (claims t) (at t) reads.Post
+count-valid-requires t c κs = omega (arith, above-zero (c .before .before .if1 .left))
+
+add-result : (t : ℕ) → lts.Need-add-result (claims t) (at t) reads.Post
+add-result t c =
     let args = c .before .before .before .before .before .args in
+    let some = above-zero (c .before .before .before .if1 .left) in
+    let one = c .before .choose-ticks in
+    let rest = c .count-valid in
     omega (
       arith,
-      count-turn-limit isValid (args .at) (args .table .now) (args .left) (c .before .choose-ticks .result) (c .count-valid .result) (above-zero (c .before .before .before .if1 .left)) (c .before .choose-ticks .ensures) (c .count-valid .ensures),
+      count-turn-limit isValid (args .at) (args .table .now) (args .left) (one .result) (rest .result) some (one .ensures) (rest .ensures),
     )
 
-count-valid-returns : (t : ℕ) → count-valid-lts.Need-returns (
-  choose-ticks-reads.Asked,
-  choose-ticks-reads.Learnt,
-  count-valid-below t,
-  count-valid.Post,
-) (count-valid-at t) count-valid.Post
-count-valid-returns t c =
+returns : (t : ℕ) → lts.Need-returns (claims t) (at t) reads.Post
+returns t c =
     rw (c .if1 .taken) (sym (count-none isValid (c .before .before .args .at) (c .before .before .args .table .now)))
 
-count-valid-returns-2 : (t : ℕ) → count-valid-lts.Need-returns-2 (
-  choose-ticks-reads.Asked,
-  choose-ticks-reads.Learnt,
-  count-valid-below t,
-  count-valid.Post,
-) (count-valid-at t) count-valid.Post
-count-valid-returns-2 t c =
-    let args = c .before .before .before .before .before .args in
+returns-2 : (t : ℕ) → lts.Need-returns-2 (claims t) (at t) reads.Post
+returns-2 t c =
+    let start = c .before .before .before .before .before in
+    let some = above-zero (c .before .before .before .if1 .left) in
     rw (c .before .choose-ticks .ensures, c .count-valid .ensures)
-    (count-next isValid (args .at) (args .table .now) (args .left) (above-zero (c .before .before .before .if1 .left)) (c .before .before .before .before .before .pre .1))
+    (count-next isValid (start .args .at) (start .args .table .now) (start .args .left) some (start .pre .1))
 
 pub +count-valid-spec : {M : Type 1} → statement M
-+count-valid-spec = close μ-count-valid λ t. count-valid-lts.spec (
-  choose-ticks-reads.Asked,
-  choose-ticks-reads.Learnt,
-  count-valid-below t,
-  count-valid.Post,
-)
-    (count-valid-at t)
-    count-valid.Post
-    (count-valid-mul-choose-ticks t)
-    (count-valid-shared-slice-read-choose-ticks t)
-    (count-valid-choose-ticks-requires t)
-    (count-valid-add-count-valid t)
-    (count-valid-sub-count-valid t)
-    (count-valid-count-valid-requires t)
-    (count-valid-add-result t)
-    (count-valid-returns t)
-    (count-valid-returns-2 t)
++count-valid-spec =
+    close μ λ t. lts.spec (claims t) (at t) reads.Post
+    (mul-choose-ticks t) (shared-slice-read-choose-ticks t) (choose-ticks-requires t)
+    (add-count-valid t) (sub-count-valid t) (count-valid-requires t)
+    (add-result t) (returns t) (returns-2 t)

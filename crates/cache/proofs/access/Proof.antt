@@ -92,10 +92,11 @@ choose-ticks-requires-2 c κs = search needs
 add-t29 : tie.Need-add-t29
 add-t29 c =
     let args = c .before .before .before .before .before .before .before .before .before .before .before .args in
-    omega (
-      arith,
-      l2-ticks (c .before .before .before .before .before .before .use-entry .result) (isDirty (getD (args .table .now) (indexOf (args .line)) 0)) (c .before .choose-ticks .result) (c .choose-ticks2 .result) (c .before .choose-ticks .ensures) (c .choose-ticks2 .ensures),
-    )
+    let known = c .before .before .before .before .before .before .use-entry .result in
+    let search = c .before .choose-ticks in
+    let late = c .choose-ticks2 in
+    let dirty = isDirty (getD (args .table .now) (indexOf (args .line)) 0) in
+    omega (arith, l2-ticks known dirty (search .result) (late .result) (search .ensures) (late .ensures))
 
 same-length-2 : tie.Need-same-length-2
 same-length-2 c = search needs
@@ -103,9 +104,16 @@ same-length-2 c = search needs
 returns-2 : tie.Need-returns-2
 returns-2 c =
     let args = c .before .before .before .before .before .before .before .before .before .before .before .args in
-    let place = setPlace (setOf (args .line)) in
+    let first = setPlace (setOf (args .line)) in
     let set = c .before .before .before .before .before .before .use-entry in
-    lacked-outcome (args .writes) (args .line) (args .table .now) (place + 4 - place) (set .result) (set .last .0) (c .before .before .found-in-set .result) (c .before .before .before .choose-entry2 .result) (c .before .choose-ticks .result) (c .choose-ticks2 .result) (omega arith) (c .before .before .before .before .before .before .before .before .if1 .left) (set .ensures .0) (set .ensures .1) (c .before .before .before .choose-entry2 .ensures) (c .before .before .found-in-set .ensures) (c .before .choose-ticks .ensures) (c .choose-ticks2 .ensures)
+    let found = c .before .before .found-in-set in
+    let entry = c .before .before .before .choose-entry2 in
+    let search = c .before .choose-ticks in
+    let late = c .choose-ticks2 in
+    lacked-outcome (args .writes) (args .line) (args .table .now) (first + 4 - first) (omega arith)
+    (set .result) (set .last .0) (found .result) (entry .result) (search .result) (late .result)
+    (c .before .before .before .before .before .before .before .before .if1 .left)
+    (set .ensures .0) (set .ensures .1) (found .ensures) (entry .ensures) (search .ensures) (late .ensures)
 
 pub access-spec : {M : Type 1} → statement M
 access-spec =

@@ -27,7 +27,9 @@ empty-requires c κs = search needs
 
 add-result : tie.Need-add-result
 add-result c =
-    omega (arith, count-part-limit isValid 256 16 (c .before .before .before .before .before .before .before .args .table .now), c .before .before .before .before .count-valid .ensures)
+    let start = c .before .before .before .before .before .before .before in
+    let counted = c .before .before .before .before .count-valid in
+    omega (arith, count-part-limit isValid 256 16 (start .args .table .now), counted .ensures)
 
 same-length : tie.Need-same-length
 same-length c = search needs
@@ -35,7 +37,9 @@ same-length c = search needs
 returns : tie.Need-returns
 returns c =
     let start = c .before .before .before .before .before .before .before in
-    kernel-outcome (c .before .before .before .before .count-valid .result) (c .before .before .empty .last .0) (start .args .table .now) (start .pre) (c .before .before .before .before .count-valid .ensures) (c .before .before .empty .ensures)
+    let counted = c .before .before .before .before .count-valid in
+    let emptied = c .before .before .empty in
+    kernel-outcome (counted .result) (emptied .last .0) (start .args .table .now) (start .pre) (counted .ensures) (emptied .ensures)
 
 pub flush-kernel-spec : {M : Type 1} → statement M
 flush-kernel-spec =

@@ -27,11 +27,15 @@ empty-requires c κs = search needs
 
 mul-result : tie.Need-mul-result
 mul-result c =
-    omega (arith, count-part-limit isDirty 0 16 (c .before .before .before .before .before .before .before .args .table .now), c .before .before .before .before .count-dirty .ensures)
+    let start = c .before .before .before .before .before .before .before in
+    let counted = c .before .before .before .before .count-dirty in
+    omega (arith, count-part-limit isDirty 0 16 (start .args .table .now), counted .ensures)
 
 add-result : tie.Need-add-result
 add-result c =
-    omega (arith, count-part-limit isDirty 0 16 (c .before .before .before .before .before .before .before .args .table .now), c .before .before .before .before .count-dirty .ensures)
+    let start = c .before .before .before .before .before .before .before in
+    let counted = c .before .before .before .before .count-dirty in
+    omega (arith, count-part-limit isDirty 0 16 (start .args .table .now), counted .ensures)
 
 same-length : tie.Need-same-length
 same-length c = search needs
@@ -39,7 +43,9 @@ same-length c = search needs
 returns : tie.Need-returns
 returns c =
     let start = c .before .before .before .before .before .before .before in
-    l1-outcome (c .before .before .before .before .count-dirty .result) (c .before .before .empty .last .0) (start .args .table .now) (start .pre) (c .before .before .before .before .count-dirty .ensures) (c .before .before .empty .ensures)
+    let counted = c .before .before .before .before .count-dirty in
+    let emptied = c .before .before .empty in
+    l1-outcome (counted .result) (emptied .last .0) (start .args .table .now) (start .pre) (counted .ensures) (emptied .ensures)
 
 pub flush-l1-spec : {M : Type 1} → statement M
 flush-l1-spec =

@@ -15,39 +15,31 @@ Inv-loop set entry place₀ place = (place ≤ length set) × (has entry (take p
 abbrev μ-loop : tie.MeasureT-loop
 μ-loop set entry place₀ place = length set - place
 
--- src/sets.rt:14:5
 loop-holds : tie.Need-loop-holds Inv-loop μ-loop
 unfolding has
 loop-holds c = search needs
 
--- src/sets.rt:15:12
 mul-if1 : tie.Need-mul-if1 Inv-loop μ-loop
 mul-if1 c = search needs
 
--- src/sets.rt:15:12
 shared-slice-read-if1 : tie.Need-shared-slice-read-if1 Inv-loop μ-loop
 shared-slice-read-if1 c = search needs
 
--- src/sets.rt:16:13
 returns : tie.Need-returns Inv-loop μ-loop
 returns c = search needs
 
--- src/sets.rt:18:9
 add-place : tie.Need-add-place Inv-loop μ-loop
 add-place c = search needs
 
--- src/sets.rt:14:5
 loop-less : tie.Need-loop-less Inv-loop μ-loop
 loop-less c = search needs
 
--- src/sets.rt:14:5
 loop-again : tie.Need-loop-again Inv-loop μ-loop
 loop-again c =
     let l = c .before .before .before .loop in
     let args = c .before .before .before .before .args in
     (search needs, search-next (args .entry) (l .place) (args .set .now) (c .before .before .loop-test .taken) (l .inv .1) (c .if1 .left))
 
--- src/sets.rt:10:1
 returns-2 : tie.Need-returns-2 Inv-loop μ-loop
 returns-2 c = search needs
 

@@ -15,41 +15,33 @@ Inv-loop set₀ entry count carry₀ place₀ set carry place = (place ≤ count
 abbrev μ-loop : tie.MeasureT-loop
 μ-loop set₀ entry count carry₀ place₀ set carry place = count - place
 
--- src/sets.rt:30:5
 loop-holds : tie.Need-loop-holds Inv-loop μ-loop
 loop-holds c = (search needs, refl, refl)
 
--- the ways moved so far are as many as at first
-here-length : (c : tie.In-loop Inv-loop μ-loop) → length (c .before .loop .set) ≡ length (c .before .before .args .set .now)
+-- there are as many ways as at first
+here-length : (c : tie.At-loop Inv-loop μ-loop) → length (c .loop .set) ≡ length (c .before .args .set .now)
 here-length c =
-    ap length (c .before .loop .inv .1)
-    ∙ shifted-length (c .before .before .args .entry) (c .before .loop .place) (c .before .before .args .set .now) (omega arith)
+    ap length (c .loop .inv .1)
+    ∙ shifted-length (c .before .args .entry) (c .loop .place) (c .before .args .set .now) (omega arith)
 
--- src/sets.rt:31:20
 mul-next : tie.Need-mul-next Inv-loop μ-loop
 mul-next c = omega arith
 
--- src/sets.rt:31:20
 slice-read-next : tie.Need-slice-read-next Inv-loop μ-loop
-slice-read-next c = omega (arith, here-length (c .before))
+slice-read-next c = omega (arith, here-length (c .before .before))
 
--- src/sets.rt:32:9
 mul-set : tie.Need-mul-set Inv-loop μ-loop
 mul-set c = omega arith
 
--- src/sets.rt:32:9
 slice-write-set : tie.Need-slice-write-set Inv-loop μ-loop
-slice-write-set c = omega (arith, here-length (c .before))
+slice-write-set c = omega (arith, here-length (c .before .before))
 
--- src/sets.rt:34:9
 add-place : tie.Need-add-place Inv-loop μ-loop
 add-place c = search needs
 
--- src/sets.rt:30:5
 loop-less : tie.Need-loop-less Inv-loop μ-loop
 loop-less c = omega arith
 
--- src/sets.rt:30:5
 loop-again : tie.Need-loop-again Inv-loop μ-loop
 loop-again c =
     let args = c .before .before .before .args in
@@ -60,11 +52,9 @@ loop-again c =
       rw (l .inv .1) (shifted-read (args .entry) (l .place) (args .set .now) within),
     )
 
--- src/sets.rt:24:1
 same-length : tie.Need-same-length Inv-loop μ-loop
-same-length c = ap length (c .before .loop .inv .1) ∙ shifted-length (c .before .before .args .entry) (c .before .loop .place) (c .before .before .args .set .now) (omega arith)
+same-length c = here-length (c .before)
 
--- src/sets.rt:24:1
 returns : tie.Need-returns Inv-loop μ-loop
 returns c =
     let all : c .before .loop .place ≡ c .before .before .args .count = omega arith in

@@ -5,27 +5,21 @@ use borrow.Author.Needs.{needs}
 use Rattle.cache.proofs.sets.use_entry.Statement.{statement}
 use Rattle.cache.proofs.sets.use_entry.Tie as tie
 
--- src/sets.rt:43:9
 place-of-requires : tie.Need-place-of-requires
 place-of-requires c κs = search needs
 
--- src/sets.rt:45:30
 add-shift-in : tie.Need-add-shift-in
 add-shift-in c = search needs
 
--- src/sets.rt:45:9
 shift-in-requires : tie.Need-shift-in-requires
 shift-in-requires c κs = search needs
 
--- src/sets.rt:48:9
 shift-in-requires-2 : tie.Need-shift-in-requires-2
 shift-in-requires-2 c κs = search needs
 
--- src/sets.rt:39:1
 same-length : tie.Need-same-length
 same-length c = search needs
 
--- src/sets.rt:39:1
 returns : tie.Need-returns
 returns c =
     let args = c .before .before .before .before .before .before .before .before .args in
@@ -34,11 +28,9 @@ returns c =
     let found = use-found (args .entry) (place .result) (args .set .now) within (place .ensures .1) (place .ensures .2 within) in
     (found .0, c .before .before .shift-in .ensures ∙ found .1)
 
--- src/sets.rt:39:1
 same-length-2 : tie.Need-same-length-2
 same-length-2 c = search needs
 
--- src/sets.rt:39:1
 returns-2 : tie.Need-returns-2
 returns-2 c =
     let args = c .before .before .before .before .before .before .before .before .args in

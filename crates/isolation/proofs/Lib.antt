@@ -1,0 +1,2 @@
+-- What is proved of lists of calls.
+pub mod OneRun

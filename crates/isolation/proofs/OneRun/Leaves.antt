@@ -1,0 +1,69 @@
+-- What a list of calls leaves is so many steps of its fresh start, as many as its calls count. Assumes nothing.
+use Prim.Native.Nat.{ℕ, _+_}
+use mathlib.Core.Bool.{true}
+use mathlib.Core.List.{List, [], _∷_}
+use mathlib.Core.Logic.{_⊎_}
+use mathlib.Core.Path.{_≡_, refl, sym, ap, _∙_}
+use native.Mathlib.Nat.{add-assoc, add-zero, zero-add}
+use lib.ListN.{length}
+use Rattle.plan.specs.Possible.{planPossible}
+use Rattle.machine.specs.Records.{partRecords}
+use Rattle.machine.specs.Steps.{steps}
+use Rattle.machine.specs.World.{World}
+use Rattle.machine.proofs.Reached.{log-length}
+use Rattle.machine.proofs.Runs.{steps-add}
+use Rattle.engine.specs.FreshStart.{freshWorld}
+use Rattle.isolation.specs.Calls.{AllOwn, Call, CallList, IsList, Proper, afterCall, afterCalls, isRefused, leavesOf, pointOf, stepsCounted, stepsOfCalls, verdictOf}
+use Rattle.isolation.specs.Points.{Run, worldAfter}
+use Rattle.isolation.specs.Statement.{runOfList}
+use Rattle.isolation.proofs.OneRun.Calls.{call-steps}
+use Rattle.isolation.proofs.OneRun.Verdicts.{fresh-possible}
+
+-- the plan of a list is a possible one
+pub list-possible : (list : CallList) → IsList list → planPossible (list .plan) ≡ true
+list-possible list is = fresh-possible (list .plan) (list .oldState) (list .oldCache) (list .oldBoxes) (is .started)
+
+module _ (run : Run) (possible : planPossible (run .plan) ≡ true) where
+  -- the log keeps its length, and so do its parts
+  quota-kept : (count : ℕ) → partRecords (run .plan) (length (worldAfter run count .log)) ≡ partRecords (run .plan) (length (run .log))
+  unfolding worldAfter freshWorld
+  quota-kept count = ap (partRecords (run .plan)) (log-length (run .plan) (run .scripts) (run .log) count possible)
+
+  -- steps from a world of the run lead to a later one
+  steps-later : (count more : ℕ)
+      → steps (run .plan) (run .scripts) (partRecords (run .plan) (length (worldAfter run count .log))) more (worldAfter run count)
+      ≡ worldAfter run (count + more)
+  unfolding worldAfter
+  steps-later count more =
+      ap (λ quota. steps (run .plan) (run .scripts) quota more (worldAfter run count)) (quota-kept count)
+      ∙ sym (steps-add (run .plan) (run .scripts) (partRecords (run .plan) (length (run .log))) count more (freshWorld (run .log)))
+
+  -- so a call leads from a world of the run to the one that is as many steps later as the call counts
+  call-later : (call : Call) (count : ℕ) (world : World)
+      → world ≡ worldAfter run count
+      → (isRefused (verdictOf (run .plan) (run .scripts) call world) ≡ true) ⊎ AllOwn (run .plan) (run .scripts) call
+      → afterCall (run .plan) (run .scripts) call world ≡ worldAfter run (count + stepsCounted (run .plan) (run .scripts) call world)
+  call-later call count world reached proper =
+      let counted = stepsCounted (run .plan) (run .scripts) call world in
+      call-steps (run .plan) (run .scripts) call world proper
+      ∙ ap (λ from. steps (run .plan) (run .scripts) (partRecords (run .plan) (length (from .log))) counted from) reached
+      ∙ steps-later count counted
+
+  calls-later : (calls : List Call) (count : ℕ) (world : World)
+      → world ≡ worldAfter run count
+      → Proper (run .plan) (run .scripts) calls world
+      → afterCalls (run .plan) (run .scripts) calls world ≡ worldAfter run (count + stepsOfCalls (run .plan) (run .scripts) calls world)
+  unfolding afterCalls stepsOfCalls Proper
+  calls-later [] count world reached proper = reached ∙ ap (worldAfter run) (sym (add-zero count))
+  calls-later (call ∷ calls) count world reached proper =
+      let counted = stepsCounted (run .plan) (run .scripts) call world in
+      let next = afterCall (run .plan) (run .scripts) call world in
+      calls-later calls (count + counted) next (call-later call count world reached (proper .0)) (proper .1)
+      ∙ ap (worldAfter run) (add-assoc count counted (stepsOfCalls (run .plan) (run .scripts) calls next))
+
+-- what a list leaves is what its run's steps leave
+pub leaves : (list : CallList) → IsList list → leavesOf list ≡ worldAfter (runOfList list) (pointOf list)
+unfolding worldAfter steps
+leaves list is =
+    calls-later (runOfList list) (list-possible list is) (list .calls) 0 (freshWorld (list .log)) refl (is .proper)
+    ∙ ap (worldAfter (runOfList list)) (zero-add (pointOf list))

@@ -1,0 +1,123 @@
+-- When the entry points refuse, and what a run that is not refused leaves. Assumes nothing.
+use Prim.Native.Nat.{ℕ, _<_}
+use mathlib.Core.Bool.{Bool, true, false, false≢true}
+use mathlib.Core.List.{List}
+use mathlib.Core.Path.{_≡_, refl, sym, _∙_}
+use lib.ListN.{length}
+use borrow.Author.Tests.{eq-eqb, lt-ltb, ne-eqb}
+use Rattle.plan.specs.declared.Plan.{Plan}
+use Rattle.plan.specs.Possible.{planPossible}
+use Rattle.cache.specs.Lines.{tableLength}
+use Rattle.machine.specs.declared.State.{State}
+use Rattle.machine.specs.Damage.{tablesSound}
+use Rattle.machine.specs.Impossible.{statePossible}
+use Rattle.machine.specs.Records.{partRecords}
+use Rattle.machine.specs.Steps.{steps}
+use Rattle.machine.specs.World.{World, boxesLength}
+use Rattle.machine.proofs.Runs.{run-world}
+use Rattle.refusal.specs.declared.Refusal.{Refusal}
+use Rattle.refusal.specs.declared.Refusal.the-variants.{TextTooLong, BrokenShape, NumberOutOfLimits, WrongDomain, RepeatedOrMissing}
+use Rattle.refusal.specs.declared.Refusal.the-variants.{NoColour, SharesOverThousand, BadRecipient, RunTooLong, TooMany}
+use Rattle.refusal.specs.declared.Refusal.the-variants.{WrongLength, ImpossiblePlan, DamagedTable, ImpossibleState}
+use Rattle.refusal.specs.declared.Verdict.{Verdict}
+use Rattle.refusal.specs.declared.Verdict.the-variants.{Accepted, Refused}
+use Rattle.engine.specs.Asking.{logRefusalOf}
+use Rattle.engine.specs.Checks.{freshVerdict, logVerdict, runVerdict, scriptsLength, stateVerdict, tablesFit, unless}
+use Rattle.engine.specs.FreshStart.{freshFrom, freshStartOf}
+use Rattle.engine.specs.Running.{ranFrom, runCallOf, runFrom}
+use Rattle.isolation.specs.Calls.{isRefused}
+
+-- every refusal has a number that is not 0
+pub refused-number : (refusal : Refusal) → isRefused (Refused refusal) ≡ true
+refused-number TextTooLong = refl
+refused-number (BrokenShape offset) = refl
+refused-number (NumberOutOfLimits offset) = refl
+refused-number (WrongDomain offset) = refl
+refused-number (RepeatedOrMissing offset) = refl
+refused-number (NoColour domain) = refl
+refused-number (SharesOverThousand sum) = refl
+refused-number (BadRecipient offset) = refl
+refused-number RunTooLong = refl
+refused-number (TooMany offset) = refl
+refused-number WrongLength = refl
+refused-number ImpossiblePlan = refl
+refused-number DamagedTable = refl
+refused-number ImpossibleState = refl
+
+-- ---- a run
+
+module _ (plan : Plan) (scripts : List ℕ) (world : World) (limit : ℕ) where
+  -- a refused run leaves what it was handed
+  pub run-refused : isRefused (runCallOf plan scripts world limit .verdict) ≡ true → runCallOf plan scripts world limit .world ≡ world
+  unfolding runCallOf ranFrom
+  run-refused refused = go (runVerdict plan scripts world) refused
+    where
+      go : (verdict : Verdict) → isRefused (runFrom verdict plan scripts world limit .verdict) ≡ true → runFrom verdict plan scripts world limit .world ≡ world
+      go Accepted refused′ = absurd (false≢true refused′)
+      go (Refused refusal) refused′ = refl
+
+  -- any other leaves as many steps as its limit
+  pub run-accepted : isRefused (runCallOf plan scripts world limit .verdict) ≡ false
+      → runCallOf plan scripts world limit .world ≡ steps plan scripts (partRecords plan (length (world .log))) limit world
+  unfolding runCallOf ranFrom
+  run-accepted accepted = go (runVerdict plan scripts world) accepted
+    where
+      go : (verdict : Verdict) → isRefused (runFrom verdict plan scripts world limit .verdict) ≡ false
+          → runFrom verdict plan scripts world limit .world ≡ steps plan scripts (partRecords plan (length (world .log))) limit world
+      go Accepted accepted′ = run-world plan scripts (partRecords plan (length (world .log))) limit world
+      go (Refused refusal) accepted′ = absurd (false≢true (sym accepted′ ∙ refused-number refusal))
+
+  -- its verdict is that of the checks
+  pub run-verdict : runCallOf plan scripts world limit .verdict ≡ runVerdict plan scripts world
+  unfolding runCallOf ranFrom
+  run-verdict = go (runVerdict plan scripts world)
+    where
+      go : (verdict : Verdict) → runFrom verdict plan scripts world limit .verdict ≡ verdict
+      go Accepted = refl
+      go (Refused refusal) = refl
+
+-- ---- the checks
+
+-- a script store of another length is refused, whatever else is handed
+pub wrong-store : (plan : Plan) (scripts : List ℕ) (world : World) → (length scripts ≡ scriptsLength → ⊥) → runVerdict plan scripts world ≡ Refused WrongLength
+unfolding runVerdict
+wrong-store plan scripts world differs = rw (ne-eqb (length scripts) scriptsLength differs, runVerdict)
+
+-- a state that passes its check
+state-accepted : (plan : Plan) (state : State) (logLength : ℕ) → statePossible plan (partRecords plan logLength) state ≡ true → stateVerdict plan state logLength ≡ Accepted
+unfolding stateVerdict
+state-accepted plan state logLength passes = rw passes
+
+-- tables and a state that pass the checks are accepted by a run
+pub run-passes : (plan : Plan) (scripts : List ℕ) (world : World)
+    → length scripts ≡ scriptsLength
+    → length (world .cache) ≡ tableLength
+    → length (world .boxes) ≡ boxesLength
+    → planPossible plan ≡ true
+    → tablesSound plan (world .state) (world .cache) (world .boxes) ≡ true
+    → statePossible plan (partRecords plan (length (world .log))) (world .state) ≡ true
+    → runVerdict plan scripts world ≡ Accepted
+unfolding runVerdict
+run-passes plan scripts world store cache boxes possible sound passes =
+    rw (eq-eqb (length scripts) scriptsLength store, eq-eqb (length (world .cache)) tableLength cache, eq-eqb (length (world .boxes)) boxesLength boxes, possible, sound, runVerdict)
+    (state-accepted plan (world .state) (length (world .log)) passes)
+
+-- and by an asking for a declared domain's log
+pub asking-passes : (plan : Plan) (state : State) (log : List ℕ) (domain : ℕ)
+    → planPossible plan ≡ true
+    → statePossible plan (partRecords plan (length log)) state ≡ true
+    → domain < plan .domains
+    → logRefusalOf plan state log domain ≡ Accepted
+unfolding logRefusalOf logVerdict
+asking-passes plan state log domain possible passes declared =
+    rw (possible, state-accepted plan state (length log) passes, lt-ltb domain (plan .domains) declared, logVerdict)
+
+-- a fresh start that is not refused was handed a possible plan
+pub fresh-possible : (plan : Plan) (state : State) (cache boxes : List ℕ) → isRefused (freshStartOf plan state cache boxes .verdict) ≡ false → planPossible plan ≡ true
+unfolding freshStartOf freshVerdict
+fresh-possible plan state cache boxes started = go (tablesFit cache boxes) (planPossible plan) started
+  where
+    go : (fit possible : Bool) → isRefused (freshFrom (unless fit WrongLength (unless possible ImpossiblePlan Accepted)) state cache boxes .verdict) ≡ false → possible ≡ true
+    go true true accepted = refl
+    go true false accepted = sym accepted
+    go false possible accepted = absurd (false≢true (sym accepted))
