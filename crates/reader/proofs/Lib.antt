@@ -1,2 +1,5 @@
+pub mod Advance
+pub mod Listing
+pub mod NewBit
 pub mod OtherKinds
 pub mod Words

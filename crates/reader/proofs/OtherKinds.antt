@@ -10,13 +10,17 @@ use Rattle.text.proofs.Token.{the-type}
 use Rattle.text.specs.declared.Token.{Token}
 use Rattle.text.specs.declared.Token.the-variants.{LineEnd, Open, Close, Word, Number, LongNumber, Other}
 use Rattle.text.specs.Tokens.{startOf}
+use Rattle.reader.proofs.Form as Form
+use Rattle.reader.specs.declared.Form.{Form}
+use Rattle.reader.specs.declared.Form.the-variants.{Blank, Pad, Run, Domain, Window, Op as Script, Refused as Broken}
 use Rattle.reader.specs.declared.Head.the-variants.{Refused as NoForm}
+use Rattle.reader.specs.declared.Inside.{Inside}
 use Rattle.reader.specs.declared.OpHead.the-variants.{Refused as NoOp}
 use Rattle.reader.specs.declared.Passed.the-variants.{Refused}
 use Rattle.reader.specs.declared.Recipient.the-variants.{Refused as Unlisted}
 use Rattle.reader.specs.declared.Taken.the-variants.{Refused as Not}
 use Rattle.reader.specs.Forms.{headOf, opHeadOf, recipientOf}
-use Rattle.reader.specs.Lines.{refusedLine, tokenLine}
+use Rattle.reader.specs.Lines.{closedLine, formLine, refusedLine, tokenLine}
 use Rattle.reader.specs.Tokens.{closeOf, lineEndOf, numberOf, openOf, wordOf}
 
 pub no-open : (token : Token) → OneOf (0 ∷ 2 ∷ 3 ∷ 4 ∷ 5 ∷ 6 ∷ []) (tagOf the-type token) → openOf token ≡ Refused (BrokenShape (startOf token))
@@ -91,14 +95,25 @@ no-recipient own rights (Number start end value) h = absurd (miss (0 ∷ 1 ∷ 3
 no-recipient own rights (LongNumber start end) h = absurd (miss (0 ∷ 1 ∷ 3 ∷ 6 ∷ []) 5 tt h)
 no-recipient own rights (Other start end) h = refl
 
-pub no-line : (text : List ℕ) (declared : ℕ) (named : List ℕ) (token : Token) → OneOf (2 ∷ 3 ∷ 4 ∷ 5 ∷ 6 ∷ []) (tagOf the-type token) → tokenLine text declared named token ≡ refusedLine (startOf token) named (BrokenShape (startOf token))
+pub no-line : (text : List ℕ) (declared : ℕ) (named : List ℕ) (token : Token) → OneOf (0 ∷ 2 ∷ 3 ∷ 4 ∷ 5 ∷ 6 ∷ []) (tagOf the-type token) → OneOf (1 ∷ 2 ∷ 3 ∷ 4 ∷ 5 ∷ 6 ∷ []) (tagOf the-type token) → tokenLine text declared named token ≡ refusedLine (startOf token) named (BrokenShape (startOf token))
 unfolding tokenLine
-no-line text declared named (LineEnd at) h = absurd (miss (2 ∷ 3 ∷ 4 ∷ 5 ∷ 6 ∷ []) 0 tt h)
-no-line text declared named (Open at) h = absurd (miss (2 ∷ 3 ∷ 4 ∷ 5 ∷ 6 ∷ []) 1 tt h)
-no-line text declared named (Close at) h = refl
-no-line text declared named (Word start end) h = refl
-no-line text declared named (Number start end value) h = refl
-no-line text declared named (LongNumber start end) h = refl
-no-line text declared named (Other start end) h = refl
+no-line text declared named (LineEnd at) h k = absurd (miss (1 ∷ 2 ∷ 3 ∷ 4 ∷ 5 ∷ 6 ∷ []) 0 tt k)
+no-line text declared named (Open at) h k = absurd (miss (0 ∷ 2 ∷ 3 ∷ 4 ∷ 5 ∷ 6 ∷ []) 1 tt h)
+no-line text declared named (Close at) h k = refl
+no-line text declared named (Word start end) h k = refl
+no-line text declared named (Number start end value) h k = refl
+no-line text declared named (LongNumber start end) h k = refl
+no-line text declared named (Other start end) h k = refl
 
-pub ruleset kinds = (no-open, no-close, no-line-end, no-word, no-number, no-op-word, no-head, no-recipient, no-line)
+-- a form that is not refused
+pub good-form : (text : List ℕ) (bracket : ℕ) (inside : Inside) (form : Form) → OneOf (0 ∷ 1 ∷ 2 ∷ 3 ∷ 4 ∷ 5 ∷ []) (tagOf Form.the-type form)
+    → formLine text bracket inside form ≡ closedLine text bracket inside
+good-form text bracket inside Blank h = refl
+good-form text bracket inside (Pad ticks) h = refl
+good-form text bracket inside (Run times) h = refl
+good-form text bracket inside (Domain line) h = refl
+good-form text bracket inside (Window line) h = refl
+good-form text bracket inside (Script line) h = refl
+good-form text bracket inside (Broken refusal) h = absurd (miss (0 ∷ 1 ∷ 2 ∷ 3 ∷ 4 ∷ 5 ∷ []) 6 tt h)
+
+pub ruleset kinds = (no-open, no-close, no-line-end, no-word, no-number, no-op-word, no-head, no-recipient, no-line, good-form)

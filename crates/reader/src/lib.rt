@@ -1,4 +1,9 @@
 // The plan reader: from a text to a plan and the scripts, or a refusal with its place.
+mod domains;
+mod forms;
+mod lines;
+mod may;
+mod ops;
 mod tokens;
 
 use plan::Plan;

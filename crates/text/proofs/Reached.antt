@@ -6,14 +6,14 @@ use mathlib.Core.List.{List, [], _∷_}
 use mathlib.Core.Path.{_≡_, refl, sym, subst, _∙_}
 use lib.Dec.{leb, ltb}
 use lib.ListN.{length, getD, take, drop, length-take}
-use borrow.Author.Tests.{ltb-true}
+use borrow.Author.Tests.{le-ltb, ltb-true}
 use Rattle.lists.specs.Part.{part}
 use Rattle.text.specs.declared.Token.{Token}
 use Rattle.text.specs.declared.Token.the-variants.{LineEnd, Open, Close, Word, Number, LongNumber, Other}
 use Rattle.text.specs.Bytes.{endsRun, isClose, isDigit, isLetter, isLineFeed, isNoSpace, isOpen}
 use Rattle.text.specs.Scan.{allBytes}
 use Rattle.text.specs.Tokens.{digitsToken, longestRun, runToken, tokenAt, tokenFrom, valueOf}
-use Rattle.text.proofs.Scanning.{scan-least, scan-most}
+use Rattle.text.proofs.Scanning.{scan-end, scan-least, scan-most}
 
 -- what holds of both choices holds of the one that a test makes
 pub cond-holds : {A : Type 0} (P : A → Type 0) (test : Bool) (a b : A) → (test ≡ true → P a) → (test ≡ false → P b) → P (cond test a b)
@@ -80,3 +80,13 @@ token-reached text at = from-reached text at _ (scan-least isNoSpace text at) (s
 -- the same of a token that is known to be of some kind
 pub reached : (text : List ℕ) (at : ℕ) {token kind : Token} → token ≡ tokenAt text at → token ≡ kind → Reached text at kind
 reached text at next known = subst (Reached text at) (sym next ∙ known) (token-reached text at)
+
+-- a word's bytes
+pub word-within : (text : List ℕ) (at : ℕ) {token : Token} {start end : ℕ} → token ≡ tokenAt text at → token ≡ Word start end
+    → (start ≤ end) × (end ≤ length text)
+word-within text at next known = let place = reached text at next known in (place .1, place .2)
+
+-- past the text's end the next token is a line's end
+pub token-past : (text : List ℕ) (at : ℕ) → length text ≤ at → tokenAt text at ≡ LineEnd at
+unfolding tokenAt tokenFrom
+token-past text at past = rw (scan-end isNoSpace text at past, le-ltb at (length text) past)
