@@ -1,5 +1,5 @@
 -- How far taking one token goes on in the text, and the limits of a number that was taken. Assumes nothing.
-use Prim.Native.Nat.{ℕ, _+_, _≤_, _<_}
+use Prim.Native.Nat.{ℕ, _≤_, _<_}
 use native.Mathlib.Omega.{arith}
 use mathlib.Core.Bool.{_&&_}
 use mathlib.Core.List.{List}
@@ -7,7 +7,7 @@ use mathlib.Core.Path.{_≡_, sym, subst, _∙_}
 use lib.Dec.{leb}
 use lib.ListN.{length}
 use Rattle.plan.proofs.Possible.{limits}
-use Rattle.refusal.specs.declared.Refusal.the-variants.{BrokenShape, NumberOutOfLimits}
+use Rattle.refusal.specs.declared.Refusal.the-variants.{NumberOutOfLimits}
 use Rattle.text.proofs.Reached.{Reached, cond-holds, token-reached}
 use Rattle.text.specs.declared.Token.{Token}
 use Rattle.text.specs.declared.Token.the-variants.{LineEnd, Open, Close, Word, Number, LongNumber, Other}
@@ -16,7 +16,7 @@ use Rattle.reader.specs.declared.Passed.{Passed}
 use Rattle.reader.specs.declared.Passed.the-variants.{To, Refused}
 use Rattle.reader.specs.declared.Taken.{Taken}
 use Rattle.reader.specs.declared.Taken.the-variants.{Number as Is, Refused as Not}
-use Rattle.reader.specs.Tokens.{closeOf, isWord, lineEndOf, numberOf, openOf, passClose, passLineEnd, passOpen, passWord, takeNumber, wordOf}
+use Rattle.reader.specs.Tokens.{numberOf, openOf, passOpen, takeNumber}
 
 -- ---- a number
 

@@ -1,5 +1,5 @@
 -- A bit that is added to a number which lacks it: how large the number gets, and that no other bit is new. Assumes nothing.
-use Prim.Native.Nat.{ℕ, suc, _+_, _*_, _/_, _%_, _^_, _<_, max}
+use Prim.Native.Nat.{ℕ, suc, _+_, _*_, _/_, _%_, _^_, _<_}
 use native.Mathlib.Nat.{add-zero, div-add-mod', mod-lt, one-mul}
 use native.Mathlib.Omega.{arith}
 use mathlib.Core.Bool.{Bool, true, false}
@@ -7,7 +7,7 @@ use mathlib.Core.Path.{_≡_, refl, sym, ap, _∙_, subst}
 use lib.Bits.{bitAnd, bitOr, and-block, and-mask, and-zero-r, or-disjoint, or-lt, or-shr, or-step}
 use lib.Dec.{eqb, ltb}
 use lib.Pow.{pow-lt, pow-pos}
-use borrow.Author.Tests.{eq-eqb, eqb-false, eqb-true, ltb-false, ltb-true, ne-eqb}
+use borrow.Author.Tests.{eq-eqb, eqb-false, eqb-true, ltb-false, ltb-true}
 use Rattle.plan.specs.Colours.{hasBit}
 use Rattle.plan.proofs.Bits.{no-high-bit, no-low-bit}
 

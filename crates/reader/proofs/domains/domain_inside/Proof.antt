@@ -1,6 +1,6 @@
 -- `reader::domains::domain_inside` meets its contract. Assumes nothing.
 use borrow.Author.Needs.{needs}
-use borrow.Author.Tests.{lt-ltb, le-ltb, le-leb, lt-leb, eq-eqb, ne-eqb}
+use borrow.Author.Tests.{eq-eqb, ne-eqb}
 use Rattle.reader.specs.Forms.{domainInside}
 use Rattle.reader.proofs.domains.domain_inside.Statement.{statement}
 use Rattle.reader.proofs.domains.domain_inside.Tie as tie

@@ -1,6 +1,5 @@
 -- `reader::domains::listed_inside` meets its contract. Assumes nothing.
 use borrow.Author.Needs.{needs}
-use borrow.Author.Tests.{lt-ltb, le-ltb, le-leb, lt-leb, eq-eqb, ne-eqb}
 use Rattle.reader.specs.Forms.{listedInside}
 use Rattle.reader.proofs.domains.listed_inside.Statement.{statement}
 use Rattle.reader.proofs.domains.listed_inside.Tie as tie

@@ -1,6 +1,5 @@
 -- `reader::domains::share_inside` meets its contract. Assumes nothing.
 use borrow.Author.Needs.{needs}
-use borrow.Author.Tests.{lt-ltb, le-ltb, le-leb, lt-leb, eq-eqb, ne-eqb}
 use Rattle.reader.specs.Forms.{shareInside}
 use Rattle.lists.specs.Ascii.{bytesOf}
 use Rattle.reader.proofs.domains.share_inside.Statement.{statement}

@@ -1,6 +1,6 @@
 -- `reader::forms::window_inside` meets its contract. Assumes nothing.
 use borrow.Author.Needs.{needs}
-use borrow.Author.Tests.{lt-ltb, le-ltb, le-leb, lt-leb, eq-eqb, ne-eqb}
+use borrow.Author.Tests.{lt-ltb, le-ltb}
 use Rattle.reader.specs.Forms.{windowInside}
 use Rattle.reader.proofs.forms.window_inside.Statement.{statement}
 use Rattle.reader.proofs.forms.window_inside.Tie as tie

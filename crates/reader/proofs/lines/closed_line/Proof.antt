@@ -1,6 +1,5 @@
 -- `reader::lines::closed_line` meets its contract. Assumes nothing.
 use borrow.Author.Needs.{needs}
-use borrow.Author.Tests.{lt-ltb, le-ltb, le-leb, lt-leb, eq-eqb, ne-eqb}
 use Rattle.reader.specs.Lines.{closedLine}
 use Rattle.reader.proofs.lines.closed_line.Statement.{statement}
 use Rattle.reader.proofs.lines.closed_line.Tie as tie

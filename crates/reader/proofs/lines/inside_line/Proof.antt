@@ -1,6 +1,5 @@
 -- `reader::lines::inside_line` meets its contract. Assumes nothing.
 use borrow.Author.Needs.{needs}
-use borrow.Author.Tests.{lt-ltb, le-ltb, le-leb, lt-leb, eq-eqb, ne-eqb}
 use Rattle.reader.proofs.OtherKinds.{kinds}
 use Rattle.reader.specs.Lines.{insideLine}
 use Rattle.reader.proofs.lines.inside_line.Statement.{statement}

@@ -1,6 +1,5 @@
 -- `reader::lines::inside_of` meets its contract. Assumes nothing.
 use borrow.Author.Needs.{needs}
-use borrow.Author.Tests.{lt-ltb, le-ltb, le-leb, lt-leb, eq-eqb, ne-eqb}
 use Rattle.reader.specs.Forms.{insideOf}
 use Rattle.reader.proofs.lines.inside_of.Statement.{statement}
 use Rattle.reader.proofs.lines.inside_of.Tie as tie

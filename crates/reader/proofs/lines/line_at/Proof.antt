@@ -1,11 +1,9 @@
 -- `reader::lines::line_at` meets its contract. Assumes nothing.
 use native.Mathlib.Omega.{arith}
 use borrow.Author.Needs.{needs}
-use borrow.Author.Tests.{lt-ltb, le-ltb, le-leb, lt-leb, eq-eqb, ne-eqb}
 use Rattle.text.proofs.Reached.{reached}
 use Rattle.reader.proofs.OtherKinds.{kinds}
-use Rattle.reader.specs.Lines.{lineAt}
-use Rattle.reader.specs.Lines.{tokenLine}
+use Rattle.reader.specs.Lines.{lineAt, tokenLine}
 use Rattle.reader.proofs.lines.line_at.Statement.{statement}
 use Rattle.reader.proofs.lines.line_at.Tie as tie
 

@@ -1,6 +1,6 @@
 -- `reader::may::note_mention` meets its contract. Assumes nothing.
 use borrow.Author.Needs.{needs}
-use borrow.Author.Tests.{lt-ltb, le-ltb, le-leb, lt-leb, eq-eqb, ne-eqb}
+use borrow.Author.Tests.{eq-eqb, ne-eqb}
 use Rattle.reader.specs.Forms.{mention}
 use Rattle.reader.proofs.may.note_mention.Statement.{statement}
 use Rattle.reader.proofs.may.note_mention.Tie as tie

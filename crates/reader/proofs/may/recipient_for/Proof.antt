@@ -1,6 +1,6 @@
 -- `reader::may::recipient_for` meets its contract. Assumes nothing.
 use borrow.Author.Needs.{needs}
-use borrow.Author.Tests.{lt-ltb, le-ltb, le-leb, lt-leb, eq-eqb, ne-eqb}
+use borrow.Author.Tests.{le-leb, lt-leb}
 use Rattle.reader.proofs.may.recipient_for.Statement.{statement}
 use Rattle.reader.proofs.may.recipient_for.Tie as tie
 

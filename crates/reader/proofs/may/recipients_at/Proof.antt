@@ -4,7 +4,6 @@ use native.Mathlib.Omega.{arith}
 use mathlib.Core.Path.{sym, _∙_}
 use lib.ListN.{length}
 use borrow.Author.Needs.{needs}
-use borrow.Author.Tests.{lt-ltb, le-ltb, le-leb, lt-leb, eq-eqb, ne-eqb}
 use Rattle.reader.specs.Forms.{recipientsAt}
 use Rattle.reader.proofs.Listing.{Left, left-first, left-next, left-done, left-refused, listed, rights-most, shifted}
 use Rattle.reader.proofs.may.recipients_at.Statement.{statement}

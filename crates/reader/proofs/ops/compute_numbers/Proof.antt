@@ -1,7 +1,6 @@
 -- `reader::ops::compute_numbers` meets its contract. Assumes nothing.
 use native.Mathlib.Omega.{arith}
 use borrow.Author.Needs.{needs}
-use borrow.Author.Tests.{lt-ltb, le-ltb, le-leb, lt-leb, eq-eqb, ne-eqb}
 use Rattle.reader.proofs.Advance.{limited}
 use Rattle.reader.specs.Forms.{opNumbers}
 use Rattle.reader.proofs.ops.compute_numbers.Statement.{statement}

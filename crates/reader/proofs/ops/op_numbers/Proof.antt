@@ -1,6 +1,5 @@
 -- `reader::ops::op_numbers` meets its contract. Assumes nothing.
 use borrow.Author.Needs.{needs}
-use borrow.Author.Tests.{lt-ltb, le-ltb, le-leb, lt-leb, eq-eqb, ne-eqb}
 use Rattle.reader.specs.Forms.{opNumbers}
 use Rattle.reader.proofs.ops.op_numbers.Statement.{statement}
 use Rattle.reader.proofs.ops.op_numbers.Tie as tie

@@ -1,6 +1,5 @@
 -- `reader::ops::script_inside` meets its contract. Assumes nothing.
 use borrow.Author.Needs.{needs}
-use borrow.Author.Tests.{lt-ltb, le-ltb, le-leb, lt-leb, eq-eqb, ne-eqb}
 use Rattle.reader.specs.Forms.{scriptInside}
 use Rattle.reader.proofs.ops.script_inside.Statement.{statement}
 use Rattle.reader.proofs.ops.script_inside.Tie as tie

@@ -1,6 +1,5 @@
 -- `reader::tokens::is_word` meets its contract. Assumes nothing.
 use borrow.Author.Needs.{needs}
-use borrow.Author.Tests.{lt-ltb, le-ltb, le-leb, lt-leb, eq-eqb, ne-eqb}
 use Rattle.reader.specs.Tokens.{isWord}
 use Rattle.lists.specs.Part.{part}
 use Rattle.reader.proofs.tokens.is_word.Statement.{statement}

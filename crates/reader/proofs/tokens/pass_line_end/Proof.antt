@@ -1,6 +1,5 @@
 -- `reader::tokens::pass_line_end` meets its contract. Assumes nothing.
 use borrow.Author.Needs.{needs}
-use borrow.Author.Tests.{lt-ltb, le-ltb, le-leb, lt-leb, eq-eqb, ne-eqb}
 use Rattle.reader.proofs.OtherKinds.{kinds}
 use Rattle.reader.specs.Tokens.{passLineEnd}
 use Rattle.reader.proofs.tokens.pass_line_end.Statement.{statement}

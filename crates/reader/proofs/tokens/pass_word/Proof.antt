@@ -1,6 +1,5 @@
 -- `reader::tokens::pass_word` meets its contract. Assumes nothing.
 use borrow.Author.Needs.{needs}
-use borrow.Author.Tests.{lt-ltb, le-ltb, le-leb, lt-leb, eq-eqb, ne-eqb}
 use Rattle.reader.proofs.OtherKinds.{kinds}
 use Rattle.text.proofs.Reached.{reached}
 use Rattle.reader.specs.Tokens.{passWord}

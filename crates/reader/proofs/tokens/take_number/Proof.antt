@@ -1,7 +1,6 @@
 -- `reader::tokens::take_number` meets its contract. Assumes nothing.
 use native.Mathlib.Omega.{arith}
 use borrow.Author.Needs.{needs}
-use borrow.Author.Tests.{lt-ltb, le-ltb, le-leb, lt-leb, eq-eqb, ne-eqb}
 use Rattle.reader.proofs.OtherKinds.{kinds}
 use Rattle.plan.proofs.Possible.{limits}
 use Rattle.reader.specs.Tokens.{takeNumber}
