@@ -39,7 +39,7 @@ mention-length named recipient start =
     (λ _. refl)
 
 -- a choice by whether two numbers are equal
-same-or-not : {P : Type 0} (a b : ℕ) → (a ≡ b → P) → ((a ≡ b → ⊥) → P) → P
+pub same-or-not : {P : Type 0} (a b : ℕ) → (a ≡ b → P) → ((a ≡ b → ⊥) → P) → P
 same-or-not {P} a b f g = go (eqb a b) refl
   where
     go : (test : Bool) → eqb a b ≡ test → P

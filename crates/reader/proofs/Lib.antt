@@ -1,4 +1,5 @@
 pub mod Advance
+pub mod GoodDraft
 pub mod GoodForm
 pub mod GoodLine
 pub mod GoodList
