@@ -144,6 +144,21 @@ pub record GoodDraft (draft : Draft) : Type 0 where
   pub domains : GoodDomains (draft .plan .domains) (draft .plan .shares) (draft .plan .rights) (draft .named)
   pub windows : GoodWindows (draft .plan .domains) (draft .plan .windows) (draft .plan .owners) (draft .plan .lengths)
 
+-- every share and every length is within its limit, at every place
+pub shares-most : (draft : Draft) → GoodDraft draft → (domain : ℕ) → getD (draft .plan .shares) domain 0 ≤ 1_000
+shares-most draft good domain = go (ltb domain (draft .plan .domains)) refl
+  where
+    go : (test : Bool) → ltb domain (draft .plan .domains) ≡ test → getD (draft .plan .shares) domain 0 ≤ 1_000
+    go true e = good .domains .declared domain (ltb-true _ _ e) .share-most
+    go false e = let none = good .domains .undeclared domain (ltb-false _ _ e) .0 in omega arith
+
+pub lengths-most : (draft : Draft) → GoodDraft draft → (slot : ℕ) → getD (draft .plan .lengths) slot 0 ≤ 1_000_000
+lengths-most draft good slot = go (ltb slot (draft .plan .windows)) refl
+  where
+    go : (test : Bool) → ltb slot (draft .plan .windows) ≡ test → getD (draft .plan .lengths) slot 0 ≤ 1_000_000
+    go true e = good .windows .window slot (ltb-true _ _ e) .most
+    go false e = let none = good .windows .no-window slot (ltb-false _ _ e) .1 in omega arith
+
 -- an array of zeros
 zeros : (count place : ℕ) → _≡_ {A = ℕ} (getD (replicate count 0) place 0) 0
 zeros count place = go (ltb place count) refl
