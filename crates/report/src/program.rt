@@ -5,6 +5,8 @@ use engine::running::run;
 use engine::starting::fresh_start;
 use machine::State;
 use plan::Plan;
+use reader::read_plan;
+use refusal::{code_of, Verdict};
 ghost use mathlib.Core.Path.{_≡_};
 ghost use mathlib.Core.Bool.{true};
 ghost use lib.ListN.{length};
@@ -12,7 +14,7 @@ ghost use lib.Seq.{sets};
 ghost use Rattle.plan.specs.Possible.{planPossible};
 ghost use Rattle.engine.specs.FreshStart.{freshWorld};
 ghost use Rattle.engine.specs.Running.{runCallOf};
-ghost use Rattle.report.specs.Planrun.{largestLimit, lentLog, ranLines};
+ghost use Rattle.report.specs.Planrun.{largestLimit, lentLog, planrunOf, ranLines};
 
 // The lines of an accepted plan, run from a fresh start to its end.
 fn run_lines(plan: Plan, scripts: &[u32], out: &mut [u8]) -> usize
@@ -42,4 +44,22 @@ fn run_lines(plan: Plan, scripts: &[u32], out: &mut [u8]) -> usize
     );
     let last = progress.state;
     write_run(plan, last, &log, out)
+}
+
+// The lines for a plan's text: those of its run, or of its refusal.
+pub fn plan_lines(text: &[u8], out: &mut [u8]) -> usize
+    ensures { λ r. ⌜ (r ≡ length (planrunOf (now (text .entry))))
+        × (now (out .exit) ≡ sets (now (out .entry)) 0 (planrunOf (now (text .entry)))) ⌝ }
+{
+    let mut scripts = [0u32; 2_048];
+    let reading = read_plan(text, &mut scripts);
+    let plan = reading.plan;
+    let verdict = reading.verdict;
+    match verdict {
+        Verdict::Refused(refusal) => {
+            let code = code_of(Verdict::Refused(refusal));
+            write_refusal(code, out)
+        }
+        Verdict::Accepted => run_lines(plan, &scripts, out),
+    }
 }
