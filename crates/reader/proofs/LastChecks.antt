@@ -7,10 +7,10 @@ use native.Mathlib.Omega.{arith}
 use mathlib.Core.Bool.{Bool, true, false, cond}
 use mathlib.Core.List.{List}
 use mathlib.Core.Path.{_≡_, refl, sym, ap, _∙_}
-use lib.Dec.{eqb, ltb}
+use lib.Dec.{eqb, leb, ltb}
 use lib.ListN.{length, getD}
 use lib.Seq.{ext-getD}
-use borrow.Author.Tests.{eq-eqb, eqb-true, le-ltb, lt-ltb, ltb-false, ne-eqb}
+use borrow.Author.Tests.{eq-eqb, eqb-false, eqb-true, le-ltb, lt-ltb, ltb-false, ne-eqb}
 use Rattle.plan.specs.declared.Plan.{Plan}
 use Rattle.plan.specs.Colours.{coloursAt, maskOf, sharesTotal}
 use Rattle.plan.specs.Windows.{ticksTotal}
@@ -18,6 +18,7 @@ use Rattle.refusal.specs.declared.Refusal.{Refusal}
 use Rattle.refusal.specs.declared.Verdict.{Verdict}
 use Rattle.refusal.specs.declared.Verdict.the-variants.{Accepted, Refused}
 use Rattle.reader.specs.declared.Draft.{Draft}
+use Rattle.reader.proofs.GoodList.{same-or-not}
 use Rattle.reader.specs.Final.{finalVerdict, firstColourless, firstPlace, firstUndeclared, lacking, masksFrom, planWithMasks}
 
 -- ---- the first undeclared recipient
@@ -37,6 +38,28 @@ module _ (named : List ℕ) (declared count found : ℕ) (so-far : found ≡ fir
   pub undeclared-same : count < declared → found ≡ firstUndeclared named declared (count + 1)
   unfolding firstUndeclared
   undeclared-same below = so-far ∙ rw (add-one count, lt-ltb count declared below) (sym (place-none (firstUndeclared named declared count)))
+
+-- there is none: neither of two places is one
+place-both : (a b : ℕ) → firstPlace a b ≡ 0 → (a ≡ 0) × (b ≡ 0)
+place-both a b none = go (eqb a 0) (eqb b 0) (leb a b) refl refl none
+  where
+    go : (first second less : Bool) → eqb a 0 ≡ first → eqb b 0 ≡ second → cond first b (cond second a (cond less a b)) ≡ 0 → (a ≡ 0) × (b ≡ 0)
+    go true second less e f none = (eqb-true a 0 e, none)
+    go false true less e f none = absurd (eqb-false a 0 e none)
+    go false false true e f none = absurd (eqb-false a 0 e none)
+    go false false false e f none = absurd (eqb-false b 0 f none)
+
+pub undeclared-none : (named : List ℕ) (declared count place : ℕ) → firstUndeclared named declared count ≡ 0 → place < count → declared ≤ place
+    → getD named place 0 ≡ 0
+unfolding firstUndeclared
+undeclared-none named declared zero place none below past = absurd (omega arith)
+undeclared-none named declared (suc count) place none below past =
+    let both = place-both (firstUndeclared named declared count) (cond (ltb count declared) 0 (getD named count 0)) none in
+    same-or-not place count
+    (λ same.
+    let late : declared ≤ count = omega arith in
+    ap (λ (n : ℕ). getD named n 0) same ∙ (rw (le-ltb count declared late) at (both .1)))
+    (λ differ. undeclared-none named declared count place (both .0) (omega arith) past)
 
 -- ---- the first domain without a colour
 
@@ -64,6 +87,23 @@ module _ (plan : Plan) (domain : ℕ) where
   unfolding colourlessFrom firstColourless
   colourless-end past = let none : plan .domains - domain ≡ 0 = omega arith in rw none
 
+-- there is none: each gives one
+pub coloured-each : (plan : Plan) (left domain other : ℕ) → domain + left ≤ firstColourless plan left domain → domain ≤ other → other < domain + left
+    → coloursAt plan other ≡ 0 → ⊥
+unfolding firstColourless
+coloured-each plan zero domain other all from below none = omega arith
+coloured-each plan (suc left) domain other all from below none =
+    go (eqb (coloursAt plan domain) 0) refl all (coloured-each plan left (domain + 1) other)
+  where
+    go : (test : Bool) → eqb (coloursAt plan domain) 0 ≡ test
+        → domain + suc left ≤ elim test [ true ↦ domain | false ↦ firstColourless plan left (domain + 1) ]
+        → (domain + 1 + left ≤ firstColourless plan left (domain + 1) → domain + 1 ≤ other → other < domain + 1 + left → coloursAt plan other ≡ 0 → ⊥) → ⊥
+    go true e all again = omega arith
+    go false e all again =
+        same-or-not other domain
+        (λ same. eqb-false _ _ e (ap (coloursAt plan) (sym same) ∙ none))
+        (λ differ. again (omega arith) (omega arith) (omega arith) none)
+
 -- ---- the masks of an accepted plan
 
 masks-length : (plan : Plan) (left domain : ℕ) → length (masksFrom plan left domain) ≡ left
@@ -72,10 +112,10 @@ masks-length plan zero domain = refl
 masks-length plan (suc left) domain = ap suc (masks-length plan left (domain + 1))
 
 -- the mask at a place
-maskAfter : Plan → ℕ → ℕ
+unfoldable pub maskAfter : Plan → ℕ → ℕ
 maskAfter plan domain = cond (ltb domain (plan .domains)) (maskOf plan domain) 0
 
-mask-at : (plan : Plan) (left domain place : ℕ) → place < left → getD (masksFrom plan left domain) place 0 ≡ maskAfter plan (domain + place)
+pub mask-at : (plan : Plan) (left domain place : ℕ) → place < left → getD (masksFrom plan left domain) place 0 ≡ maskAfter plan (domain + place)
 unfolding masksFrom maskAfter
 mask-at plan zero domain place below = absurd (omega arith)
 mask-at plan (suc left) domain zero below = ap (maskAfter plan) (sym (add-zero domain))

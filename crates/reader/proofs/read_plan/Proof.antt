@@ -10,25 +10,25 @@ use Rattle.reader.proofs.read_plan.Statement.{statement}
 use Rattle.reader.proofs.read_plan.Tie as tie
 
 refused-reading-requires : tie.Need-refused-reading-requires
-refused-reading-requires c κs = search needs
+refused-reading-requires c κs = tt
 
 returns : tie.Need-returns
 returns c = read-wrong-length _ _ _ _ (c .before .if1 .taken) (c .refused-reading .ensures .0) (c .refused-reading .ensures .1)
 
 refused-reading-requires-2 : tie.Need-refused-reading-requires-2
-refused-reading-requires-2 c κs = search needs
+refused-reading-requires-2 c κs = tt
 
 returns-2 : tie.Need-returns-2
 returns-2 c = read-too-long _ _ (c .before .before .if1 .left) _ _ (c .before .if2 .taken) (c .refused-reading2 .ensures .0) (c .refused-reading2 .ensures .1)
 
 walk-requires : tie.Need-walk-requires
-walk-requires c κs = search needs
+walk-requires c κs = tt
 
 enum-known-verdict : tie.Need-enum-known-verdict
 enum-known-verdict c = search needs
 
 refused-reading-requires-3 : tie.Need-refused-reading-requires-3
-refused-reading-requires-3 c κs = search needs
+refused-reading-requires-3 c κs = tt
 
 returns-3 : tie.Need-returns-3
 unfolding noOps
@@ -58,7 +58,7 @@ enum-known-judged : tie.Need-enum-known-judged
 enum-known-judged c = search needs
 
 refused-reading-requires-4 : tie.Need-refused-reading-requires-4
-refused-reading-requires-4 c κs = search needs
+refused-reading-requires-4 c κs = tt
 
 returns-4 : tie.Need-returns-4
 unfolding noOps

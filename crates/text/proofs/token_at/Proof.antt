@@ -5,10 +5,10 @@ use Rattle.text.proofs.token_at.Statement.{statement}
 use Rattle.text.proofs.token_at.Tie as tie
 
 skip-spaces-requires : tie.Need-skip-spaces-requires
-skip-spaces-requires c κs = search needs
+skip-spaces-requires c κs = tt
 
 token-from-requires : tie.Need-token-from-requires
-token-from-requires c κs = search needs
+token-from-requires c κs = tt
 
 returns : tie.Need-returns
 unfolding tokenAt

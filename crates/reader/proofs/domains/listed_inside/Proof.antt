@@ -8,13 +8,13 @@ enum-known-passed : tie.Need-enum-known-passed
 enum-known-passed c = search needs
 
 refused-inside-requires : tie.Need-refused-inside-requires
-refused-inside-requires c κs = search needs
+refused-inside-requires c κs = tt
 
 enum-known-passed-2 : tie.Need-enum-known-passed-2
 enum-known-passed-2 c = search needs
 
 inside-with-requires : tie.Need-inside-with-requires
-inside-with-requires c κs = search needs
+inside-with-requires c κs = tt
 
 returns : tie.Need-returns
 unfolding listedInside

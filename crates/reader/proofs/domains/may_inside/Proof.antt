@@ -6,7 +6,7 @@ use Rattle.reader.proofs.domains.may_inside.Statement.{statement}
 use Rattle.reader.proofs.domains.may_inside.Tie as tie
 
 pass-open-requires : tie.Need-pass-open-requires
-pass-open-requires c κs = search needs
+pass-open-requires c κs = tt
 
 enum-known-opening : tie.Need-enum-known-opening
 enum-known-opening c = search needs
@@ -15,7 +15,7 @@ enum-known-opening-2 : tie.Need-enum-known-opening-2
 enum-known-opening-2 c = search needs
 
 refused-inside-requires : tie.Need-refused-inside-requires
-refused-inside-requires c κs = search needs
+refused-inside-requires c κs = tt
 
 returns : tie.Need-returns
 unfolding mayInside bytesOf
@@ -25,22 +25,22 @@ slice-aggregate-pass-word : tie.Need-slice-aggregate-pass-word
 slice-aggregate-pass-word c = search needs
 
 pass-word-requires : tie.Need-pass-word-requires
-pass-word-requires c κs = search needs
+pass-word-requires c κs = tt
 
 enum-known-wording : tie.Need-enum-known-wording
 enum-known-wording c = search needs
 
 refused-inside-requires-2 : tie.Need-refused-inside-requires-2
-refused-inside-requires-2 c κs = search needs
+refused-inside-requires-2 c κs = tt
 
 enum-known-wording-2 : tie.Need-enum-known-wording-2
 enum-known-wording-2 c = search needs
 
 recipients-at-requires : tie.Need-recipients-at-requires
-recipients-at-requires c κs = search needs
+recipients-at-requires c κs = tt
 
 listed-inside-requires : tie.Need-listed-inside-requires
-listed-inside-requires c κs = search needs
+listed-inside-requires c κs = tt
 
 returns-2 : tie.Need-returns-2
 unfolding mayInside bytesOf

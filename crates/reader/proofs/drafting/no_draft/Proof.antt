@@ -5,7 +5,7 @@ use Rattle.reader.proofs.drafting.no_draft.Statement.{statement}
 use Rattle.reader.proofs.drafting.no_draft.Tie as tie
 
 no-plan-requires : tie.Need-no-plan-requires
-no-plan-requires c κs = search needs
+no-plan-requires c κs = tt
 
 returns : tie.Need-returns
 unfolding noDraft

@@ -11,13 +11,13 @@ enum-known-form : tie.Need-enum-known-form
 enum-known-form c = search needs
 
 take-pad-requires : tie.Need-take-pad-requires
-take-pad-requires c κs = search needs
+take-pad-requires c κs = tt
 
 enum-known-form-2 : tie.Need-enum-known-form-2
 enum-known-form-2 c = search needs
 
 take-run-requires : tie.Need-take-run-requires
-take-run-requires c κs = search needs
+take-run-requires c κs = tt
 
 enum-known-form-3 : tie.Need-enum-known-form-3
 enum-known-form-3 c = search needs
@@ -29,7 +29,7 @@ enum-known-form-4 : tie.Need-enum-known-form-4
 enum-known-form-4 c = search needs
 
 take-window-requires : tie.Need-take-window-requires
-take-window-requires c κs = search needs
+take-window-requires c κs = tt
 
 enum-known-form-5 : tie.Need-enum-known-form-5
 enum-known-form-5 c = search needs

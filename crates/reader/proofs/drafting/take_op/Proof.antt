@@ -19,7 +19,7 @@ unfolding takeOp
 returns c = simp (le-leb _ _ (c .if1 .taken))
 
 stored-requires : tie.Need-stored-requires
-stored-requires c κs = search needs
+stored-requires c κs = tt
 
 mul-store : tie.Need-mul-store
 mul-store c = search needs

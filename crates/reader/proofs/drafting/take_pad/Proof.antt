@@ -10,10 +10,10 @@ unfolding takePad
 returns c store = simp (ne-eqb _ _ (c .if1 .taken))
 
 plan-with-pad-requires : tie.Need-plan-with-pad-requires
-plan-with-pad-requires c κs = search needs
+plan-with-pad-requires c κs = tt
 
 with-plan-requires : tie.Need-with-plan-requires
-with-plan-requires c κs = search needs
+with-plan-requires c κs = tt
 
 returns-2 : tie.Need-returns-2
 unfolding takePad

@@ -10,10 +10,10 @@ unfolding takeRun
 returns c store = simp (ne-eqb _ _ (c .if1 .taken))
 
 plan-with-run-requires : tie.Need-plan-with-run-requires
-plan-with-run-requires c κs = search needs
+plan-with-run-requires c κs = tt
 
 with-plan-requires : tie.Need-with-plan-requires
-with-plan-requires c κs = search needs
+with-plan-requires c κs = tt
 
 returns-2 : tie.Need-returns-2
 unfolding takeRun

@@ -13,7 +13,7 @@ plan-with-window-requires : tie.Need-plan-with-window-requires
 plan-with-window-requires c κs = search needs
 
 with-plan-requires : tie.Need-with-plan-requires
-with-plan-requires c κs = search needs
+with-plan-requires c κs = tt
 
 returns-2 : tie.Need-returns-2
 unfolding takeWindow

@@ -6,7 +6,7 @@ use Rattle.reader.proofs.forms.length_inside.Statement.{statement}
 use Rattle.reader.proofs.forms.length_inside.Tie as tie
 
 pass-open-requires : tie.Need-pass-open-requires
-pass-open-requires c κs = search needs
+pass-open-requires c κs = tt
 
 enum-known-opening : tie.Need-enum-known-opening
 enum-known-opening c = search needs
@@ -15,7 +15,7 @@ enum-known-opening-2 : tie.Need-enum-known-opening-2
 enum-known-opening-2 c = search needs
 
 refused-inside-requires : tie.Need-refused-inside-requires
-refused-inside-requires c κs = search needs
+refused-inside-requires c κs = tt
 
 returns : tie.Need-returns
 unfolding lengthInside bytesOf
@@ -25,7 +25,7 @@ slice-aggregate-pass-word : tie.Need-slice-aggregate-pass-word
 slice-aggregate-pass-word c = search needs
 
 pass-word-requires : tie.Need-pass-word-requires
-pass-word-requires c κs = search needs
+pass-word-requires c κs = tt
 
 enum-known-wording : tie.Need-enum-known-wording
 enum-known-wording c = search needs
@@ -34,38 +34,38 @@ enum-known-wording-2 : tie.Need-enum-known-wording-2
 enum-known-wording-2 c = search needs
 
 refused-inside-requires-2 : tie.Need-refused-inside-requires-2
-refused-inside-requires-2 c κs = search needs
+refused-inside-requires-2 c κs = tt
 
 returns-2 : tie.Need-returns-2
 unfolding lengthInside bytesOf
 returns-2 c = simp (← (c .before .before .before .before .before .before .before .before .before .pass-open .ensures), c .before .before .before .before .before .before .before .opening .given .1, ← (c .before .before .before .before .pass-word .ensures), c .before .before .wording2 .given .1, ← (c .refused-inside2 .ensures))
 
 take-number-requires : tie.Need-take-number-requires
-take-number-requires c κs = search needs
+take-number-requires c κs = tt
 
 enum-known-taken : tie.Need-enum-known-taken
 enum-known-taken c = search needs
 
 refused-inside-requires-3 : tie.Need-refused-inside-requires-3
-refused-inside-requires-3 c κs = search needs
+refused-inside-requires-3 c κs = tt
 
 enum-known-taken-2 : tie.Need-enum-known-taken-2
 enum-known-taken-2 c = search needs
 
 pass-close-requires : tie.Need-pass-close-requires
-pass-close-requires c κs = search needs
+pass-close-requires c κs = tt
 
 enum-known-closing : tie.Need-enum-known-closing
 enum-known-closing c = search needs
 
 refused-inside-requires-4 : tie.Need-refused-inside-requires-4
-refused-inside-requires-4 c κs = search needs
+refused-inside-requires-4 c κs = tt
 
 enum-known-closing-2 : tie.Need-enum-known-closing-2
 enum-known-closing-2 c = search needs
 
 inside-with-requires : tie.Need-inside-with-requires
-inside-with-requires c κs = search needs
+inside-with-requires c κs = tt
 
 returns-3 : tie.Need-returns-3
 unfolding lengthInside bytesOf

@@ -5,19 +5,19 @@ use Rattle.reader.proofs.forms.pad_inside.Statement.{statement}
 use Rattle.reader.proofs.forms.pad_inside.Tie as tie
 
 take-number-requires : tie.Need-take-number-requires
-take-number-requires c κs = search needs
+take-number-requires c κs = tt
 
 enum-known-taken : tie.Need-enum-known-taken
 enum-known-taken c = search needs
 
 inside-with-requires : tie.Need-inside-with-requires
-inside-with-requires c κs = search needs
+inside-with-requires c κs = tt
 
 enum-known-taken-2 : tie.Need-enum-known-taken-2
 enum-known-taken-2 c = search needs
 
 refused-inside-requires : tie.Need-refused-inside-requires
-refused-inside-requires c κs = search needs
+refused-inside-requires c κs = tt
 
 returns : tie.Need-returns
 unfolding padInside

@@ -6,22 +6,22 @@ use Rattle.reader.proofs.forms.window_inside.Statement.{statement}
 use Rattle.reader.proofs.forms.window_inside.Tie as tie
 
 take-number-requires : tie.Need-take-number-requires
-take-number-requires c κs = search needs
+take-number-requires c κs = tt
 
 enum-known-taken : tie.Need-enum-known-taken
 enum-known-taken c = search needs
 
 refused-inside-requires : tie.Need-refused-inside-requires
-refused-inside-requires c κs = search needs
+refused-inside-requires c κs = tt
 
 enum-known-taken-2 : tie.Need-enum-known-taken-2
 enum-known-taken-2 c = search needs
 
 length-inside-requires : tie.Need-length-inside-requires
-length-inside-requires c κs = search needs
+length-inside-requires c κs = tt
 
 refused-inside-requires-2 : tie.Need-refused-inside-requires-2
-refused-inside-requires-2 c κs = search needs
+refused-inside-requires-2 c κs = tt
 
 returns : tie.Need-returns
 unfolding windowInside

@@ -6,14 +6,14 @@ use Rattle.reader.proofs.last.final_verdict.Statement.{statement}
 use Rattle.reader.proofs.last.final_verdict.Tie as tie
 
 is-lacking-requires : tie.Need-is-lacking-requires
-is-lacking-requires c κs = search needs
+is-lacking-requires c κs = tt
 
 returns : tie.Need-returns
 unfolding finalVerdict
 returns c = simp (← (c .before .is-lacking .ensures), c .if1 .taken)
 
 first-undeclared-requires : tie.Need-first-undeclared-requires
-first-undeclared-requires c κs = search needs
+first-undeclared-requires c κs = tt
 
 sub-t11 : tie.Need-sub-t11
 sub-t11 c = search needs

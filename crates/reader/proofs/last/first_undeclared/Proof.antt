@@ -26,7 +26,7 @@ array-read-first-place : tie.Need-array-read-first-place Inv-loop μ-loop
 array-read-first-place c = search needs
 
 first-place-requires : tie.Need-first-place-requires Inv-loop μ-loop
-first-place-requires c κs = search needs
+first-place-requires c κs = tt
 
 add-domain : tie.Need-add-domain Inv-loop μ-loop
 add-domain c = search needs

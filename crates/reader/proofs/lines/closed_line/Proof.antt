@@ -5,7 +5,7 @@ use Rattle.reader.proofs.lines.closed_line.Statement.{statement}
 use Rattle.reader.proofs.lines.closed_line.Tie as tie
 
 pass-close-requires : tie.Need-pass-close-requires
-pass-close-requires c κs = search needs
+pass-close-requires c κs = tt
 
 enum-known-closing : tie.Need-enum-known-closing
 enum-known-closing c = search needs
@@ -14,20 +14,20 @@ enum-known-closing-2 : tie.Need-enum-known-closing-2
 enum-known-closing-2 c = search needs
 
 refused-line-requires : tie.Need-refused-line-requires
-refused-line-requires c κs = search needs
+refused-line-requires c κs = tt
 
 returns : tie.Need-returns
 unfolding closedLine
 returns c = simp (← (c .before .before .before .before .pass-close .ensures), c .before .before .closing2 .given .1, ← (c .refused-line .ensures))
 
 pass-line-end-requires : tie.Need-pass-line-end-requires
-pass-line-end-requires c κs = search needs
+pass-line-end-requires c κs = tt
 
 enum-known-ending : tie.Need-enum-known-ending
 enum-known-ending c = search needs
 
 refused-line-requires-2 : tie.Need-refused-line-requires-2
-refused-line-requires-2 c κs = search needs
+refused-line-requires-2 c κs = tt
 
 enum-known-ending-2 : tie.Need-enum-known-ending-2
 enum-known-ending-2 c = search needs

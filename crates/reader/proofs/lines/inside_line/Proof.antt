@@ -9,14 +9,14 @@ enum-known-form : tie.Need-enum-known-form
 enum-known-form c = search needs
 
 refused-line-requires : tie.Need-refused-line-requires
-refused-line-requires c κs = search needs
+refused-line-requires c κs = tt
 
 returns : tie.Need-returns
 unfolding insideLine
 returns c = simp (c .before .before .before .form .given .1, ← (c .refused-line .ensures))
 
 closed-line-requires : tie.Need-closed-line-requires
-closed-line-requires c κs = search needs
+closed-line-requires c κs = tt
 
 returns-2 : tie.Need-returns-2
 unfolding insideLine

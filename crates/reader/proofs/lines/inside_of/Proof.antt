@@ -8,37 +8,37 @@ enum-known-head : tie.Need-enum-known-head
 enum-known-head c = search needs
 
 pad-inside-requires : tie.Need-pad-inside-requires
-pad-inside-requires c κs = search needs
+pad-inside-requires c κs = tt
 
 enum-known-head-2 : tie.Need-enum-known-head-2
 enum-known-head-2 c = search needs
 
 run-inside-requires : tie.Need-run-inside-requires
-run-inside-requires c κs = search needs
+run-inside-requires c κs = tt
 
 enum-known-head-3 : tie.Need-enum-known-head-3
 enum-known-head-3 c = search needs
 
 domain-inside-requires : tie.Need-domain-inside-requires
-domain-inside-requires c κs = search needs
+domain-inside-requires c κs = tt
 
 enum-known-head-4 : tie.Need-enum-known-head-4
 enum-known-head-4 c = search needs
 
 window-inside-requires : tie.Need-window-inside-requires
-window-inside-requires c κs = search needs
+window-inside-requires c κs = tt
 
 enum-known-head-5 : tie.Need-enum-known-head-5
 enum-known-head-5 c = search needs
 
 op-inside-requires : tie.Need-op-inside-requires
-op-inside-requires c κs = search needs
+op-inside-requires c κs = tt
 
 enum-known-head-6 : tie.Need-enum-known-head-6
 enum-known-head-6 c = search needs
 
 refused-inside-requires : tie.Need-refused-inside-requires
-refused-inside-requires c κs = search needs
+refused-inside-requires c κs = tt
 
 returns : tie.Need-returns
 unfolding insideOf

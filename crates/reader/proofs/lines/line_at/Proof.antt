@@ -8,7 +8,7 @@ use Rattle.reader.proofs.lines.line_at.Statement.{statement}
 use Rattle.reader.proofs.lines.line_at.Tie as tie
 
 token-at-requires : tie.Need-token-at-requires
-token-at-requires c κs = search needs
+token-at-requires c κs = tt
 
 enum-known-token : tie.Need-enum-known-token
 enum-known-token c = search needs
@@ -21,10 +21,10 @@ enum-known-token-2 : tie.Need-enum-known-token-2
 enum-known-token-2 c = search needs
 
 start-of-requires : tie.Need-start-of-requires
-start-of-requires c κs = search needs
+start-of-requires c κs = tt
 
 refused-line-requires : tie.Need-refused-line-requires
-refused-line-requires c κs = search needs
+refused-line-requires c κs = tt
 
 returns-2 : tie.Need-returns-2
 unfolding lineAt tokenLine
@@ -34,13 +34,13 @@ add-head-at : tie.Need-add-head-at
 add-head-at c = omega (arith, reached _ _ (c .before .before .before .before .token-at .ensures) (c .before .token2 .given .1))
 
 head-at-requires : tie.Need-head-at-requires
-head-at-requires c κs = search needs
+head-at-requires c κs = tt
 
 inside-of-requires : tie.Need-inside-of-requires
-inside-of-requires c κs = search needs
+inside-of-requires c κs = tt
 
 inside-line-requires : tie.Need-inside-line-requires
-inside-line-requires c κs = search needs
+inside-line-requires c κs = tt
 
 returns-3 : tie.Need-returns-3
 unfolding lineAt tokenLine

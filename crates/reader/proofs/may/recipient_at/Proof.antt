@@ -8,7 +8,7 @@ use Rattle.reader.proofs.may.recipient_at.Statement.{statement}
 use Rattle.reader.proofs.may.recipient_at.Tie as tie
 
 token-at-requires : tie.Need-token-at-requires
-token-at-requires c κs = search needs
+token-at-requires c κs = tt
 
 enum-known-token : tie.Need-enum-known-token
 enum-known-token c = search needs
@@ -20,13 +20,13 @@ enum-known-token-2 : tie.Need-enum-known-token-2
 enum-known-token-2 c = search needs
 
 recipient-for-requires : tie.Need-recipient-for-requires
-recipient-for-requires c κs = search needs
+recipient-for-requires c κs = tt
 
 enum-known-token-3 : tie.Need-enum-known-token-3
 enum-known-token-3 c = search needs
 
 start-of-requires : tie.Need-start-of-requires
-start-of-requires c κs = search needs
+start-of-requires c κs = tt
 
 returns : tie.Need-returns
 unfolding recipientAt

@@ -19,7 +19,7 @@ loop-holds : tie.Need-loop-holds Inv-loop μ-loop
 loop-holds c = (left-first _ _ _ _, search needs)
 
 recipient-at-requires : tie.Need-recipient-at-requires Inv-loop μ-loop
-recipient-at-requires c κs = search needs
+recipient-at-requires c κs = tt
 
 enum-known-next : tie.Need-enum-known-next Inv-loop μ-loop
 enum-known-next c = search needs

@@ -6,22 +6,22 @@ use Rattle.reader.proofs.ops.op_inside.Statement.{statement}
 use Rattle.reader.proofs.ops.op_inside.Tie as tie
 
 take-number-requires : tie.Need-take-number-requires
-take-number-requires c κs = search needs
+take-number-requires c κs = tt
 
 enum-known-taken : tie.Need-enum-known-taken
 enum-known-taken c = search needs
 
 refused-inside-requires : tie.Need-refused-inside-requires
-refused-inside-requires c κs = search needs
+refused-inside-requires c κs = tt
 
 enum-known-taken-2 : tie.Need-enum-known-taken-2
 enum-known-taken-2 c = search needs
 
 script-inside-requires : tie.Need-script-inside-requires
-script-inside-requires c κs = search needs
+script-inside-requires c κs = tt
 
 refused-inside-requires-2 : tie.Need-refused-inside-requires-2
-refused-inside-requires-2 c κs = search needs
+refused-inside-requires-2 c κs = tt
 
 returns : tie.Need-returns
 unfolding opInside

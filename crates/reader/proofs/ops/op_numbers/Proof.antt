@@ -8,31 +8,31 @@ enum-known-head : tie.Need-enum-known-head
 enum-known-head c = search needs
 
 read-numbers-requires : tie.Need-read-numbers-requires
-read-numbers-requires c κs = search needs
+read-numbers-requires c κs = tt
 
 enum-known-head-2 : tie.Need-enum-known-head-2
 enum-known-head-2 c = search needs
 
 write-numbers-requires : tie.Need-write-numbers-requires
-write-numbers-requires c κs = search needs
+write-numbers-requires c κs = tt
 
 enum-known-head-3 : tie.Need-enum-known-head-3
 enum-known-head-3 c = search needs
 
 send-numbers-requires : tie.Need-send-numbers-requires
-send-numbers-requires c κs = search needs
+send-numbers-requires c κs = tt
 
 enum-known-head-4 : tie.Need-enum-known-head-4
 enum-known-head-4 c = search needs
 
 receive-numbers-requires : tie.Need-receive-numbers-requires
-receive-numbers-requires c κs = search needs
+receive-numbers-requires c κs = tt
 
 enum-known-head-5 : tie.Need-enum-known-head-5
 enum-known-head-5 c = search needs
 
 compute-numbers-requires : tie.Need-compute-numbers-requires
-compute-numbers-requires c κs = search needs
+compute-numbers-requires c κs = tt
 
 enum-known-head-6 : tie.Need-enum-known-head-6
 enum-known-head-6 c = search needs

@@ -7,7 +7,7 @@ use Rattle.reader.proofs.ops.read_numbers.Statement.{statement}
 use Rattle.reader.proofs.ops.read_numbers.Tie as tie
 
 take-number-requires : tie.Need-take-number-requires
-take-number-requires c κs = search needs
+take-number-requires c κs = tt
 
 enum-known-taken : tie.Need-enum-known-taken
 enum-known-taken c = search needs

@@ -5,7 +5,7 @@ use Rattle.reader.proofs.ops.script_inside.Statement.{statement}
 use Rattle.reader.proofs.ops.script_inside.Tie as tie
 
 pass-open-requires : tie.Need-pass-open-requires
-pass-open-requires c κs = search needs
+pass-open-requires c κs = tt
 
 enum-known-opening : tie.Need-enum-known-opening
 enum-known-opening c = search needs
@@ -14,41 +14,41 @@ enum-known-opening-2 : tie.Need-enum-known-opening-2
 enum-known-opening-2 c = search needs
 
 refused-inside-requires : tie.Need-refused-inside-requires
-refused-inside-requires c κs = search needs
+refused-inside-requires c κs = tt
 
 returns : tie.Need-returns
 unfolding scriptInside
 returns c = simp (← (c .before .before .before .before .pass-open .ensures), c .before .before .opening2 .given .1, ← (c .refused-inside .ensures))
 
 op-head-at-requires : tie.Need-op-head-at-requires
-op-head-at-requires c κs = search needs
+op-head-at-requires c κs = tt
 
 op-numbers-requires : tie.Need-op-numbers-requires
-op-numbers-requires c κs = search needs
+op-numbers-requires c κs = tt
 
 enum-known-taken : tie.Need-enum-known-taken
 enum-known-taken c = search needs
 
 refused-inside-requires-2 : tie.Need-refused-inside-requires-2
-refused-inside-requires-2 c κs = search needs
+refused-inside-requires-2 c κs = tt
 
 enum-known-taken-2 : tie.Need-enum-known-taken-2
 enum-known-taken-2 c = search needs
 
 pass-close-requires : tie.Need-pass-close-requires
-pass-close-requires c κs = search needs
+pass-close-requires c κs = tt
 
 enum-known-closing : tie.Need-enum-known-closing
 enum-known-closing c = search needs
 
 refused-inside-requires-3 : tie.Need-refused-inside-requires-3
-refused-inside-requires-3 c κs = search needs
+refused-inside-requires-3 c κs = tt
 
 enum-known-closing-2 : tie.Need-enum-known-closing-2
 enum-known-closing-2 c = search needs
 
 inside-with-requires : tie.Need-inside-with-requires
-inside-with-requires c κs = search needs
+inside-with-requires c κs = tt
 
 returns-2 : tie.Need-returns-2
 unfolding scriptInside

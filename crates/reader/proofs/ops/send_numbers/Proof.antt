@@ -7,7 +7,7 @@ use Rattle.reader.proofs.ops.send_numbers.Statement.{statement}
 use Rattle.reader.proofs.ops.send_numbers.Tie as tie
 
 take-number-requires : tie.Need-take-number-requires
-take-number-requires c κs = search needs
+take-number-requires c κs = tt
 
 enum-known-first : tie.Need-enum-known-first
 enum-known-first c = search needs
@@ -16,7 +16,7 @@ enum-known-first-2 : tie.Need-enum-known-first-2
 enum-known-first-2 c = search needs
 
 take-number-requires-2 : tie.Need-take-number-requires-2
-take-number-requires-2 c κs = search needs
+take-number-requires-2 c κs = tt
 
 enum-known-second : tie.Need-enum-known-second
 enum-known-second c = search needs

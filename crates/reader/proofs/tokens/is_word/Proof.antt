@@ -15,7 +15,7 @@ part-same-bytes-end : tie.Need-part-same-bytes-end
 part-same-bytes-end c = search needs
 
 same-bytes-requires : tie.Need-same-bytes-requires
-same-bytes-requires c κs = search needs
+same-bytes-requires c κs = tt
 
 returns : tie.Need-returns
 unfolding isWord part

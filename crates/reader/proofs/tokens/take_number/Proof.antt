@@ -8,7 +8,7 @@ use Rattle.reader.proofs.tokens.take_number.Statement.{statement}
 use Rattle.reader.proofs.tokens.take_number.Tie as tie
 
 token-at-requires : tie.Need-token-at-requires
-token-at-requires c κs = search needs
+token-at-requires c κs = tt
 
 enum-known-token : tie.Need-enum-known-token
 enum-known-token c = search needs
@@ -21,7 +21,7 @@ enum-known-token-2 : tie.Need-enum-known-token-2
 enum-known-token-2 c = search needs
 
 start-of-requires : tie.Need-start-of-requires
-start-of-requires c κs = search needs
+start-of-requires c κs = tt
 
 returns-2 : tie.Need-returns-2
 unfolding takeNumber

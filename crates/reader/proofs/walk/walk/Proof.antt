@@ -17,13 +17,13 @@ abbrev μ-loop : tie.MeasureT-loop
 μ-loop text store₀ draft₀ at₀ store draft at = length text - at
 
 no-draft-requires : tie.Need-no-draft-requires Inv-loop μ-loop
-no-draft-requires c κs = search needs
+no-draft-requires c κs = tt
 
 loop-holds : tie.Need-loop-holds Inv-loop μ-loop
 loop-holds c = rw (c .no-draft .ensures) (lines-first _ noDraft _ draft-first)
 
 line-at-requires : tie.Need-line-at-requires Inv-loop μ-loop
-line-at-requires c κs = search needs
+line-at-requires c κs = tt
 
 take-line-requires : tie.Need-take-line-requires Inv-loop μ-loop
 take-line-requires c κs = (turn-domain _ _ _ _ _ (c .before .before .before .before .loop .inv) (c .before .before .before .loop-test .taken) _ (c .before .line-at .ensures), turn-op _ _ _ _ _ (c .before .before .before .before .loop .inv) (c .before .before .before .loop-test .taken) _ (c .before .line-at .ensures))

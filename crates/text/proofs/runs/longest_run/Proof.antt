@@ -8,7 +8,7 @@ use Rattle.text.proofs.runs.longest_run.Statement.{statement}
 use Rattle.text.proofs.runs.longest_run.Tie as tie
 
 run-end-requires : tie.Need-run-end-requires
-run-end-requires c κs = search needs
+run-end-requires c κs = tt
 
 sub-run-token : tie.Need-sub-run-token
 sub-run-token c = rw (c .run-end .ensures) (scan-least endsRun _ _)
@@ -20,7 +20,7 @@ part-run-token-end : tie.Need-part-run-token-end
 part-run-token-end c = rw (c .run-end .ensures) (scan-most endsRun _ _ (search needs))
 
 run-token-requires : tie.Need-run-token-requires
-run-token-requires c κs = search needs
+run-token-requires c κs = tt
 
 returns : tie.Need-returns
 unfolding longestRun part

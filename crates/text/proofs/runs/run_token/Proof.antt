@@ -6,14 +6,14 @@ use Rattle.text.proofs.runs.run_token.Statement.{statement}
 use Rattle.text.proofs.runs.run_token.Tie as tie
 
 all-letters-requires : tie.Need-all-letters-requires
-all-letters-requires c κs = search needs
+all-letters-requires c κs = tt
 
 returns : tie.Need-returns
 unfolding runToken
 returns c = simp (← (c .before .all-letters .ensures), c .if1 .taken)
 
 all-digits-requires : tie.Need-all-digits-requires
-all-digits-requires c κs = search needs
+all-digits-requires c κs = tt
 
 digits-token-requires : tie.Need-digits-token-requires
 digits-token-requires c κs = sym (c .before .all-digits .ensures) ∙ c .if2 .taken

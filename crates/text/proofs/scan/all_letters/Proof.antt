@@ -24,7 +24,7 @@ shared-slice-read-is-letter : tie.Need-shared-slice-read-is-letter Inv-loop μ-l
 shared-slice-read-is-letter c = search needs
 
 is-letter-requires : tie.Need-is-letter-requires Inv-loop μ-loop
-is-letter-requires c κs = search needs
+is-letter-requires c κs = tt
 
 returns : tie.Need-returns Inv-loop μ-loop
 returns c = sym (all-fails isLetter _ _ (search needs) (sym (c .before .is-letter .ensures) ∙ not-true _ (c .if1 .taken))) ∙ c .before .before .before .before .loop .inv

@@ -22,7 +22,7 @@ shared-slice-read-ends-run : tie.Need-shared-slice-read-ends-run Inv-loop μ-loo
 shared-slice-read-ends-run c = search needs
 
 ends-run-requires : tie.Need-ends-run-requires Inv-loop μ-loop
-ends-run-requires c κs = search needs
+ends-run-requires c κs = tt
 
 returns : tie.Need-returns Inv-loop μ-loop
 returns c = sym (scan-here endsRun _ _ (search needs) (sym (c .before .ends-run .ensures) ∙ c .if1 .taken)) ∙ c .before .before .before .before .loop .inv
