@@ -1,4 +1,5 @@
 -- The laws on the printed lines.
 pub mod Limits
 pub mod Places
+pub mod Planned
 pub mod Written

@@ -9,7 +9,7 @@ use Rattle.lists.proofs.Agree.{Agree, agree-fewer, agree-refl, set-alike, set-a
 use Rattle.plan.specs.declared.Plan.{Plan}
 use Rattle.plan.specs.Possible.{planPossible}
 use Rattle.script.specs.declared.Op.{Op}
-use Rattle.script.proofs.Laws.{Within}
+use Rattle.script.specs.Limits.{Within}
 use Rattle.cache.specs.Lines.{tableLength}
 use Rattle.machine.specs.Ops.{boxPlace}
 use Rattle.machine.specs.Steps.{opStepOf}
