@@ -3,3 +3,4 @@ pub mod OneRun
 pub mod TwoRuns
 pub mod Isolation
 pub mod Examples
+pub mod Texts

@@ -11,6 +11,7 @@ use Rattle.plan.specs.Possible.{planPossible}
 use Rattle.refusal.specs.declared.Verdict.the-variants.{Accepted}
 use Rattle.reader.specs.Draft.{noOps}
 use Rattle.reader.specs.Read.{Read, readOf}
+use Rattle.reader.proofs.Accepted.{accepted-possible}
 use Rattle.written.specs.Lines.{planText}
 use Rattle.written.specs.Shaped.{Given, Shaped}
 use Rattle.written.proofs.ReadBack.{read-back}
@@ -22,13 +23,10 @@ possible-given plan shaped possible =
     let read = read-back plan noOps shaped possible (length-replicate {A = ℕ} 2_048 0) in
     record { text = planText plan; scripts = noOps; accepted = ap (λ (r : Read). r .verdict) read; gives = ap (λ (r : Read). r .plan) read }
 
--- the reader's law: an accepted reading gives a possible plan
-abbrev pub AcceptedPossible : Type 0
-AcceptedPossible = (text scripts : List ℕ) → readOf text scripts .verdict ≡ Accepted → planPossible (readOf text scripts .plan) ≡ true
-
-pub given-possible : AcceptedPossible → (plan : Plan) → Given plan → planPossible plan ≡ true
-given-possible law plan given = sym (ap planPossible (given .gives)) ∙ law (given .text) (given .scripts) (given .accepted)
+-- a plan that some text gives is possible
+pub given-possible : (plan : Plan) → Given plan → planPossible plan ≡ true
+given-possible plan given = sym (ap planPossible (given .gives)) ∙ accepted-possible (given .text) (given .scripts) (given .accepted)
 
 -- "accepted plan" has one meaning
-pub one-meaning : AcceptedPossible → (plan : Plan) → Shaped plan → (planPossible plan ≡ true) ↔ Given plan
-one-meaning law plan shaped = (possible-given plan shaped, given-possible law plan)
+pub one-meaning : (plan : Plan) → Shaped plan → (planPossible plan ≡ true) ↔ Given plan
+one-meaning plan shaped = (possible-given plan shaped, given-possible plan)
