@@ -19,6 +19,7 @@ use Rattle.refusal.specs.declared.Refusal.the-variants.{TextTooLong, WrongLengt
 use Rattle.refusal.specs.declared.Verdict.{Verdict}
 use Rattle.refusal.specs.declared.Verdict.the-variants.{Accepted, Refused}
 use Rattle.text.proofs.Reached.{cond-holds}
+use Rattle.reader.proofs.Choices.{neither}
 use Rattle.reader.proofs.GoodDraft.{GoodDraft, GoodOutcome, draft-first}
 use Rattle.reader.proofs.HighBits.{high-off}
 use Rattle.reader.proofs.LastChecks.{Passes, coloured-each, mask-at, maskAfter, passes, undeclared-none}
@@ -35,10 +36,6 @@ both a b p q = and-eq-true-iff a b .1 (p, q)
 
 within-true : (low high number : ℕ) → low ≤ number → number ≤ high → within low high number ≡ true
 within-true low high number l h = both (leb low number) (leb number high) (le-leb _ _ l) (le-leb _ _ h)
-
-neither : (a b : Bool) → (a || b) ≡ false → (a ≡ false) × (b ≡ false)
-neither true b e = let z : _≡_ {A = ℕ} 0 1 = cc in absurd (omega arith)
-neither false b e = (refl, e)
 
 -- ---- a draft that passes the last checks
 
@@ -146,7 +143,7 @@ judged-possible : (textLength : ℕ) (draft : Draft) (store scripts : List ℕ) 
     → finalVerdict textLength draft ≡ verdict → judged verdict draft store scripts .verdict ≡ Accepted
     → planPossible (judged verdict draft store scripts .plan) ≡ true
 judged-possible textLength draft store scripts good Accepted final e = passing-possible draft good (passes textLength draft final)
-judged-possible textLength draft store scripts good (Refused why) final e = absurd (not-refused why scripts e)
+judged-possible textLength draft store scripts good (Refused why) final e = absurd (not-refused why _ e)
 
 finished-possible : (size textLength : ℕ) (outcome : Outcome) (scripts : List ℕ) → GoodOutcome size outcome
     → finished textLength outcome scripts .verdict ≡ Accepted → planPossible (finished textLength outcome scripts .plan) ≡ true

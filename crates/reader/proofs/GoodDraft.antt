@@ -15,7 +15,8 @@ use Rattle.script.specs.Stored.{storedOf}
 use Rattle.text.proofs.Reached.{cond-holds}
 use Rattle.reader.proofs.GoodForm.{GoodForm}
 use Rattle.reader.proofs.GoodLine.{GoodLine}
-use Rattle.reader.proofs.GoodList.{Noted, Recorded, same-or-not}
+use Rattle.reader.proofs.Choices.{same-or-not}
+use Rattle.reader.proofs.GoodList.{Noted, Recorded}
 use Rattle.reader.specs.declared.DomainLine.{DomainLine}
 use Rattle.reader.specs.declared.Draft.{Draft}
 use Rattle.reader.specs.declared.Form.{Form}

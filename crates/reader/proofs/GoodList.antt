@@ -2,7 +2,7 @@
 -- first named. Assumes nothing.
 use Prim.Native.Nat.{ℕ, zero, suc, _+_, _^_, _≤_, _<_}
 use native.Mathlib.Omega.{arith}
-use mathlib.Core.Bool.{Bool, true, false, false≢true}
+use mathlib.Core.Bool.{true, false, false≢true}
 use mathlib.Core.List.{List}
 use mathlib.Core.Path.{_≡_, refl, sym, ap, _∙_}
 use lib.Dec.{eqb}
@@ -12,6 +12,7 @@ use borrow.Author.Tests.{eqb-false, eqb-true}
 use Rattle.plan.proofs.Bits.{zero-no-bit}
 use Rattle.plan.specs.Colours.{hasBit}
 use Rattle.text.proofs.Reached.{cond-holds}
+use Rattle.reader.proofs.Choices.{is-false, same-or-not}
 use Rattle.reader.proofs.Listing.{Fresh, Listed, next-listed}
 use Rattle.reader.proofs.NewBit.{new-bit-most, new-bit-other}
 use Rattle.reader.specs.declared.Passed.{Passed}
@@ -37,14 +38,6 @@ mention-length named recipient start =
     cond-holds (λ (marked : List ℕ). length marked ≡ length named) (eqb (getD named recipient 0) 0) (set named recipient (start + 1)) named
     (λ _. length-set named recipient (start + 1))
     (λ _. refl)
-
--- a choice by whether two numbers are equal
-pub same-or-not : {P : Type 0} (a b : ℕ) → (a ≡ b → P) → ((a ≡ b → ⊥) → P) → P
-same-or-not {P} a b f g = go (eqb a b) refl
-  where
-    go : (test : Bool) → eqb a b ≡ test → P
-    go true e = f (eqb-true a b e)
-    go false e = g (eqb-false a b e)
 
 pub mention-keeps : (named : List ℕ) (recipient start : ℕ) → Keeps named (mention named recipient start)
 unfolding mention
@@ -72,10 +65,6 @@ pub record Recorded (own rights : ℕ) (named marked : List ℕ) : Type 0 where
   pub not-own : hasBit rights own ≡ false
   pub noted : Noted rights marked
   pub keeps : Keeps named marked
-
-is-false : (test : Bool) → (test ≡ true → ⊥) → test ≡ false
-is-false true h = absurd (h refl)
-is-false false h = refl
 
 pub recorded-first : (own : ℕ) (named : List ℕ) → Recorded own 0 named named
 recorded-first own named =

@@ -18,7 +18,7 @@ use Rattle.refusal.specs.declared.Refusal.{Refusal}
 use Rattle.refusal.specs.declared.Verdict.{Verdict}
 use Rattle.refusal.specs.declared.Verdict.the-variants.{Accepted, Refused}
 use Rattle.reader.specs.declared.Draft.{Draft}
-use Rattle.reader.proofs.GoodList.{same-or-not}
+use Rattle.reader.proofs.Choices.{same-or-not}
 use Rattle.reader.specs.Final.{finalVerdict, firstColourless, firstPlace, firstUndeclared, lacking, masksFrom, planWithMasks}
 
 -- ---- the first undeclared recipient

@@ -1,5 +1,6 @@
 pub mod Accepted
 pub mod Advance
+pub mod Choices
 pub mod Filling
 pub mod GoodDraft
 pub mod GoodForm

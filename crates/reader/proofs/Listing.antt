@@ -1,7 +1,7 @@
 -- The list of recipients: what is known of the next one, and the walk from one to the next. Assumes nothing.
 use Prim.Native.Nat.{ℕ, zero, suc, _+_, _*_, _%_, _^_, _≤_, _<_}
 use native.Mathlib.Omega.{arith}
-use mathlib.Core.Bool.{Bool, true, false, _||_, true≢false, false≢true}
+use mathlib.Core.Bool.{false, _||_, false≢true}
 use mathlib.Core.List.{List}
 use mathlib.Core.Path.{_≡_, refl, sym, subst, ap, _∙_}
 use lib.Dec.{eqb, leb}
@@ -19,6 +19,7 @@ use Rattle.reader.specs.declared.Passed.the-variants.{To, Refused}
 use Rattle.reader.specs.declared.Recipient.{Recipient}
 use Rattle.reader.specs.declared.Recipient.the-variants.{Next, Done, Refused as Unlisted}
 use Rattle.reader.specs.declared.Recipients.{Recipients}
+use Rattle.reader.proofs.Choices.{neither}
 use Rattle.reader.proofs.NewBit.{new-bit-most}
 use Rattle.reader.specs.Forms.{mention, recipientAt, recipientFor, recipientOf, recipientsAt, recipientsFrom}
 
@@ -38,10 +39,6 @@ Listed text own rights at (Next recipient start end) = Fresh text own rights at 
 Listed text own rights at (Done end) = (at < end) × (end ≤ length text)
 Listed text own rights at (Unlisted refusal) = Unit {0}
 
-either : (a b : Bool) → (a || b) ≡ false → (a ≡ false) × (b ≡ false)
-either true b e = absurd (true≢false e)
-either false b e = (refl, e)
-
 for-listed : (text : List ℕ) (own rights at recipient start end : ℕ) → at ≤ start → start < end → end ≤ length text
     → Listed text own rights at (recipientFor own rights recipient start end)
 for-listed text own rights at recipient start end a s e =
@@ -50,7 +47,7 @@ for-listed text own rights at recipient start end a s e =
     (λ small. cond-holds Good (eqb recipient own || hasBit rights recipient) (Unlisted (BadRecipient start)) (Next recipient start end)
     (λ _. tt)
     (λ free.
-    let parts = either (eqb recipient own) (hasBit rights recipient) free in
+    let parts = neither (eqb recipient own) (hasBit rights recipient) free in
     record {
       domain = leb-true _ _ small;
       other = λ same. false≢true (sym (parts .0) ∙ eq-eqb recipient own same);

@@ -1,5 +1,4 @@
 -- `reader::drafting::no_draft` meets its contract. Assumes nothing.
-use borrow.Author.Needs.{needs}
 use Rattle.reader.specs.Draft.{noDraft}
 use Rattle.reader.proofs.drafting.no_draft.Statement.{statement}
 use Rattle.reader.proofs.drafting.no_draft.Tie as tie

@@ -1,5 +1,4 @@
 -- `reader::drafting::take_run` meets its contract. Assumes nothing.
-use borrow.Author.Needs.{needs}
 use borrow.Author.Tests.{eq-eqb, ne-eqb}
 use Rattle.reader.specs.Draft.{takeRun}
 use Rattle.reader.proofs.drafting.take_run.Statement.{statement}
