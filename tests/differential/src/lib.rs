@@ -1,0 +1,1 @@
+//! Drives two implementations of document 01 side by side.
