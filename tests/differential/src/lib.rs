@@ -8,6 +8,7 @@
 
 pub mod compare;
 pub mod engine;
+pub mod generate;
 pub mod guarded;
 pub mod laws;
 pub mod rng;

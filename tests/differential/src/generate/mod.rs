@@ -1,0 +1,11 @@
+//! Generators of texts, worlds and lists of calls.
+
+pub mod bytes;
+pub mod disturb;
+pub mod faults;
+pub mod lists;
+pub mod mutate;
+pub mod scatter;
+pub mod sketch;
+pub mod stores;
+pub mod write;

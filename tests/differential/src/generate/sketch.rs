@@ -1,0 +1,259 @@
+//! Plans as a generator knows them, before they are text: document 01, "The plan
+//! text". What the reader must make of them is worked out here once more, apart
+//! from the reference.
+
+use crate::engine::{PLAN, SCRIPTS};
+use crate::rng::Rng;
+
+#[derive(Clone, Debug, PartialEq, Eq)]
+pub struct Sketch {
+    pub pad: u32,
+    pub run: u32,
+    pub members: Vec<Member>,
+    /// Domain and length of each window.
+    pub windows: Vec<(u32, u32)>,
+}
+
+/// A domain.
+#[derive(Clone, Debug, PartialEq, Eq)]
+pub struct Member {
+    pub share: u32,
+    pub may: Vec<u32>,
+    pub script: Vec<Act>,
+}
+
+/// An op.
+#[derive(Clone, Copy, Debug, PartialEq, Eq)]
+pub enum Act {
+    Read(u32),
+    Write(u32),
+    Send(u32, u32),
+    Receive(u32),
+    Compute(u32),
+}
+
+impl Sketch {
+    /// A plan that the reader accepts.
+    pub fn random(rng: &mut Rng) -> Self {
+        let count = rng.within(1..=8);
+        let most = rng.pick(&[0, 3, 12, 40, 256]);
+        let mut sketch = Sketch {
+            pad: match rng.below(4) {
+                0 => 276,
+                1 => rng.within(277..=400),
+                2 => rng.within(276..=20_000),
+                _ => rng.within(276..=1_000_000),
+            },
+            run: match rng.below(3) {
+                0 => 1,
+                1 => rng.within(1..=12),
+                _ => rng.within(1..=1_000),
+            },
+            members: shares(rng, count)
+                .into_iter()
+                .enumerate()
+                .map(|(own, share)| Member {
+                    share,
+                    may: recipients(rng, own as u32, count),
+                    script: Vec::new(),
+                })
+                .collect(),
+            windows: windows(rng, count),
+        };
+        sketch.fit_ticks();
+        for domain in 0..count as usize {
+            let length = match rng.below(4) {
+                0 => most,
+                _ => rng.within(0..=most),
+            };
+            let habits = Habits::of(rng, &sketch, domain);
+            sketch.members[domain].script = (0..length).map(|_| habits.act(rng)).collect();
+        }
+        sketch
+    }
+
+    /// Lowers the run until its ticks are within the limit.
+    pub fn fit_ticks(&mut self) {
+        let pass = self.pass();
+        let most = u64::from(u32::MAX) / pass;
+        self.run = self.run.min(most as u32);
+    }
+
+    /// Ticks of one pass.
+    pub fn pass(&self) -> u64 {
+        let spans = self.windows.iter();
+        spans
+            .map(|(_, length)| u64::from(*length) + u64::from(self.pad))
+            .sum()
+    }
+
+    /// The colours of a domain, by number.
+    pub fn colours(&self, domain: usize) -> std::ops::Range<u32> {
+        let holding = |member: &Member| member.share * 15 / 1_000;
+        let first = self.members[..domain].iter().map(holding).sum();
+        first..first + holding(&self.members[domain])
+    }
+
+    /// The flat plan that the reader must give.
+    pub fn flat(&self) -> [u32; PLAN] {
+        let mut flat = [0; PLAN];
+        flat[0] = self.pad;
+        flat[1] = self.run;
+        flat[2] = self.members.len() as u32;
+        flat[3] = self.windows.len() as u32;
+        for (domain, member) in self.members.iter().enumerate() {
+            flat[4 + domain] = member.share;
+            flat[12 + domain] = member.may.iter().map(|other| 1 << other).sum();
+            flat[84 + domain] = self.colours(domain).map(|colour| 1 << colour).sum();
+        }
+        for (place, (domain, length)) in self.windows.iter().enumerate() {
+            flat[20 + place] = *domain;
+            flat[52 + place] = *length;
+        }
+        flat
+    }
+
+    /// The script store that the reader must give.
+    pub fn store(&self) -> Vec<u32> {
+        let mut store = vec![0; SCRIPTS];
+        for (member, script) in self.members.iter().zip(store.chunks_mut(256)) {
+            for (act, place) in member.script.iter().zip(script) {
+                *place = act.stored();
+            }
+        }
+        store
+    }
+}
+
+impl Act {
+    /// The number by which the store holds it.
+    pub fn stored(self) -> u32 {
+        match self {
+            Act::Read(line) => 0x10_0000 | line,
+            Act::Write(line) => 0x20_0000 | line,
+            Act::Send(to, word) => 0x30_0000 | to << 16 | word,
+            Act::Receive(from) => 0x40_0000 | from << 16,
+            Act::Compute(ticks) => 0x50_0000 | ticks,
+        }
+    }
+}
+
+/// Which lines and domains a script turns to, so that its ops meet each other.
+pub struct Habits {
+    /// Lines that the domain may touch, a few for each of a few sets.
+    lines: Vec<u32>,
+    /// Domains that it may send to, and that may send to it.
+    to: Vec<u32>,
+    from: Vec<u32>,
+    /// How often each of the five ops comes up.
+    weights: [u64; 5],
+}
+
+impl Habits {
+    pub fn of(rng: &mut Rng, sketch: &Sketch, domain: usize) -> Self {
+        let colours: Vec<u32> = sketch.colours(domain).collect();
+        let mut lines = Vec::new();
+        if !colours.is_empty() {
+            for _ in 0..rng.within(1..=4) {
+                let set = 4 * rng.pick(&colours) + rng.within(0..=3);
+                let ways = rng.within(1..=7);
+                lines.extend((0..ways).map(|way| set + 64 * way));
+            }
+        }
+        let own = domain as u32;
+        let senders = sketch.members.iter().enumerate();
+        Habits {
+            lines,
+            to: sketch.members[domain].may.clone(),
+            from: senders
+                .filter(|(_, member)| member.may.contains(&own))
+                .map(|(sender, _)| sender as u32)
+                .collect(),
+            weights: rng.pick(&[
+                [4, 4, 2, 2, 1],
+                [8, 1, 1, 1, 0],
+                [1, 8, 0, 1, 1],
+                [1, 1, 6, 6, 0],
+                [1, 1, 1, 1, 8],
+            ]),
+        }
+    }
+
+    pub fn act(&self, rng: &mut Rng) -> Act {
+        let mut drawn = rng.below(self.weights.iter().sum());
+        let kind = self.weights.iter().position(|weight| {
+            let here = drawn < *weight;
+            drawn = drawn.wrapping_sub(*weight);
+            here
+        });
+        match kind {
+            Some(0) => Act::Read(self.line(rng)),
+            Some(1) => Act::Write(self.line(rng)),
+            Some(2) => Act::Send(
+                some_domain(rng, &self.to),
+                rng.pick(&[0, 1, 77, 65_534, 65_535]),
+            ),
+            Some(3) => Act::Receive(some_domain(rng, &self.from)),
+            _ => Act::Compute(match rng.below(3) {
+                0 => rng.pick(&[1, 2, 199, 200]),
+                _ => rng.within(1..=200),
+            }),
+        }
+    }
+
+    fn line(&self, rng: &mut Rng) -> u32 {
+        match rng.below(16) {
+            0 => rng.within(0..=65_535),
+            1 => rng.within(0..=4_095),
+            2 => rng.pick(&[0, 59, 60, 61, 63, 4_095, 4_096, 4_099, 65_535]),
+            _ if self.lines.is_empty() => rng.within(0..=4_095),
+            _ => rng.pick(&self.lines),
+        }
+    }
+}
+
+/// Most times one of these, at times any domain.
+fn some_domain(rng: &mut Rng, liked: &[u32]) -> u32 {
+    match liked.is_empty() || rng.one_in(5) {
+        true => rng.within(0..=7),
+        false => rng.pick(liked),
+    }
+}
+
+/// Shares that give each domain a colour and are 1,000 together at most.
+fn shares(rng: &mut Rng, count: u32) -> Vec<u32> {
+    let mut left = 1_000 - 67 * count;
+    let mut shares = vec![67; count as usize];
+    for share in &mut shares {
+        let more = match rng.below(4) {
+            0 => 0,
+            1 => left,
+            _ => rng.within(0..=left),
+        };
+        *share += more;
+        left -= more;
+    }
+    rng.shuffle(&mut shares);
+    shares
+}
+
+fn recipients(rng: &mut Rng, own: u32, count: u32) -> Vec<u32> {
+    let often = rng.pick(&[1, 2, 2, 4]);
+    let mut may: Vec<u32> = (0..count)
+        .filter(|other| *other != own && rng.one_in(often))
+        .collect();
+    rng.shuffle(&mut may);
+    may
+}
+
+fn windows(rng: &mut Rng, count: u32) -> Vec<(u32, u32)> {
+    let windows = match rng.below(4) {
+        0 => rng.within(1..=32),
+        1 => rng.pick(&[1, 2, 31, 32]),
+        _ => rng.within(1..=6),
+    };
+    let longest = rng.pick(&[1, 20, 300, 3_000, 50_000, 1_000_000]);
+    (0..windows)
+        .map(|_| (rng.within(0..=count - 1), rng.within(1..=longest)))
+        .collect()
+}

@@ -1,0 +1,44 @@
+//! Script stores that no text need have given: document 01, "The plan text".
+
+use super::sketch::{Habits, Sketch};
+use crate::engine::SCRIPTS;
+use crate::rng::Rng;
+
+/// A store whose numbers are mostly ops of the sketch's domains.
+pub fn random_store(rng: &mut Rng, sketch: &Sketch) -> Vec<u32> {
+    let mut store = vec![0; SCRIPTS];
+    let oddity = rng.pick(&[0, 0, 40, 8]);
+    for domain in 0..8 {
+        fill_script(rng, sketch, domain, &mut store, oddity);
+    }
+    store
+}
+
+/// Writes one domain's script, with an odd number once in so many ops, never for
+/// 0.
+pub fn fill_script(rng: &mut Rng, sketch: &Sketch, domain: usize, store: &mut [u32], oddity: u64) {
+    let script = &mut store[256 * domain..][..256];
+    script.fill(0);
+    let length = match rng.below(4) {
+        0 => 256,
+        1 => rng.place(8),
+        _ => rng.place(257),
+    };
+    let habits = Habits::of(rng, sketch, domain.min(sketch.members.len() - 1));
+    for place in &mut script[..length] {
+        *place = match oddity > 0 && rng.one_in(oddity) {
+            true => odd_number(rng),
+            false => habits.act(rng).stored(),
+        };
+    }
+}
+
+/// A number close to those that ops give, or any.
+pub fn odd_number(rng: &mut Rng) -> u32 {
+    match rng.below(4) {
+        0 => rng.any() as u32,
+        1 => rng.within(0..=7) << 20 | rng.within(0..=15) << 16,
+        2 => rng.within(0..=7) << 20 | rng.within(0..=15) << 16 | rng.within(0..=65_535),
+        _ => 5 << 20 | rng.pick(&[0, 1, 200, 201, 65_535]),
+    }
+}
