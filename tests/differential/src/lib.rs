@@ -10,6 +10,7 @@ pub mod compare;
 pub mod engine;
 pub mod generate;
 pub mod guarded;
+pub mod isolation;
 pub mod laws;
 pub mod rng;
 pub mod seed;

@@ -5,6 +5,7 @@ pub mod disturb;
 pub mod faults;
 pub mod lists;
 pub mod mutate;
+pub mod pairs;
 pub mod scatter;
 pub mod sketch;
 pub mod stores;
