@@ -14,5 +14,6 @@ pub mod isolation;
 pub mod laws;
 pub mod rng;
 pub mod seed;
+pub mod tally;
 pub mod timeline;
 pub mod world;
