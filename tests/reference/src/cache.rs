@@ -112,24 +112,26 @@ impl<'a> Cache<'a> {
     }
 }
 
-/// Puts a line in front of its set; gives whether the set held it before. A full
-/// set that did not hold it drops its last.
+/// Puts a line in front of its set; gives whether the set held it before. The
+/// others move back by one up to where it was; a full set that did not hold it
+/// drops its last.
 fn bring_to_front(set: &mut [u16; WAYS], tag: u16) -> bool {
-    let place = set.iter().position(|held| *held == tag);
-    set[..=place.unwrap_or(WAYS - 1)].rotate_right(1);
-    set[0] = tag;
-    place.is_some()
+    let mut carried = tag;
+    set.iter_mut().any(|held| {
+        std::mem::swap(held, &mut carried);
+        carried == tag
+    })
 }
 
 fn is_sound_set(number: usize, set: &[u16; WAYS]) -> bool {
     if set == &[0; WAYS] {
         return true;
     }
-    let held = set.iter().position(|tag| *tag == 0).unwrap_or(WAYS);
-    let (lines, empties) = set.split_at(held);
-    empties.iter().all(|tag| *tag == 0)
-        && lines.iter().enumerate().all(|(place, tag)| {
-            Line::from_tag(*tag).is_some_and(|line| line.set() == number)
-                && !lines[..place].contains(tag)
-        })
+    let [a, b, c, d] = *set;
+    let neighbours = [(a, b), (b, c), (c, d)];
+    let pairs = [(a, b), (a, c), (a, d), (b, c), (b, d), (c, d)];
+    let at_home = |tag| Line::from_tag(tag).is_some_and(|line| line.set() == number);
+    set.iter().all(|tag| *tag == 0 || at_home(*tag))
+        && neighbours.iter().all(|(x, y)| *x != 0 || *y == 0)
+        && pairs.iter().all(|(x, y)| *y == 0 || x != y)
 }

@@ -119,14 +119,13 @@ pub struct Part {
 
 /// Asks for one domain's records so far.
 pub fn log_of(plan: &Plan, state: &State, log: &[u8], domain: u32) -> Result<Part, Refusal> {
-    if !plan.is_possible() {
-        return Err(Refusal::Plan);
-    }
-    let room = room(log.len(), plan.domains.len());
-    if !state.is_possible(plan, room as u64) {
+    let schedule = plan.schedule()?;
+    let domains = plan.domains.len();
+    let room = room(log.len(), domains);
+    if !state.is_possible(&schedule, domains, room as u64) {
         return Err(Refusal::State);
     }
-    state.counts[..plan.domains.len()]
+    state.counts[..domains]
         .get(domain as usize)
         .map(|counts| Part {
             place: RECORD * room * domain as usize,

@@ -44,9 +44,7 @@ pub fn fresh_start(
 ) -> Result<(), Refusal> {
     let mut cache = Cache::over(cache).ok_or(Refusal::TableLength)?;
     let mut mail = Mail::over(boxes).ok_or(Refusal::TableLength)?;
-    if !plan.is_possible() {
-        return Err(Refusal::Plan);
-    }
+    plan.schedule()?;
     *state = State::default();
     cache.clear();
     mail.clear();
@@ -109,17 +107,15 @@ impl<'a> Machine<'a> {
         let scripts = Scripts::over(scripts).ok_or(Refusal::TableLength)?;
         let cache = Cache::over(lent.cache).ok_or(Refusal::TableLength)?;
         let mail = Mail::over(lent.boxes).ok_or(Refusal::TableLength)?;
-        if !plan.is_possible() {
-            return Err(Refusal::Plan);
-        }
-        let schedule = Schedule::of(plan);
+        let schedule = plan.schedule()?;
         let turn = schedule.turn(state.completed);
         let running = turn.map(|turn| plan.domains[turn.domain].colours);
         if !cache.is_sound(running) || !mail.is_sound(plan) {
             return Err(Refusal::Damaged);
         }
-        let journal = Journal::over(lent.log, plan.domains.len());
-        if !state.is_possible(plan, journal.room()) {
+        let domains = plan.domains.len();
+        let journal = Journal::over(lent.log, domains);
+        if !state.is_possible(&schedule, domains, journal.room()) {
             return Err(Refusal::State);
         }
         Ok(Machine {

@@ -3,6 +3,7 @@
 
 use crate::colours::{colours_for, deal, Colours};
 use crate::limits;
+use crate::refusal::Refusal;
 use crate::schedule::Schedule;
 
 /// What the reader gives. The empty plan, `Plan::default()`, stands beside a
@@ -65,7 +66,12 @@ impl Plan {
 
     /// Whether the reader could give this plan: all else is refusal 12.
     pub fn is_possible(&self) -> bool {
-        limits::PAD.contains(&self.pad)
+        self.schedule().is_ok()
+    }
+
+    /// The plan's windows in time, if the reader could give this plan.
+    pub fn schedule(&self) -> Result<Schedule<'_>, Refusal> {
+        let possible = limits::PAD.contains(&self.pad)
             && limits::RUN.contains(&self.run)
             && (1..=limits::DOMAINS).contains(&self.domains.len())
             && (1..=limits::WINDOWS).contains(&self.windows.len())
@@ -74,8 +80,12 @@ impl Plan {
             && self.windows.iter().all(|window| {
                 (window.domain as usize) < self.domains.len()
                     && limits::LENGTH.contains(&window.length)
-            })
-            && Schedule::of(self).ticks() <= limits::TICKS
+            });
+        Some(self)
+            .filter(|_| possible)
+            .map(Schedule::of)
+            .filter(|schedule| schedule.ticks() <= limits::TICKS)
+            .ok_or(Refusal::Plan)
     }
 
     fn shares(&self) -> impl Iterator<Item = u32> + '_ {

@@ -2,7 +2,6 @@
 //! 14.
 
 use crate::limits::{DOMAINS, OPS, OVERRUN};
-use crate::plan::Plan;
 use crate::schedule::Schedule;
 
 #[derive(Clone, Copy, Debug, Default, PartialEq, Eq)]
@@ -23,11 +22,11 @@ pub struct Counts {
 }
 
 impl State {
-    /// Whether the plan has room for this state, where each part of the log
-    /// holds so many records: all else is refusal 14.
-    pub fn is_possible(&self, plan: &Plan, room: u64) -> bool {
-        let (declared, others) = self.counts.split_at(plan.domains.len());
-        self.has_possible_clock(&Schedule::of(plan))
+    /// Whether a run can be in this state, where so many domains are declared
+    /// and each part of the log holds so many records: all else is refusal 14.
+    pub fn is_possible(&self, schedule: &Schedule, domains: usize, room: u64) -> bool {
+        let (declared, others) = self.counts.split_at(domains);
+        self.has_possible_clock(schedule)
             && declared
                 .iter()
                 .all(|counts| counts.position <= OPS as u64 && counts.records <= room)

@@ -66,8 +66,8 @@ impl<'t> Iterator for Line<'t> {
         let kind = match first {
             b'(' => Kind::Open,
             b')' => Kind::Close,
-            _ if run.iter().all(u8::is_ascii_lowercase) => Kind::Word(run),
-            _ if run.iter().all(u8::is_ascii_digit) => Kind::Digits(run),
+            b'a'..=b'z' if run.iter().all(u8::is_ascii_lowercase) => Kind::Word(run),
+            b'0'..=b'9' if run.iter().all(u8::is_ascii_digit) => Kind::Digits(run),
             _ => Kind::Odd,
         };
         Some(Token { at, kind })
