@@ -41,7 +41,10 @@ fn read(text: &[u8], tally: &mut Tally, context: &dyn std::fmt::Display) -> (u32
 fn good_texts_give_what_they_say() {
     let mut tally = Tally::default();
     for (case, mut rng) in cases("good texts", 3_000) {
-        let mut sketch = Sketch::random(&mut rng);
+        let mut sketch = match rng.one_in(10) {
+            true => Sketch::at_the_limit(&mut rng),
+            false => Sketch::random(&mut rng),
+        };
         let style = rng.pick(&STYLES);
         let text = sketch.fitting_text(&mut rng, style);
         let (number, world) = read(&text, &mut tally, &case);
@@ -86,7 +89,7 @@ fn mutated(rng: &mut Rng) -> Vec<u8> {
         0 => faulty_text(rng).0,
         _ => {
             let mut sketch = Sketch::random(rng);
-            let most = rng.pick(&[0, 1, 5, 256]);
+            let most = rng.pick(&[0, 1, 2, 3, 5, 8, 20, 256]);
             let members = sketch.members.iter_mut();
             members.for_each(|member| member.script.truncate(most));
             let style = rng.pick(&STYLES);

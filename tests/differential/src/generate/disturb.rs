@@ -149,7 +149,14 @@ fn disturb_plan(rng: &mut Rng, world: &mut World) {
     ];
     let edge = rng.pick(&edges);
     match rng.below(10) {
-        0 => world.plan[..92].copy_from_slice(&Sketch::random(rng).flat()),
+        0 => {
+            let other = match rng.one_in(3) {
+                true => Sketch::at_the_limit(rng),
+                false => Sketch::random(rng),
+            };
+            world.plan[..92].copy_from_slice(&other.flat());
+            world.plan[52 + rng.place(32)] += rng.pick(&[0, 0, 1]);
+        }
         1 => world.plan[rng.place(92)] = edge,
         2 => world.plan[rng.place(92)] = any,
         3 => world.plan[rng.place(92)] ^= 1 << rng.below(32),

@@ -54,6 +54,13 @@ pub fn faulty_text(rng: &mut Rng) -> (Vec<u8>, u32) {
             };
             may.insert(rng.place(may.len() + 1), wrong);
         }
+        9 if rng.one_in(2) => {
+            sketch = Sketch::at_the_limit(rng);
+            let members = sketch.members.iter_mut();
+            members.for_each(|member| member.script.truncate(20));
+            let shortest = sketch.windows.iter_mut().min_by_key(|window| window.1);
+            shortest.expect("a window").1 += 1;
+        }
         9 => {
             sketch.pad = 1_000_000;
             sketch.run = 1_000;

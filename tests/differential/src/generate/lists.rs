@@ -9,7 +9,10 @@ use crate::world::{Call, World};
 /// A world with an accepted plan, its scripts, and rows that hold anything until
 /// a fresh start.
 pub fn random_world(rng: &mut Rng) -> World {
-    let sketch = Sketch::random(rng);
+    let sketch = match rng.one_in(20) {
+        true => Sketch::at_the_limit(rng),
+        false => Sketch::random(rng),
+    };
     let scripts = match rng.one_in(2) {
         true => sketch.store(),
         false => random_store(rng, &sketch),

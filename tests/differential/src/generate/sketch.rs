@@ -72,6 +72,36 @@ impl Sketch {
         sketch
     }
 
+    /// A plan whose run takes as many ticks as a run may, or only so many fewer
+    /// that no more fit into each of its passes. One tick more in any window is
+    /// refused.
+    pub fn at_the_limit(rng: &mut Rng) -> Self {
+        let mut sketch = Sketch::random(rng);
+        // The first four divide the most ticks that a run may take.
+        let any = rng.within(80..=1_000);
+        let run = rng.pick(&[85, 255, 257, 771, any]);
+        let pass = u64::from(u32::MAX) / u64::from(run);
+        let least = pass.div_ceil(2_000_000).max(1) as u32;
+        let windows = u64::from(rng.within(least..=32));
+        // What is left to the lengths, and to each of them, must be in limits.
+        let lowest = pass.saturating_sub(windows * 1_000_000).div_ceil(windows);
+        let highest = (pass - windows) / windows;
+        let (lowest, highest) = (lowest.max(276) as u32, highest.min(1_000_000) as u32);
+        let pad = rng.within(lowest..=highest);
+        let left = pass - windows * u64::from(pad);
+        let mut lengths = vec![left / windows; windows as usize];
+        lengths[..(left % windows) as usize]
+            .iter_mut()
+            .for_each(|length| *length += 1);
+        rng.shuffle(&mut lengths);
+        (sketch.pad, sketch.run) = (pad, run);
+        sketch.windows = lengths
+            .into_iter()
+            .map(|length| (rng.place(sketch.members.len()) as u32, length as u32))
+            .collect();
+        sketch
+    }
+
     /// Lowers the run until its ticks are within the limit.
     pub fn fit_ticks(&mut self) {
         let pass = self.pass();
@@ -256,4 +286,25 @@ fn windows(rng: &mut Rng, count: u32) -> Vec<(u32, u32)> {
     (0..windows)
         .map(|_| (rng.within(0..=count - 1), rng.within(1..=longest)))
         .collect()
+}
+
+#[cfg(test)]
+mod tests {
+    use super::*;
+
+    #[test]
+    fn plans_at_the_limit() {
+        let most = u64::from(u32::MAX);
+        let mut exact = 0;
+        for seed in 0..2_000 {
+            let sketch = Sketch::at_the_limit(&mut Rng::new(seed));
+            let run = u64::from(sketch.run);
+            assert!(run * sketch.pass() <= most && run * (sketch.pass() + 1) > most);
+            assert!((276..=1_000_000).contains(&sketch.pad));
+            let mut lengths = sketch.windows.iter().map(|window| window.1);
+            assert!(lengths.all(|length| (1..=1_000_000).contains(&length)));
+            exact += u32::from(run * sketch.pass() == most);
+        }
+        assert!(exact > 1_000);
+    }
 }
