@@ -12,13 +12,13 @@ use pirkvezo_differential::tally::Tally;
 use pirkvezo_differential::world::{Call, World};
 
 /// Two engines and the list so far, for the message of a difference.
-struct Session<'a> {
+struct Trial<'a> {
     pair: Pair<'a>,
     case: Case,
     tally: &'a mut Tally,
 }
 
-impl Session<'_> {
+impl Trial<'_> {
     fn call(&mut self, call: &Call) -> u32 {
         let number = self.pair.call(call);
         let number = number.unwrap_or_else(|difference: Difference| {
@@ -36,33 +36,33 @@ impl Session<'_> {
 }
 
 /// Runs one test's cases, each on its own world.
-fn sessions(test: &str, count: u64, mut each: impl FnMut(&mut Session, &mut Rng)) -> Tally {
+fn trials(test: &str, count: u64, mut each: impl FnMut(&mut Trial, &mut Rng)) -> Tally {
     let other = under_test();
     let mut tally = Tally::default();
     for (case, mut rng) in cases(test, count) {
         let world = random_world(&mut rng);
-        let mut session = Session {
+        let mut trial = Trial {
             pair: Pair::new(&Reference, &*other, world),
             case,
             tally: &mut tally,
         };
-        each(&mut session, &mut rng);
+        each(&mut trial, &mut rng);
     }
     tally
 }
 
 #[test]
 fn lists_of_calls() {
-    let tally = sessions("lists of calls", 2_000, |session, rng| {
-        session.accept(&Call::FreshStart);
+    let tally = trials("lists of calls", 2_000, |trial, rng| {
+        trial.accept(&Call::FreshStart);
         for _ in 0..rng.below(30) {
-            match random_call(rng, session.pair.world()) {
+            match random_call(rng, trial.pair.world()) {
                 // A reading would change the plan, which stays the same in a list.
                 Call::Read(_) => {}
-                Call::Log(domain) if domain >= session.pair.world().plan[2] => {
-                    assert_eq!(session.call(&Call::Log(domain)), 4);
+                Call::Log(domain) if domain >= trial.pair.world().plan[2] => {
+                    assert_eq!(trial.call(&Call::Log(domain)), 4);
                 }
-                call => session.accept(&call),
+                call => trial.accept(&call),
             }
         }
     });
@@ -74,26 +74,26 @@ fn lists_of_calls() {
 
 #[test]
 fn runs_to_the_end() {
-    sessions("runs to the end", 1_000, |session, _| {
-        session.accept(&Call::FreshStart);
-        session.accept(&Call::Run(u64::MAX));
-        assert_eq!(session.pair.world().answer[3], 1);
+    trials("runs to the end", 1_000, |trial, _| {
+        trial.accept(&Call::FreshStart);
+        trial.accept(&Call::Run(u64::MAX));
+        assert_eq!(trial.pair.world().answer[3], 1);
         for call in [Call::Run(0), Call::Step, Call::Run(u64::MAX)] {
-            session.accept(&call);
-            assert_eq!(session.pair.world().answer[..], [0, 0, 0, 1]);
+            trial.accept(&call);
+            assert_eq!(trial.pair.world().answer[..], [0, 0, 0, 1]);
         }
     });
 }
 
 #[test]
 fn pieces_add_up() {
-    sessions("pieces add up", 300, |session, rng| {
-        session.accept(&Call::FreshStart);
-        let fresh = session.pair.world().clone();
+    trials("pieces add up", 300, |trial, rng| {
+        trial.accept(&Call::FreshStart);
+        let fresh = trial.pair.world().clone();
         let limit = rng.below(400);
-        session.accept(&Call::Run(limit));
-        let mut whole = session.pair.world().clone();
-        *session.pair.world_mut() = fresh;
+        trial.accept(&Call::Run(limit));
+        let mut whole = trial.pair.world().clone();
+        *trial.pair.world_mut() = fresh;
         let mut left = limit;
         while left > 0 {
             let call = match rng.below(3) {
@@ -104,33 +104,33 @@ fn pieces_add_up() {
                 Call::Run(limit) => limit,
                 _ => 1,
             };
-            session.accept(&call);
+            trial.accept(&call);
         }
-        let pieces = session.pair.world();
+        let pieces = trial.pair.world();
         whole.answer = pieces.answer.clone();
         assert_eq!(
             pieces.first_difference(&whole),
             None,
             "{}: steps and one run differ",
-            session.case
+            trial.case
         );
     });
 }
 
 #[test]
 fn scattered_worlds() {
-    let tally = sessions("scattered worlds", 5_000, |session, rng| {
-        scatter(rng, session.pair.world_mut());
+    let tally = trials("scattered worlds", 5_000, |trial, rng| {
+        scatter(rng, trial.pair.world_mut());
         for _ in 0..1 + rng.below(6) {
             let limit = rng.pick(&[0, 1, 2, 30, 700, u64::MAX]);
             match rng.one_in(2) {
-                true => session.accept(&Call::Step),
-                false => session.accept(&Call::Run(limit)),
+                true => trial.accept(&Call::Step),
+                false => trial.accept(&Call::Run(limit)),
             }
         }
-        let domains = session.pair.world().plan[2];
+        let domains = trial.pair.world().plan[2];
         for domain in 0..domains {
-            session.accept(&Call::Log(domain));
+            trial.accept(&Call::Log(domain));
         }
     });
     tally.assert_met("step", &[0]);
@@ -139,24 +139,24 @@ fn scattered_worlds() {
 
 #[test]
 fn disturbed_worlds() {
-    let tally = sessions("disturbed worlds", 3_000, |session, rng| {
+    let tally = trials("disturbed worlds", 3_000, |trial, rng| {
         match rng.one_in(2) {
-            true => scatter(rng, session.pair.world_mut()),
-            false => session.accept(&Call::FreshStart),
+            true => scatter(rng, trial.pair.world_mut()),
+            false => trial.accept(&Call::FreshStart),
         }
         for _ in 0..20 {
-            let before = session.pair.world().clone();
-            disturb(rng, session.pair.world_mut());
+            let before = trial.pair.world().clone();
+            disturb(rng, trial.pair.world_mut());
             for _ in 0..1 + rng.below(3) {
-                let call = random_call(rng, session.pair.world());
-                session.call(&call);
+                let call = random_call(rng, trial.pair.world());
+                trial.call(&call);
             }
             if rng.one_in(8) {
-                continue_from(session.pair.world_mut(), before);
+                continue_from(trial.pair.world_mut(), before);
                 let limit = rng.below(50);
-                session.call(&Call::Run(limit));
+                trial.call(&Call::Run(limit));
             } else if !rng.one_in(6) {
-                *session.pair.world_mut() = before;
+                *trial.pair.world_mut() = before;
             }
         }
     });
