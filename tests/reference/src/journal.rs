@@ -60,9 +60,9 @@ pub struct Record {
 
 impl Record {
     pub fn to_bytes(self) -> [u8; RECORD] {
-        let [v0, v1] = self.value.to_le_bytes();
-        let [c0, c1, c2, c3] = self.clock.to_le_bytes();
-        [self.kind as u8, 0, v0, v1, c0, c1, c2, c3]
+        let kind = self.kind as u64;
+        let (value, clock) = (u64::from(self.value), u64::from(self.clock));
+        (kind | value << 16 | clock << 32).to_le_bytes()
     }
 
     /// The record in these bytes, if its kind is one of the nine.
@@ -101,10 +101,10 @@ impl<'a> Journal<'a> {
         self.room as u64
     }
 
-    /// Writes a domain's record behind so many others of it.
-    pub fn write(&mut self, domain: usize, before: u64, record: Record) {
-        let place = RECORD * (self.room * domain + before as usize);
-        self.bytes[place..][..RECORD].copy_from_slice(&record.to_bytes());
+    /// A domain's part, record by record.
+    pub fn part(&mut self, domain: usize) -> &mut [[u8; RECORD]] {
+        let (records, _) = self.bytes.as_chunks_mut();
+        &mut records[self.room * domain..][..self.room]
     }
 }
 

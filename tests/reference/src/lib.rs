@@ -26,6 +26,7 @@ mod reader;
 pub mod refusal;
 pub mod schedule;
 pub mod scripts;
+mod shift;
 pub mod state;
 mod token;
 

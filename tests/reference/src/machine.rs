@@ -1,14 +1,13 @@
-//! The machine: document 01, "What an op costs" and "Window, switch, run".
+//! The machine from window to window: document 01, "Window, switch, run".
 
-use crate::cache::{Access, Cache, Found};
-use crate::geometry::Line;
-use crate::journal::{Journal, Kind, Record};
+use crate::cache::Cache;
+use crate::journal::Journal;
 use crate::mail::Mail;
-use crate::op::Op;
 use crate::plan::Plan;
 use crate::refusal::Refusal;
 use crate::schedule::{Schedule, Turn};
 use crate::scripts::Scripts;
+use crate::shift::Shift;
 use crate::state::State;
 
 /// The tables that a step may change, beside the state.
@@ -70,15 +69,22 @@ pub fn run(
     limit: u64,
 ) -> Result<Progress, Refusal> {
     let mut machine = Machine::admit(plan, scripts, state, lent)?;
-    let mut steps = 0;
-    while steps < limit && machine.advance() {
-        steps += 1;
+    let mut left = limit;
+    while let Some(turn) = machine.turn.filter(|_| left > 0) {
+        left -= machine.work(turn, left);
+        if left > 0 {
+            machine.switch(turn);
+            left -= 1;
+        }
     }
     let outcome = match machine.turn {
         None => Outcome::Ended,
         Some(_) => Outcome::Stopped,
     };
-    Ok(Progress { steps, outcome })
+    Ok(Progress {
+        steps: limit - left,
+        outcome,
+    })
 }
 
 struct Machine<'a> {
@@ -92,9 +98,6 @@ struct Machine<'a> {
     /// The window that runs now; none after the end.
     turn: Option<Turn>,
 }
-
-/// What an op comes to: its ticks, and its record's kind and value.
-type Effect = (u64, Kind, u16);
 
 impl<'a> Machine<'a> {
     /// Judges all that was lent: 11, 12, 13, 14.
@@ -130,89 +133,26 @@ impl<'a> Machine<'a> {
         })
     }
 
-    /// Does one step; false if there was none left.
-    fn advance(&mut self) -> bool {
-        let Some(turn) = self.turn else { return false };
-        match self.due(turn) {
-            Some(op) => self.perform(turn.domain, op),
-            None => self.switch(turn),
-        }
-        true
-    }
-
-    /// The op that begins now; none if a switch is due.
-    fn due(&self, turn: Turn) -> Option<Op> {
-        let counts = &self.state.counts[turn.domain];
-        if self.state.clock < turn.end && counts.records < self.journal.room() {
-            self.scripts.op(turn.domain, counts.position)
-        } else {
-            None
-        }
-    }
-
-    fn perform(&mut self, domain: usize, op: Op) {
-        let (ticks, kind, value) = match op {
-            Op::Read(number) => self.touch(domain, number, Access::Read),
-            Op::Write(number) => self.touch(domain, number, Access::Write),
-            Op::Send { to, word } => self.send(domain, to, word),
-            Op::Receive { from } => self.receive(domain, from),
-            Op::Compute(ticks) => (u64::from(ticks), Kind::Ran, ticks),
+    /// Does ops of this window until a switch is due, at most so many; gives how
+    /// many.
+    fn work(&mut self, turn: Turn, most: u64) -> u64 {
+        let mut shift = Shift {
+            plan: self.plan,
+            own: turn.domain,
+            end: turn.end,
+            script: self.scripts.of(turn.domain),
+            part: self.journal.part(turn.domain),
+            cache: &mut self.cache,
+            mail: &mut self.mail,
+            clock: self.state.clock,
+            counts: self.state.counts[turn.domain],
         };
-        self.state.clock += ticks;
-        let counts = &mut self.state.counts[domain];
-        let record = Record {
-            kind,
-            value,
-            clock: self.state.clock as u32,
-        };
-        self.journal.write(domain, counts.records, record);
-        counts.records += 1;
-        counts.position += 1;
-    }
-
-    fn touch(&mut self, domain: usize, number: u16, access: Access) -> Effect {
-        let own = self.plan.domains[domain].colours;
-        match Line::new(number).filter(|line| own.include(*line)) {
-            None => (5, Kind::Barred, number),
-            Some(line) => match self.cache.access(line, access) {
-                (Found::InL1, ticks) => (ticks, Kind::Hit1, number),
-                (Found::InL2, ticks) => (ticks, Kind::Hit2, number),
-                (Found::Nowhere, ticks) => (ticks, Kind::Miss, number),
-            },
+        let mut done = 0;
+        while done < most && shift.op() {
+            done += 1;
         }
-    }
-
-    fn send(&mut self, domain: usize, to: u8, word: u16) -> Effect {
-        let recipient = usize::from(to);
-        match self.open_box(domain, recipient) {
-            (ticks, false) => (ticks, Kind::Denied, u16::from(to)),
-            (ticks, true) => {
-                self.mail.put(domain, recipient, word);
-                (ticks, Kind::Sent, u16::from(to))
-            }
-        }
-    }
-
-    fn receive(&mut self, domain: usize, from: u8) -> Effect {
-        let sender = usize::from(from);
-        match self.open_box(sender, domain) {
-            (ticks, false) => (ticks, Kind::Denied, u16::from(from)),
-            (ticks, true) => match self.mail.take(sender, domain) {
-                Some(word) => (ticks, Kind::Got, word),
-                None => (ticks, Kind::Empty, u16::from(from)),
-            },
-        }
-    }
-
-    /// The part that sending and receiving have in common: the ticks, and
-    /// whether the sender may use this box.
-    fn open_box(&mut self, from: usize, to: usize) -> (u64, bool) {
-        let (_, gate) = self.cache.access(Line::GATE, Access::Read);
-        if !self.plan.allows(from, to) {
-            return (5 + gate, false);
-        }
-        let (_, inside) = self.cache.access(Line::of_box(from, to), Access::Write);
-        (5 + gate + inside, true)
+        (self.state.clock, self.state.counts[turn.domain]) = (shift.clock, shift.counts);
+        done
     }
 
     fn switch(&mut self, turn: Turn) {

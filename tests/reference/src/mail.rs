@@ -22,7 +22,9 @@ impl<'a> Mail<'a> {
 
     /// Whether every box is empty or holds a word that its sender may send.
     pub fn is_sound(&self, plan: &Plan) -> bool {
-        self.0.iter().enumerate().all(|(from, row)| {
+        let senders = self.0.iter().enumerate();
+        let mut in_use = senders.filter(|(_, row)| **row != [0; DOMAINS]);
+        in_use.all(|(from, row)| {
             row.iter()
                 .enumerate()
                 .filter(|(_, held)| **held != 0)

@@ -7,7 +7,7 @@ use crate::plan::{Domain, Plan, Recipients, Window};
 use crate::refusal::Refusal;
 use crate::schedule::Schedule;
 use crate::scripts::STORE;
-use crate::token::{lines, Kind, Line, Number};
+use crate::token::{Kind, Lines, Number};
 
 /// Reads a text. Gives the returned number, its companion and the plan; the
 /// scripts are written only when the text is accepted.
@@ -30,16 +30,18 @@ pub fn read_plan(text: &[u8], scripts: &mut [u32]) -> (u32, u64, Plan) {
 
 fn read_draft(text: &[u8]) -> Result<Draft, Refusal> {
     let mut draft = Draft::default();
-    for mut line in lines(text) {
-        if line.is_blank() {
-            continue;
+    let mut lines = Lines::of(text);
+    loop {
+        if !lines.is_blank() {
+            let bracket = lines.open()?;
+            let form = read_form(&mut lines, draft.domains.len())?;
+            lines.finish()?;
+            draft.take_up(form, bracket)?;
         }
-        let bracket = line.open()?;
-        let form = read_form(&mut line, draft.domains.len())?;
-        line.finish()?;
-        draft.take_up(form, bracket)?;
+        if !lines.next_line() {
+            return Ok(draft);
+        }
     }
-    Ok(draft)
 }
 
 /// What one line says.
@@ -53,7 +55,7 @@ enum Form {
 
 /// Reads what stands behind a line's first bracket, up to the bracket that
 /// closes it.
-fn read_form(line: &mut Line, declared: usize) -> Result<Form, Refusal> {
+fn read_form(line: &mut Lines, declared: usize) -> Result<Form, Refusal> {
     let token = line.due()?;
     let Kind::Word(word) = token.kind else {
         return Err(token.misplaced());
@@ -83,7 +85,7 @@ fn read_form(line: &mut Line, declared: usize) -> Result<Form, Refusal> {
     Ok(form)
 }
 
-fn declared_domain(line: &mut Line, declared: usize) -> Result<u32, Refusal> {
+fn declared_domain(line: &mut Lines, declared: usize) -> Result<u32, Refusal> {
     let Number { at, value } = line.number(limits::DOMAIN)?;
     if (value as usize) < declared {
         Ok(value)
@@ -92,7 +94,7 @@ fn declared_domain(line: &mut Line, declared: usize) -> Result<u32, Refusal> {
     }
 }
 
-fn read_domain(line: &mut Line, declared: usize) -> Result<Form, Refusal> {
+fn read_domain(line: &mut Lines, declared: usize) -> Result<Form, Refusal> {
     let own = line.number(limits::DOMAIN)?;
     if own.value as usize != declared {
         return Err(Refusal::Domain { at: own.at });
@@ -118,7 +120,7 @@ fn read_domain(line: &mut Line, declared: usize) -> Result<Form, Refusal> {
     }
 }
 
-fn read_op(line: &mut Line) -> Result<Op, Refusal> {
+fn read_op(line: &mut Lines) -> Result<Op, Refusal> {
     let token = line.due()?;
     let Kind::Word(word) = token.kind else {
         return Err(token.misplaced());

@@ -1,7 +1,6 @@
 //! The script store: document 01, "The plan text".
 
 use crate::limits::{DOMAINS, OPS};
-use crate::op::Op;
 
 /// How many numbers a script store has.
 pub const STORE: usize = DOMAINS * OPS;
@@ -19,11 +18,8 @@ impl<'a> Scripts<'a> {
         }
     }
 
-    /// The op at a position; none where the script has ended.
-    pub fn op(self, domain: usize, position: u64) -> Option<Op> {
-        let place = usize::try_from(position).ok()?;
-        self.0[domain]
-            .get(place)
-            .and_then(|&number| Op::from_stored(number))
+    /// One domain's script.
+    pub fn of(self, domain: usize) -> &'a [u32; OPS] {
+        &self.0[domain]
     }
 }

@@ -4,11 +4,11 @@ use crate::limits::DIGITS;
 use crate::refusal::Refusal;
 use std::ops::RangeInclusive;
 
-/// One line of a text, read from its front.
+/// A text read line by line and token by token.
 #[derive(Clone, Debug)]
-pub struct Line<'t> {
+pub struct Lines<'t> {
     rest: &'t [u8],
-    end: usize,
+    length: usize,
 }
 
 /// A token and the offset of its first byte.
@@ -37,52 +37,92 @@ pub struct Number {
     pub value: u32,
 }
 
-/// The lines of a text.
-pub fn lines(text: &[u8]) -> impl Iterator<Item = Line<'_>> {
-    text.split(|byte| *byte == b'\n').scan(0, |next, rest| {
-        let end = *next + rest.len();
-        *next = end + 1;
-        Some(Line { rest, end })
-    })
-}
-
-impl<'t> Iterator for Line<'t> {
+/// The next token of the line; none at the line's end.
+impl<'t> Iterator for Lines<'t> {
     type Item = Token<'t>;
 
+    #[inline]
     fn next(&mut self) -> Option<Token<'t>> {
-        self.rest = after_spaces(self.rest);
-        let first = *self.rest.first()?;
-        let length = match first {
-            b'(' | b')' => 1,
-            _ => self
-                .rest
-                .iter()
-                .position(|byte| matches!(byte, b'(' | b')' | b' '))
-                .unwrap_or(self.rest.len()),
-        };
-        let at = self.end - self.rest.len();
-        let (run, rest) = self.rest.split_at(length);
-        self.rest = rest;
-        let kind = match first {
-            b'(' => Kind::Open,
-            b')' => Kind::Close,
-            b'a'..=b'z' if run.iter().all(u8::is_ascii_lowercase) => Kind::Word(run),
-            b'0'..=b'9' if run.iter().all(u8::is_ascii_digit) => Kind::Digits(run),
-            _ => Kind::Odd,
+        self.skip_spaces();
+        let at = self.offset();
+        let kind = match *self.rest.first()? {
+            b'\n' => return None,
+            b'(' => {
+                self.pass(1);
+                Kind::Open
+            }
+            b')' => {
+                self.pass(1);
+                Kind::Close
+            }
+            _ => self.run(),
         };
         Some(Token { at, kind })
     }
 }
 
-impl<'t> Line<'t> {
-    /// Whether no token is left.
-    pub fn is_blank(&self) -> bool {
-        after_spaces(self.rest).is_empty()
+impl<'t> Lines<'t> {
+    pub fn of(text: &'t [u8]) -> Self {
+        Lines {
+            rest: text,
+            length: text.len(),
+        }
+    }
+
+    /// How many bytes lie behind.
+    fn offset(&self) -> usize {
+        self.length - self.rest.len()
+    }
+
+    fn pass(&mut self, count: usize) -> &'t [u8] {
+        let (passed, rest) = self.rest.split_at(count);
+        self.rest = rest;
+        passed
+    }
+
+    fn skip_spaces(&mut self) {
+        while let [b' ', rest @ ..] = self.rest {
+            self.rest = rest;
+        }
+    }
+
+    /// The longest run of bytes from here that are no bracket, space or LF.
+    fn run(&mut self) -> Kind<'t> {
+        let (mut letters, mut digits, mut length) = (true, true, 0);
+        for byte in self.rest {
+            match byte {
+                b'(' | b')' | b' ' | b'\n' => break,
+                b'a'..=b'z' => digits = false,
+                b'0'..=b'9' => letters = false,
+                _ => (letters, digits) = (false, false),
+            }
+            length += 1;
+        }
+        let run = self.pass(length);
+        match (letters, digits) {
+            (true, _) => Kind::Word(run),
+            (_, true) => Kind::Digits(run),
+            _ => Kind::Odd,
+        }
+    }
+
+    /// Whether the line has no token left.
+    pub fn is_blank(&mut self) -> bool {
+        self.skip_spaces();
+        matches!(self.rest.first(), None | Some(b'\n'))
+    }
+
+    /// Goes on to the next line from a line's end; false if there is none.
+    pub fn next_line(&mut self) -> bool {
+        let more = !self.rest.is_empty();
+        self.pass(usize::from(more));
+        more
     }
 
     /// The next token, which must be there.
     pub fn due(&mut self) -> Result<Token<'t>, Refusal> {
-        self.next().ok_or(Refusal::Shape { at: self.end })
+        let token = self.next();
+        token.ok_or(Refusal::Shape { at: self.offset() })
     }
 
     /// An opening bracket; gives its offset.
@@ -154,10 +194,4 @@ impl Token<'_> {
             _ => Err(out),
         }
     }
-}
-
-/// The same bytes from the first one on that is no space.
-fn after_spaces(bytes: &[u8]) -> &[u8] {
-    let spaces = bytes.iter().take_while(|byte| **byte == b' ').count();
-    &bytes[spaces..]
 }

@@ -3,6 +3,7 @@
 pub mod bytes;
 pub mod disturb;
 pub mod faults;
+pub mod habits;
 pub mod lists;
 pub mod mutate;
 pub mod pairs;

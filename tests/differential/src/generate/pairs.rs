@@ -1,7 +1,8 @@
 //! Pairs of script stores that are equal for one domain: document 01, "Two lists
 //! of calls".
 
-use super::sketch::{Habits, Sketch};
+use super::habits::Habits;
+use super::sketch::Sketch;
 use super::stores::{fill_script, odd_number, random_store};
 use crate::rng::Rng;
 

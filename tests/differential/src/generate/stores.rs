@@ -1,6 +1,7 @@
 //! Script stores that no text need have given: document 01, "The plan text".
 
-use super::sketch::{Habits, Sketch};
+use super::habits::Habits;
+use super::sketch::Sketch;
 use crate::engine::SCRIPTS;
 use crate::rng::Rng;
 
