@@ -36,10 +36,12 @@ pub fn fill_script(rng: &mut Rng, sketch: &Sketch, domain: usize, store: &mut [u
 
 /// A number close to those that ops give, or any.
 pub fn odd_number(rng: &mut Rng) -> u32 {
-    match rng.below(4) {
-        0 => rng.any() as u32,
-        1 => rng.within(0..=7) << 20 | rng.within(0..=15) << 16,
-        2 => rng.within(0..=7) << 20 | rng.within(0..=15) << 16 | rng.within(0..=65_535),
-        _ => 5 << 20 | rng.pick(&[0, 1, 200, 201, 65_535]),
+    if rng.one_in(8) {
+        return rng.any() as u32;
     }
+    let any = rng.within(0..=65_535);
+    let kind = rng.pick(&[0, 1, 2, 3, 4, 5, 5, 6, 7, 8, 17, 4_095]);
+    let other = rng.pick(&[0, 0, 0, 1, 7, 8, 15]);
+    let value = rng.pick(&[0, 0, 1, 3, 199, 200, 201, 65_535, any]);
+    kind << 20 | other << 16 | value
 }
