@@ -1,9 +1,11 @@
 //! Times the engines in one process: runs, readings, and single steps.
 //!
 //! Each figure is the median over several rounds, in which the engines take
-//! turns, with the least and the greatest beside it. The first engine is the
-//! reference with its own types; the others go through the plain interface, and
-//! their ratio is to the first. PIRKVEZO_BENCH_ROUNDS sets the rounds.
+//! short turns, with the least and the greatest beside it. The first engine is
+//! the reference with its own types; the others go through the plain interface.
+//! A ratio is the median of the rounds' own ratios to the first engine, so that
+//! a busy machine tells on both sides alike. PIRKVEZO_BENCH_ROUNDS sets the
+//! rounds.
 
 mod subjects;
 mod table;

@@ -28,7 +28,7 @@ impl Table {
             row.push(format!("{:.2}", figure.median));
             row.push(format!("{:.2}..{:.2}", figure.least, figure.greatest));
             if place > 0 {
-                row.push(format!("{:.2}", figure.median / figures[0].median));
+                row.push(format!("{:.2}", figure.ratio));
             }
         }
         self.rows.push(row);

@@ -16,8 +16,8 @@ impl Settings {
         let rounds = std::env::var("PIRKVEZO_BENCH_ROUNDS").ok();
         let rounds = rounds.and_then(|rounds| rounds.parse().ok());
         Settings {
-            rounds: rounds.unwrap_or(15).max(1),
-            turn: Duration::from_millis(4),
+            rounds: rounds.unwrap_or(41).max(1),
+            turn: Duration::from_millis(1),
         }
     }
 }
@@ -35,6 +35,8 @@ pub struct Figure {
     pub median: f64,
     pub least: f64,
     pub greatest: f64,
+    /// The median of each round's ratio to the first engine.
+    pub ratio: f64,
 }
 
 /// Times a piece of work with every engine, each time after something that is
@@ -72,16 +74,24 @@ pub fn measure(
             times.push(time.as_nanos() as f64 / units.max(1) as f64);
         }
     }
-    times.into_iter().map(Figure::of).collect()
+    times.iter().map(|own| Figure::of(own, &times[0])).collect()
 }
 
 impl Figure {
-    fn of(mut times: Vec<f64>) -> Self {
-        times.sort_by(f64::total_cmp);
+    fn of(times: &[f64], first: &[f64]) -> Self {
+        let ratios = times.iter().zip(first).map(|(own, first)| own / first);
+        let (ratios, times) = (sorted(ratios), sorted(times.iter().copied()));
         Figure {
             median: times[times.len() / 2],
             least: times[0],
             greatest: times[times.len() - 1],
+            ratio: ratios[ratios.len() / 2],
         }
     }
+}
+
+fn sorted(numbers: impl Iterator<Item = f64>) -> Vec<f64> {
+    let mut numbers: Vec<f64> = numbers.collect();
+    numbers.sort_by(f64::total_cmp);
+    numbers
 }
