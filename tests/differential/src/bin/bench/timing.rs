@@ -1,0 +1,97 @@
+//! Rounds in which the engines take turns.
+
+use crate::subjects::Subject;
+use std::fmt;
+use std::hint::black_box;
+use std::time::{Duration, Instant};
+
+pub struct Settings {
+    rounds: usize,
+    /// How long one engine works in one round, at least.
+    turn: Duration,
+}
+
+impl Settings {
+    pub fn from_environment() -> Self {
+        let rounds = std::env::var("PIRKVEZO_BENCH_ROUNDS").ok();
+        let rounds = rounds.and_then(|rounds| rounds.parse().ok());
+        Settings {
+            rounds: rounds.unwrap_or(41).max(1),
+            turn: Duration::from_millis(1),
+        }
+    }
+}
+
+impl fmt::Display for Settings {
+    fn fmt(&self, f: &mut fmt::Formatter) -> fmt::Result {
+        let Settings { rounds, turn } = self;
+        write!(f, "{rounds} rounds of {} ms each", turn.as_millis())
+    }
+}
+
+/// Nanoseconds for one unit of work, over all rounds.
+#[derive(Clone, Copy, Debug)]
+pub struct Figure {
+    pub median: f64,
+    pub least: f64,
+    pub greatest: f64,
+    /// The median of each round's ratio to the first engine.
+    pub ratio: f64,
+}
+
+/// Times a piece of work with every engine, each time after something that is
+/// not timed. The work gives how many units it came to.
+pub fn measure(
+    settings: &Settings,
+    subjects: &mut [Box<dyn Subject>],
+    mut prepare: impl FnMut(&mut dyn Subject),
+    mut work: impl FnMut(&mut dyn Subject) -> u64,
+) -> Vec<Figure> {
+    let mut once = |subject: &mut dyn Subject| {
+        prepare(subject);
+        let begin = Instant::now();
+        let units = black_box(work(subject));
+        (begin.elapsed(), units)
+    };
+    let repeats: Vec<u32> = subjects
+        .iter_mut()
+        .map(|subject| {
+            once(&mut **subject);
+            let (time, _) = once(&mut **subject);
+            let nanoseconds = time.as_nanos().max(50);
+            (settings.turn.as_nanos() / nanoseconds).clamp(1, 100_000) as u32
+        })
+        .collect();
+    let mut times = vec![Vec::with_capacity(settings.rounds); subjects.len()];
+    for _ in 0..settings.rounds {
+        for ((subject, repeats), times) in subjects.iter_mut().zip(&repeats).zip(&mut times) {
+            let (mut time, mut units) = (Duration::ZERO, 0);
+            for _ in 0..*repeats {
+                let (more, count) = once(&mut **subject);
+                time += more;
+                units += count;
+            }
+            times.push(time.as_nanos() as f64 / units.max(1) as f64);
+        }
+    }
+    times.iter().map(|own| Figure::of(own, &times[0])).collect()
+}
+
+impl Figure {
+    fn of(times: &[f64], first: &[f64]) -> Self {
+        let ratios = times.iter().zip(first).map(|(own, first)| own / first);
+        let (ratios, times) = (sorted(ratios), sorted(times.iter().copied()));
+        Figure {
+            median: times[times.len() / 2],
+            least: times[0],
+            greatest: times[times.len() - 1],
+            ratio: ratios[ratios.len() / 2],
+        }
+    }
+}
+
+fn sorted(numbers: impl Iterator<Item = f64>) -> Vec<f64> {
+    let mut numbers: Vec<f64> = numbers.collect();
+    numbers.sort_by(f64::total_cmp);
+    numbers
+}

@@ -1,0 +1,72 @@
+//! Document 01's entry points over plain numbers, whoever implements them.
+
+#[cfg(linked)]
+mod linked;
+mod reference;
+
+#[cfg(linked)]
+pub use linked::Linked;
+pub use reference::Reference;
+
+/// Numbers in a script store, a cache table and a table of boxes.
+pub const SCRIPTS: usize = 2_048;
+pub const CACHE: usize = 272;
+pub const BOXES: usize = 64;
+/// Numbers in a plan, a state and an answer.
+pub const PLAN: usize = 92;
+pub const STATE: usize = 18;
+pub const ANSWER: usize = 4;
+
+/// What a step or a run is lent.
+#[derive(Debug)]
+pub struct Tables<'a> {
+    pub plan: &'a [u32],
+    pub scripts: &'a [u32],
+    pub state: &'a mut [u64],
+    pub cache: &'a mut [u16],
+    pub boxes: &'a mut [u32],
+    pub log: &'a mut [u8],
+}
+
+/// An implementation. Each call gives the refusal's number, 0 for none, and
+/// writes an answer of four numbers: the same number, its companion, then for
+/// step and run the steps done and 1 for ended (0 for stopped), and for a log
+/// the place of its first byte and its length; 0 and 0 otherwise. A plan, a
+/// state or an answer of another length is refusal 11, and then nothing is
+/// written but an answer of the right length. A refused reading otherwise
+/// writes zeros to the plan.
+pub trait Engine {
+    fn name(&self) -> &'static str;
+
+    fn read_plan(
+        &self,
+        text: &[u8],
+        scripts: &mut [u32],
+        plan: &mut [u32],
+        answer: &mut [u64],
+    ) -> u32;
+
+    fn fresh_start(
+        &self,
+        plan: &[u32],
+        state: &mut [u64],
+        cache: &mut [u16],
+        boxes: &mut [u32],
+        answer: &mut [u64],
+    ) -> u32;
+
+    fn step(&self, tables: Tables, answer: &mut [u64]) -> u32;
+
+    fn run(&self, tables: Tables, limit: u64, answer: &mut [u64]) -> u32;
+
+    fn log(&self, plan: &[u32], state: &[u64], log: &[u8], domain: u32, answer: &mut [u64]) -> u32;
+}
+
+/// The engine to hold against the reference: the linked library, or without one
+/// the reference once more.
+pub fn under_test() -> Box<dyn Engine> {
+    #[cfg(linked)]
+    return Box::new(Linked);
+    #[cfg(not(linked))]
+    return Box::new(Reference);
+}

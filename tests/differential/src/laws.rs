@@ -1,0 +1,166 @@
+//! What document 01 says of every call, whatever the engine: refused calls
+//! change nothing, the answer fits the state, and only the log bytes of new
+//! records are written. These hold for one engine alone, so they bind also
+//! where there is no second one.
+
+use crate::engine::{ANSWER, BOXES, CACHE, PLAN, SCRIPTS, STATE};
+use crate::timeline::Timeline;
+use crate::world::{Call, World};
+
+/// Judges one call by the worlds before and after it.
+pub fn judge(call: &Call, before: &World, after: &World, number: u32) -> Result<(), String> {
+    let say = |what: &str| Err(what.to_string());
+    if !after.is_intact() {
+        return say("something was written past what was lent");
+    }
+    if before.answer.len() != ANSWER {
+        if number != 11 || after != before {
+            return say("an answer of another length is 11 and nothing is written");
+        }
+        return Ok(());
+    }
+    if after.answer[0] != u64::from(number) {
+        return say("the answer holds another number than was returned");
+    }
+    let wrong_length = has_wrong_length(call, before);
+    if wrong_length != (number == 11) {
+        return say("11 is for wrong lengths, and for them alone");
+    }
+    let mut expected = before.clone();
+    expected.answer = after.answer.clone();
+    if number != 0 {
+        if matches!(call, Call::Read(_)) && before.plan.len() == PLAN {
+            expected.plan.fill(0);
+        }
+        if *after != expected {
+            return say("a refused call changed something");
+        }
+        if after.answer[2..] != [0, 0] {
+            return say("a refused call answers 0, 0 behind its companion");
+        }
+        if number > 10 && after.answer[1] != 0 {
+            return say("11 to 14 have the companion 0");
+        }
+        return Ok(());
+    }
+    if after.answer[1] != 0 {
+        return say("acceptance is 0, 0");
+    }
+    match call {
+        Call::Read(_) => {
+            expected.plan = after.plan.clone();
+            expected.scripts = after.scripts.clone();
+        }
+        Call::FreshStart => {
+            expected.state.fill(0);
+            expected.cache.fill(0);
+            expected.boxes.fill(0);
+        }
+        Call::Log(domain) => return judge_log(*domain, before, after, expected),
+        Call::Step => return judge_steps(1, before, after, expected),
+        Call::Run(limit) => return judge_steps(*limit, before, after, expected),
+    }
+    if after.answer[2..] != [0, 0] {
+        return say("readings and fresh starts answer 0, 0, 0, 0");
+    }
+    match *after == expected {
+        true => Ok(()),
+        false => say("a row was changed that the call does not write"),
+    }
+}
+
+fn has_wrong_length(call: &Call, world: &World) -> bool {
+    let plan = world.plan.len() != PLAN;
+    let state = world.state.len() != STATE;
+    let scripts = world.scripts.len() != SCRIPTS;
+    let tables = world.cache.len() != CACHE || world.boxes.len() != BOXES;
+    match call {
+        Call::Read(_) => plan || scripts,
+        Call::FreshStart => plan || state || tables,
+        Call::Step | Call::Run(_) => plan || state || scripts || tables,
+        Call::Log(_) => plan || state,
+    }
+}
+
+/// How many domains a plan that was taken declares.
+fn declared(world: &World) -> Result<usize, String> {
+    match world.plan[2] as usize {
+        count @ 1..=8 => Ok(count),
+        _ => Err("a plan without domains was taken".into()),
+    }
+}
+
+/// How many records each part holds.
+fn room(world: &World) -> usize {
+    world.log.len() / (8 * world.plan[2] as usize)
+}
+
+fn judge_log(domain: u32, before: &World, after: &World, expected: World) -> Result<(), String> {
+    let domain = domain as usize;
+    if domain >= declared(before)? {
+        return Err("an undeclared domain's log was handed back".into());
+    }
+    let place = 8 * room(before) * domain;
+    let length = 8 * before.state[10 + domain];
+    if after.answer[2..] != [place as u64, length] {
+        return Err("another part of the log was handed back".into());
+    }
+    match *after == expected {
+        true => Ok(()),
+        false => Err("an asking changed something".into()),
+    }
+}
+
+fn judge_steps(
+    limit: u64,
+    before: &World,
+    after: &World,
+    mut expected: World,
+) -> Result<(), String> {
+    let timeline = Timeline::of(&before.plan).ok_or("a plan without windows was taken")?;
+    let (steps, ended) = (after.answer[2], after.answer[3]);
+    let over = after.state[0] == timeline.count();
+    if ended != u64::from(over) {
+        return Err("ended is said after the last switch, and then alone".into());
+    }
+    if steps > limit || (!over && steps != limit) {
+        return Err("a run stops at its limit or at the end".into());
+    }
+    let mut numbers = before.state.iter().zip(after.state.iter());
+    if numbers.any(|(old, new)| new < old) {
+        return Err("a number of the state became smaller".into());
+    }
+    let windows = after.state[0] - before.state[0];
+    let ops: u64 = (2..10).map(|at| after.state[at] - before.state[at]).sum();
+    let records: u64 = (10..18).map(|at| after.state[at] - before.state[at]).sum();
+    if steps != windows + ops || ops != records {
+        return Err("each step is one switch, or one op and its record".into());
+    }
+    match timeline.window(after.state[0]) {
+        None if after.state[1] != timeline.ticks() => {
+            return Err("the run took another number of ticks than the plan gives".into());
+        }
+        Some(span) if !(span.start..=span.end + 212).contains(&after.state[1]) => {
+            return Err("the clock left its window".into());
+        }
+        _ => {}
+    }
+    for domain in 0..declared(before)? {
+        if after.state[10 + domain] > room(before) as u64 {
+            return Err("there are more records than a part holds".into());
+        }
+        let part = 8 * room(before) * domain;
+        let new = part + 8 * before.state[10 + domain] as usize
+            ..part + 8 * after.state[10 + domain] as usize;
+        expected.log[new.clone()].copy_from_slice(&after.log[new]);
+    }
+    expected.state = after.state.clone();
+    if steps > 0 {
+        expected.cache = after.cache.clone();
+        expected.boxes = after.boxes.clone();
+    }
+    match *after == expected {
+        true => Ok(()),
+        false => Err("a step wrote where it may not".into()),
+    }
+}

@@ -1,0 +1,19 @@
+//! Drives two implementations of document 01 side by side.
+//!
+//! An [`engine::Engine`] is anything with document 01's entry points over plain
+//! numbers. The reference always is one; a library that follows the same C
+//! interface is the other when it is linked. Generators make texts, worlds and
+//! lists of calls from a seed, and each call's answer and everything that it
+//! was lent are held against each other byte by byte.
+
+pub mod compare;
+pub mod engine;
+pub mod generate;
+pub mod guarded;
+pub mod isolation;
+pub mod laws;
+pub mod rng;
+pub mod seed;
+pub mod tally;
+pub mod timeline;
+pub mod world;

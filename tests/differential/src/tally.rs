@@ -1,0 +1,33 @@
+//! Counts of what calls came to, so that a test can tell that it met everything
+//! it is for.
+
+use crate::world::Call;
+use std::collections::BTreeMap;
+
+#[derive(Clone, Debug, Default)]
+pub struct Tally(BTreeMap<(&'static str, u32), u64>);
+
+impl Tally {
+    /// Notes that a call returned this number.
+    pub fn note(&mut self, call: &Call, number: u32) {
+        *self.0.entry((kind(call), number)).or_default() += 1;
+    }
+
+    /// Asserts that calls of this kind returned each of these numbers, and none
+    /// but them.
+    pub fn assert_met(&self, kind: &str, numbers: &[u32]) {
+        let of_kind = self.0.iter().filter(|((met, _), _)| *met == kind);
+        let met: Vec<u32> = of_kind.map(|((_, number), _)| *number).collect();
+        assert_eq!(met, numbers, "{kind}: {:?}", self.0);
+    }
+}
+
+fn kind(call: &Call) -> &'static str {
+    match call {
+        Call::Read(_) => "read",
+        Call::FreshStart => "fresh start",
+        Call::Step => "step",
+        Call::Run(_) => "run",
+        Call::Log(_) => "log",
+    }
+}

@@ -1,0 +1,137 @@
+//! The two caches: document 01, "The core and its tables", "What an op costs",
+//! the flushes of "Window, switch, run", and refusal 13.
+
+use crate::colours::Colours;
+use crate::geometry::Line;
+
+/// How many numbers the cache table has.
+pub const TABLE: usize = L1 + SETS * WAYS;
+
+const L1: usize = 16;
+const SETS: usize = 64;
+const WAYS: usize = 4;
+const DIRTY: u16 = 32_768;
+/// The first of the kernel's L2 sets.
+const KERNEL_SETS: usize = 60;
+
+/// A cache table of the right length.
+#[derive(Debug)]
+pub struct Cache<'a> {
+    l1: &'a mut [u16; L1],
+    l2: &'a mut [[u16; WAYS]; SETS],
+}
+
+#[derive(Clone, Copy, Debug, PartialEq, Eq)]
+pub enum Access {
+    Read,
+    Write,
+}
+
+/// Where an access found its line.
+#[derive(Clone, Copy, Debug, PartialEq, Eq)]
+pub enum Found {
+    InL1,
+    InL2,
+    Nowhere,
+}
+
+impl<'a> Cache<'a> {
+    /// The caches in this table; none if its length is wrong.
+    pub fn over(table: &'a mut [u16]) -> Option<Self> {
+        let (l1, rest) = table.split_first_chunk_mut()?;
+        match rest.as_chunks_mut() {
+            (sets, []) => sets.try_into().ok().map(|l2| Cache { l1, l2 }),
+            _ => None,
+        }
+    }
+
+    /// Looks a line up and leaves it in L1; gives where it was and the ticks.
+    #[inline]
+    pub fn access(&mut self, line: Line, access: Access) -> (Found, u64) {
+        let mark = match access {
+            Access::Read => 0,
+            Access::Write => DIRTY,
+        };
+        let near = &mut self.l1[line.index()];
+        if *near & !DIRTY == line.tag() {
+            *near |= mark;
+            return (Found::InL1, 1);
+        }
+        let replaced = std::mem::replace(near, line.tag() | mark);
+        let write_back = if replaced & DIRTY != 0 { 4 } else { 0 };
+        match bring_to_front(&mut self.l2[line.set()], line.tag()) {
+            true => (Found::InL2, 10 + write_back),
+            false => (Found::Nowhere, 100 + write_back),
+        }
+    }
+
+    /// Empties the kernel's L2 sets; gives the ticks.
+    pub fn flush_kernel_sets(&mut self) -> u64 {
+        let kernel = self.l2[KERNEL_SETS..].as_flattened_mut();
+        let valid = kernel.iter().filter(|held| **held != 0).count();
+        kernel.fill(0);
+        8 + valid as u64
+    }
+
+    /// Empties L1; gives the ticks.
+    pub fn flush_l1(&mut self) -> u64 {
+        let dirty = self.l1.iter().filter(|held| **held & DIRTY != 0).count();
+        self.l1.fill(0);
+        8 + 2 * dirty as u64
+    }
+
+    pub fn clear(&mut self) {
+        self.l1.fill(0);
+        self.l2.as_flattened_mut().fill(0);
+    }
+
+    /// Whether nothing in the table is damaged, where the running domain has
+    /// these colours; no domain runs after the end.
+    pub fn is_sound(&self, running: Option<Colours>) -> bool {
+        self.has_sound_l1(running)
+            && self
+                .l2
+                .iter()
+                .enumerate()
+                .all(|(number, set)| is_sound_set(number, set))
+    }
+
+    fn has_sound_l1(&self, running: Option<Colours>) -> bool {
+        self.l1
+            .iter()
+            .enumerate()
+            .filter(|(_, held)| **held != 0)
+            .all(
+                |(index, held)| match (running, Line::from_tag(held & !DIRTY)) {
+                    (Some(own), Some(line)) => {
+                        line.index() == index && own.and_kernel().include(line)
+                    }
+                    _ => false,
+                },
+            )
+    }
+}
+
+/// Puts a line in front of its set; gives whether the set held it before. The
+/// others move back by one up to where it was; a full set that did not hold it
+/// drops its last.
+fn bring_to_front(set: &mut [u16; WAYS], tag: u16) -> bool {
+    let mut carried = tag;
+    set.iter_mut().any(|held| {
+        std::mem::swap(held, &mut carried);
+        carried == tag
+    })
+}
+
+fn is_sound_set(number: usize, set: &[u16; WAYS]) -> bool {
+    if set == &[0; WAYS] {
+        return true;
+    }
+    let [a, b, c, d] = *set;
+    let neighbours = [(a, b), (b, c), (c, d)];
+    let pairs = [(a, b), (a, c), (a, d), (b, c), (b, d), (c, d)];
+    let at_home = |tag| Line::from_tag(tag).is_some_and(|line| line.set() == number);
+    set.iter().all(|tag| *tag == 0 || at_home(*tag))
+        && neighbours.iter().all(|(x, y)| *x != 0 || *y == 0)
+        && pairs.iter().all(|(x, y)| *y == 0 || x != y)
+}

@@ -1,0 +1,49 @@
+//! Colours and how shares give them: document 01, "The core and its tables".
+
+use crate::geometry::Line;
+
+/// A set of colours, bit c for colour c. A plan made from flat numbers can hold
+/// bits that stand for no colour; they are kept so that they can be refused.
+#[derive(Clone, Copy, Debug, Default, PartialEq, Eq)]
+pub struct Colours(pub u32);
+
+impl Colours {
+    /// The colour that belongs to the kernel.
+    pub const KERNEL: Colours = Colours(1 << 15);
+
+    /// So many colours from the first one upwards.
+    pub fn span(first: u32, count: u32) -> Self {
+        Colours(((1 << count) - 1) << first)
+    }
+
+    /// Whether this line is of one of these colours.
+    pub fn include(self, line: Line) -> bool {
+        self.0 >> line.colour() & 1 == 1
+    }
+
+    /// These colours and the kernel's.
+    pub fn and_kernel(self) -> Self {
+        Colours(self.0 | Self::KERNEL.0)
+    }
+
+    /// How many colours there are: a domain's holding.
+    pub fn holding(self) -> u32 {
+        self.0.count_ones()
+    }
+}
+
+/// The number of colours that a share of 0 to 1,000 thousandths gives.
+pub fn colours_for(share: u32) -> u32 {
+    share * 15 / 1_000
+}
+
+/// Deals colours from 0 upwards in the order of the shares, which are 1,000
+/// together at most.
+pub fn deal(shares: impl Iterator<Item = u32>) -> impl Iterator<Item = Colours> {
+    shares.scan(0, |next, share| {
+        let count = colours_for(share);
+        let dealt = Colours::span(*next, count);
+        *next += count;
+        Some(dealt)
+    })
+}

@@ -1,0 +1,41 @@
+//! The reader and the machine of document 01, in plain Rust.
+//!
+//! This is a second reading of the paper. It is written from document 01 alone
+//! and shares no code with the proved implementation, so that the two can be
+//! held against each other.
+//!
+//! The entry points are [`read_plan`], [`fresh_start`], [`step`], [`run`] and
+//! [`log_of`]. Each one judges what it was lent before it changes anything, in
+//! the order that document 01 gives under "The plan text", and a refused call
+//! leaves everything as it was.
+
+#![forbid(unsafe_code)]
+
+pub mod cache;
+pub mod colours;
+pub mod flat;
+pub mod geometry;
+pub mod journal;
+pub mod limits;
+pub mod machine;
+pub mod mail;
+pub mod op;
+pub mod plan;
+pub mod planrun;
+mod reader;
+pub mod refusal;
+pub mod schedule;
+pub mod scripts;
+mod shift;
+pub mod state;
+mod token;
+
+pub use journal::{log_of, Part};
+pub use machine::{fresh_start, run, step, Lent, Outcome, Progress};
+pub use plan::Plan;
+pub use reader::read_plan;
+pub use refusal::Refusal;
+pub use state::State;
+
+#[cfg(test)]
+mod tests;

@@ -1,0 +1,28 @@
+//! The limits of the numbers in a plan: document 01, "The plan text".
+
+use std::ops::RangeInclusive;
+
+/// Bytes in the longest text.
+pub const TEXT_BYTES: usize = 32_768;
+/// Digits in the longest number.
+pub const DIGITS: usize = 10;
+/// The most domains, and the domains that boxes and scripts have room for.
+pub const DOMAINS: usize = 8;
+/// The most windows of one pass.
+pub const WINDOWS: usize = 32;
+/// The most ops of one domain.
+pub const OPS: usize = 256;
+/// All shares together, in thousandths.
+pub const WHOLE: u32 = 1_000;
+/// The most ticks that a run may take.
+pub const TICKS: u64 = 4_294_967_295;
+/// How far past its window's end the dearest op can carry the clock.
+pub const OVERRUN: u64 = 212;
+
+pub const PAD: RangeInclusive<u32> = 276..=1_000_000;
+pub const RUN: RangeInclusive<u32> = 1..=1_000;
+pub const DOMAIN: RangeInclusive<u32> = 0..=7;
+pub const SHARE: RangeInclusive<u32> = 1..=1_000;
+pub const LENGTH: RangeInclusive<u32> = 1..=1_000_000;
+pub const VALUE: RangeInclusive<u32> = 0..=65_535;
+pub const COMPUTE: RangeInclusive<u32> = 1..=200;

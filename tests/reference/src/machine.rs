@@ -1,0 +1,167 @@
+//! The machine from window to window: document 01, "Window, switch, run".
+
+use crate::cache::Cache;
+use crate::journal::Journal;
+use crate::mail::Mail;
+use crate::plan::Plan;
+use crate::refusal::Refusal;
+use crate::schedule::{Schedule, Turn};
+use crate::scripts::Scripts;
+use crate::shift::Shift;
+use crate::state::State;
+
+/// The tables that a step may change, beside the state.
+#[derive(Debug)]
+pub struct Lent<'a> {
+    pub cache: &'a mut [u16],
+    pub boxes: &'a mut [u32],
+    pub log: &'a mut [u8],
+}
+
+/// What a call to run answers.
+#[derive(Clone, Copy, Debug, PartialEq, Eq)]
+pub struct Progress {
+    /// Steps done.
+    pub steps: u64,
+    pub outcome: Outcome,
+}
+
+#[derive(Clone, Copy, Debug, PartialEq, Eq)]
+pub enum Outcome {
+    /// Every window is completed.
+    Ended,
+    /// The limit was reached first.
+    Stopped,
+}
+
+/// Zeroes state, cache table and boxes.
+pub fn fresh_start(
+    plan: &Plan,
+    state: &mut State,
+    cache: &mut [u16],
+    boxes: &mut [u32],
+) -> Result<(), Refusal> {
+    let mut cache = Cache::over(cache).ok_or(Refusal::TableLength)?;
+    let mut mail = Mail::over(boxes).ok_or(Refusal::TableLength)?;
+    plan.schedule()?;
+    *state = State::default();
+    cache.clear();
+    mail.clear();
+    Ok(())
+}
+
+/// Does one step: one op or one switch.
+pub fn step(
+    plan: &Plan,
+    scripts: &[u32],
+    state: &mut State,
+    lent: Lent,
+) -> Result<Progress, Refusal> {
+    run(plan, scripts, state, lent, 1)
+}
+
+/// Does steps up to a limit, or up to the last switch if it comes first.
+pub fn run(
+    plan: &Plan,
+    scripts: &[u32],
+    state: &mut State,
+    lent: Lent,
+    limit: u64,
+) -> Result<Progress, Refusal> {
+    let mut machine = Machine::admit(plan, scripts, state, lent)?;
+    let mut left = limit;
+    while let Some(turn) = machine.turn.filter(|_| left > 0) {
+        left -= machine.work(turn, left);
+        if left > 0 {
+            machine.switch(turn);
+            left -= 1;
+        }
+    }
+    let outcome = match machine.turn {
+        None => Outcome::Ended,
+        Some(_) => Outcome::Stopped,
+    };
+    Ok(Progress {
+        steps: limit - left,
+        outcome,
+    })
+}
+
+struct Machine<'a> {
+    plan: &'a Plan,
+    schedule: Schedule<'a>,
+    scripts: Scripts<'a>,
+    state: &'a mut State,
+    cache: Cache<'a>,
+    mail: Mail<'a>,
+    journal: Journal<'a>,
+    /// The window that runs now; none after the end.
+    turn: Option<Turn>,
+}
+
+impl<'a> Machine<'a> {
+    /// Judges all that was lent: 11, 12, 13, 14.
+    fn admit(
+        plan: &'a Plan,
+        scripts: &'a [u32],
+        state: &'a mut State,
+        lent: Lent<'a>,
+    ) -> Result<Self, Refusal> {
+        let scripts = Scripts::over(scripts).ok_or(Refusal::TableLength)?;
+        let cache = Cache::over(lent.cache).ok_or(Refusal::TableLength)?;
+        let mail = Mail::over(lent.boxes).ok_or(Refusal::TableLength)?;
+        let schedule = plan.schedule()?;
+        let turn = schedule.turn(state.completed);
+        let running = turn.map(|turn| plan.domains[turn.domain].colours);
+        if !cache.is_sound(running) || !mail.is_sound(plan) {
+            return Err(Refusal::Damaged);
+        }
+        let domains = plan.domains.len();
+        let journal = Journal::over(lent.log, domains);
+        if !state.is_possible(&schedule, domains, journal.room()) {
+            return Err(Refusal::State);
+        }
+        Ok(Machine {
+            plan,
+            schedule,
+            scripts,
+            state,
+            cache,
+            mail,
+            journal,
+            turn,
+        })
+    }
+
+    /// Does ops of this window until a switch is due, at most so many; gives how
+    /// many.
+    fn work(&mut self, turn: Turn, most: u64) -> u64 {
+        let mut shift = Shift {
+            plan: self.plan,
+            own: turn.domain,
+            end: turn.end,
+            script: self.scripts.of(turn.domain),
+            part: self.journal.part(turn.domain),
+            cache: &mut self.cache,
+            mail: &mut self.mail,
+            clock: self.state.clock,
+            counts: self.state.counts[turn.domain],
+        };
+        let mut done = 0;
+        while done < most && shift.op() {
+            done += 1;
+        }
+        (self.state.clock, self.state.counts[turn.domain]) = (shift.clock, shift.counts);
+        done
+    }
+
+    fn switch(&mut self, turn: Turn) {
+        let state = &mut *self.state;
+        state.clock = state.clock.max(turn.end);
+        state.clock += self.cache.flush_kernel_sets();
+        state.clock += self.cache.flush_l1();
+        state.completed += 1;
+        state.clock = state.clock.max(turn.end + u64::from(self.plan.pad));
+        self.turn = self.schedule.following(turn, state.completed);
+    }
+}
