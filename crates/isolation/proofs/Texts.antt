@@ -19,7 +19,7 @@ unfolding freshStartOf freshVerdict
 accepted-list list is =
     let possible : planPossible (list .plan) ≡ true = given-possible (list .plan) (is .accepted) in
     let verdict : freshVerdict (list .plan) (list .oldCache) (list .oldBoxes) ≡ Accepted =
-        rw (eq-eqb _ 272 (is .cache-fits), eq-eqb _ 64 (is .boxes-fit), possible) refl in
+    rw (eq-eqb _ 272 (is .cache-fits), eq-eqb _ 64 (is .boxes-fit), possible) refl in
     record {
       started = ap (λ (v : Verdict). isRefused (freshFrom v (list .oldState) (list .oldCache) (list .oldBoxes) .verdict)) verdict;
       proper = is .proper;

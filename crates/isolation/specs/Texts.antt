@@ -17,8 +17,8 @@ pub record AcceptedList (list : CallList) : Type 0 where
 pub record AcceptedIsolation : Type 0 where
   pub onTime : (list : CallList) → AcceptedList list → WindowsOnTime list
   pub isolated :
-    (observer : ℕ) (one other : CallList)
-    → AcceptedList one
-    → AcceptedList other
-    → Comparable observer one other
-    → SameSeen observer one other
+      (observer : ℕ) (one other : CallList)
+      → AcceptedList one
+      → AcceptedList other
+      → Comparable observer one other
+      → SameSeen observer one other
