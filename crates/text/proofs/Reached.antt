@@ -1,18 +1,18 @@
 -- Where the next token from an offset stands: at or past that offset, and within the text. Assumes nothing.
-use Prim.Native.Nat.{ℕ, _-_, _≤_, _<_}
+use Prim.Native.Nat.{ℕ, _+_, _-_, _≤_, _<_}
 use native.Mathlib.Omega.{arith}
 use mathlib.Core.Bool.{Bool, true, false, cond, true≢false}
 use mathlib.Core.List.{List, [], _∷_}
 use mathlib.Core.Path.{_≡_, refl, sym, subst, _∙_}
 use lib.Dec.{leb, ltb}
 use lib.ListN.{length, getD, take, drop, length-take}
-use borrow.Author.Tests.{le-ltb, ltb-true}
+use borrow.Author.Tests.{le-ltb, leb-false, leb-true, ltb-true}
 use Rattle.lists.specs.Part.{part}
 use Rattle.text.specs.declared.Token.{Token}
 use Rattle.text.specs.declared.Token.the-variants.{LineEnd, Open, Close, Word, Number, LongNumber, Other}
 use Rattle.text.specs.Bytes.{endsRun, isClose, isDigit, isLetter, isLineFeed, isNoSpace, isOpen}
 use Rattle.text.specs.Scan.{allBytes}
-use Rattle.text.specs.Tokens.{digitsToken, longestRun, runToken, tokenAt, tokenFrom, valueOf}
+use Rattle.text.specs.Tokens.{digitsToken, endOf, longestRun, runToken, tokenAt, tokenFrom, valueOf}
 use Rattle.text.proofs.Scanning.{scan-end, scan-least, scan-most}
 
 -- what holds of both choices holds of the one that a test makes
@@ -90,3 +90,25 @@ word-within text at next known = let place = reached text at next known in (plac
 pub token-past : (text : List ℕ) (at : ℕ) → length text ≤ at → tokenAt text at ≡ LineEnd at
 unfolding tokenAt tokenFrom
 token-past text at past = rw (scan-end isNoSpace text at past, le-ltb at (length text) past)
+
+-- a token that is reached from within the text ends within it
+end-inside : (text : List ℕ) (at : ℕ) → at ≤ length text → (token : Token) → Reached text at token → endOf token ≤ length text
+end-inside text at within (LineEnd place) h = h .1 within
+end-inside text at within (Open place) h = omega (arith, h .1)
+end-inside text at within (Close place) h = omega (arith, h .1)
+end-inside text at within (Word start end) h = h .2
+end-inside text at within (Number start end value) h = h .2
+end-inside text at within (LongNumber start end) h = h .2
+end-inside text at within (Other start end) h = h .2
+
+-- what bounds the text's length and the offset bounds the token's end: the reader that moves there holds a number that fits
+pub end-bounded : (text : List ℕ) (at limit : ℕ) → length text < limit → at < limit → endOf (tokenAt text at) < limit
+end-bounded text at limit long far = by-test (leb at (length text)) refl
+  where
+    by-test : (test : Bool) → leb at (length text) ≡ test → endOf (tokenAt text at) < limit
+    by-test true t =
+        let inside = end-inside text at (leb-true at (length text) t) (tokenAt text at) (token-reached text at) in
+        omega (arith, inside, long)
+    by-test false t =
+        let past = leb-false at (length text) t in
+        subst (λ token. endOf token < limit) (sym (token-past text at (omega (arith, past)))) far

@@ -7,7 +7,8 @@ mod scan;
 use runs::longest_run;
 use scan::skip_spaces;
 ghost use mathlib.Core.Path.{_≡_};
-ghost use Rattle.text.specs.Tokens.{startOf, tokenAt, tokenFrom};
+ghost use Prim.Native.Nat.{_^_, _<_};
+ghost use Rattle.text.specs.Tokens.{endOf, startOf, tokenAt, tokenFrom};
 
 // What stands next in a line. `start` is the offset of the token's first byte and `end` the offset past its last.
 pub enum Token {
@@ -59,7 +60,7 @@ fn token_from(text: &[u8], start: usize) -> Token
 }
 
 // The next token of the line from `at` on: spaces are passed over.
-pub fn token_at(text: &[u8], at: usize) -> Token
+fn find_token(text: &[u8], at: usize) -> Token
     ensures { λ r. ⌜ r ≡ tokenAt (now (text .entry)) at ⌝ }
 {
     let start = skip_spaces(text, at);
@@ -83,4 +84,52 @@ pub fn start_of(token: Token) -> usize
         Token::LongNumber { start, end: _ } => start,
         Token::Other { start, end: _ } => start,
     }
+}
+
+// The offset past a token's last byte, or of the line's end.
+fn end_of(token: Token) -> usize
+    requires { ⌜ endOf token < 2 ^ 64 ⌝ }
+    ensures { λ r. ⌜ r ≡ endOf token ⌝ }
+{
+    match token {
+        Token::LineEnd(at) => at,
+        Token::Open(at) => at + 1,
+        Token::Close(at) => at + 1,
+        Token::Word { start: _, end } => end,
+        Token::Number {
+            start: _,
+            end,
+            value: _,
+        } => end,
+        Token::LongNumber { start: _, end } => end,
+        Token::Other { start: _, end } => end,
+    }
+}
+
+// A reader holds the text and the offset that it has reached.
+pub struct Reader<'a> {
+    pub text: &'a [u8],
+    pub at: usize,
+}
+
+impl<'a> Reader<'a> {
+    // Hands out the next token, and moves on to its end.
+    pub fn next(&mut self) -> Token
+        ensures { λ token.
+            ⌜ (token ≡ tokenAt (now (now (self .entry) .text)) (now (self .entry) .at))
+            × (now (self .exit) .text ≡ now (self .entry) .text)
+            × (now (self .exit) .at ≡ endOf token) ⌝ }
+    {
+        let token = find_token(self.text, self.at);
+        self.at = end_of(token);
+        token
+    }
+}
+
+// The token that a reader at `at` hands out next.
+pub fn token_at(text: &[u8], at: usize) -> Token
+    ensures { λ r. ⌜ r ≡ tokenAt (now (text .entry)) at ⌝ }
+{
+    let mut reader = Reader { text, at };
+    reader.next()
 }
