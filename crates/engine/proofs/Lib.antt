@@ -1,2 +1,3 @@
 -- The laws of the entry points that their proofs and other crates cite.
+pub mod FreshRuns
 pub mod Verdicts

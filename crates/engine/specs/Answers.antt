@@ -3,6 +3,7 @@ use Prim.Native.Nat.{ℕ}
 use mathlib.Core.List.{List}
 use Rattle.machine.specs.View.{worldWith}
 use Rattle.machine.specs.World.{World}
+use Rattle.engine.specs.declared.Answer.{Answer}
 use Rattle.engine.specs.declared.Ending.{Ending}
 use Rattle.engine.specs.declared.Progress.{Progress}
 use Rattle.machine.specs.declared.State.{State}
@@ -16,6 +17,11 @@ answered verdict steps ending world = record { verdict = verdict; steps = steps;
 abbrev pub runWith : Progress → List ℕ → List ℕ → List ℕ → Run
 runWith progress cache boxes log =
     answered (progress .verdict) (progress .steps) (progress .ending) (worldWith (progress .state) cache boxes log)
+
+-- a single step's answer, with the state that is left beside it
+abbrev pub stepWith : Answer → State → List ℕ → List ℕ → List ℕ → Run
+stepWith answer state cache boxes log =
+    answered (answer .verdict) (answer .steps) (answer .ending) (worldWith state cache boxes log)
 
 abbrev pub freshWith : Verdict → State → List ℕ → List ℕ → Fresh
 freshWith verdict state cache boxes = record { verdict = verdict; state = state; cache = cache; boxes = boxes }

@@ -1,6 +1,7 @@
 // The entry points of a run: each looks at what it was lent, refuses or does its work, and answers every input.
 pub mod asking;
 pub mod checks;
+pub mod lending;
 pub mod running;
 pub mod starting;
 
@@ -26,4 +27,18 @@ pub struct Progress {
     pub steps: u64,
     pub ending: Ending,
     pub state: State,
+}
+
+// What a single step answers, beside the state, the cache table, the boxes and the log.
+pub struct Answer {
+    pub verdict: Verdict,
+    // the number of steps done
+    pub steps: u64,
+    pub ending: Ending,
+}
+
+// A single step's answer, with the state that it leaves.
+pub struct Stepped {
+    pub state: State,
+    pub answer: Answer,
 }

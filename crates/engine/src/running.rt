@@ -1,4 +1,4 @@
-// A single step, and running with a number of steps as its limit.
+// Running with a number of steps as its limit.
 use crate::Ending;
 use crate::Progress;
 use crate::checks::check_run;
@@ -12,7 +12,7 @@ ghost use mathlib.Core.Path.{_≡_};
 ghost use Prim.Native.Nat.{_≤_};
 ghost use Rattle.machine.specs.World.{endedOf};
 ghost use Rattle.machine.specs.View.{worldWith};
-ghost use Rattle.engine.specs.Running.{endingOf, runCallOf, stepCallOf};
+ghost use Rattle.engine.specs.Running.{endingOf, runCallOf};
 ghost use Rattle.engine.specs.Answers.{runWith};
 
 // Whether a run is over.
@@ -60,19 +60,4 @@ pub fn run(
             }
         }
     }
-}
-
-// A single step: running with limit 1.
-pub fn step(
-    plan: Plan,
-    scripts: &[u32],
-    state: State,
-    cache: &mut [u16],
-    boxes: &mut [u32],
-    log: &mut [u8],
-) -> Progress
-    ensures { λ r. ⌜ runWith r (now (cache .exit)) (now (boxes .exit)) (now (log .exit))
-        ≡ stepCallOf plan (now (scripts .entry)) (worldWith state (now (cache .entry)) (now (boxes .entry)) (now (log .entry))) ⌝ }
-{
-    run(plan, scripts, state, cache, boxes, log, 1)
 }

@@ -1,8 +1,26 @@
 // The plan reader: from a text to a plan and the scripts, or a refusal with its place.
+mod domains;
+mod drafting;
+mod forms;
+mod last;
+mod lines;
+mod may;
+mod ops;
+mod tokens;
+mod walk;
+
+use drafting::no_plan;
+use last::final_verdict;
+use last::plan_with_masks;
 use plan::Plan;
 use refusal::Refusal;
 use refusal::Verdict;
 use script::Op;
+use walk::hand_over;
+use walk::walk;
+ghost use mathlib.Core.Path.{_≡_};
+ghost use Rattle.reader.specs.Draft.{noPlan};
+ghost use Rattle.reader.specs.Read.{readOf};
 
 // A bracket, a word or a line's end was due: the offset to go on from, or the refusal.
 pub enum Passed {
@@ -119,8 +137,57 @@ pub struct Draft {
     pub named: [usize; 8],
 }
 
+// What a line adds: the draft with it, or the refusal and the draft as it was.
+pub struct Added {
+    pub verdict: Verdict,
+    pub draft: Draft,
+}
+
 // What reading answers, beside the script store.
 pub struct Reading {
     pub verdict: Verdict,
     pub plan: Plan,
+}
+
+// The plan beside a refusal is all zeros.
+fn refused_reading(refusal: Refusal) -> Reading
+    ensures { λ r. ⌜ (r .verdict ≡ Verdict.Refused refusal) × (r .plan ≡ noPlan) ⌝ }
+{
+    let plan = no_plan();
+    Reading {
+        verdict: Verdict::Refused(refusal),
+        plan,
+    }
+}
+
+// A plan text is read: the plan, with its scripts in the store lent, or a refusal. The store is written only once every check has
+// passed.
+pub fn read_plan(text: &[u8], scripts: &mut [u32]) -> Reading
+    ensures { λ r. ⌜ (r .verdict ≡ readOf (now (text .entry)) (now (scripts .entry)) .verdict)
+        × (r .plan ≡ readOf (now (text .entry)) (now (scripts .entry)) .plan)
+        × (now (scripts .exit) ≡ readOf (now (text .entry)) (now (scripts .entry)) .scripts) ⌝ }
+{
+    if scripts.len() != 2_048 {
+        return refused_reading(Refusal::WrongLength);
+    }
+    if 32_768 < text.len() {
+        return refused_reading(Refusal::TextTooLong);
+    }
+    let mut store = [0u32; 2048];
+    let walked = walk(text, &mut store);
+    let verdict = walked.verdict;
+    if let Verdict::Refused(refusal) = verdict {
+        return refused_reading(refusal);
+    }
+    let draft = walked.draft;
+    let judged = final_verdict(text.len(), draft);
+    if let Verdict::Refused(refusal) = judged {
+        return refused_reading(refusal);
+    }
+    hand_over(&store, scripts);
+    let plan = plan_with_masks(draft.plan);
+    Reading {
+        verdict: Verdict::Accepted,
+        plan,
+    }
 }

@@ -1,4 +1,8 @@
--- The laws on the tokens of a text that other crates cite.
-pub mod Scanned
+-- The laws on the tokens of a text, and on its numbers, that proofs here and in other crates cite.
 pub mod Decimals
+pub mod DigitsMade
+pub mod Reached
+pub mod Scanned
+pub mod Scanning
 pub mod Spelled
+pub mod Values

@@ -1,4 +1,13 @@
 // The tokens of a plan text: a byte slice, read from an offset.
+mod bytes;
+pub mod decimal;
+mod runs;
+mod scan;
+
+use runs::longest_run;
+use scan::skip_spaces;
+ghost use mathlib.Core.Path.{_≡_};
+ghost use Rattle.text.specs.Tokens.{startOf, tokenAt, tokenFrom};
 
 // What stands next in a line. `start` is the offset of the token's first byte and `end` the offset past its last.
 pub enum Token {
@@ -27,4 +36,51 @@ pub enum Token {
         start: usize,
         end: usize,
     },
+}
+
+// The token whose first byte stands at `start`, where no space stands.
+fn token_from(text: &[u8], start: usize) -> Token
+    ensures { λ r. ⌜ r ≡ tokenFrom (now (text .entry)) start ⌝ }
+{
+    if start < text.len() {
+        let byte = text[start];
+        if byte == 10 {
+            return Token::LineEnd(start);
+        }
+        if byte == 40 {
+            return Token::Open(start);
+        }
+        if byte == 41 {
+            return Token::Close(start);
+        }
+        return longest_run(text, start);
+    }
+    Token::LineEnd(start)
+}
+
+// The next token of the line from `at` on: spaces are passed over.
+pub fn token_at(text: &[u8], at: usize) -> Token
+    ensures { λ r. ⌜ r ≡ tokenAt (now (text .entry)) at ⌝ }
+{
+    let start = skip_spaces(text, at);
+    token_from(text, start)
+}
+
+// The offset of a token's first byte, or of the line's end.
+pub fn start_of(token: Token) -> usize
+    ensures { λ r. ⌜ r ≡ startOf token ⌝ }
+{
+    match token {
+        Token::LineEnd(at) => at,
+        Token::Open(at) => at,
+        Token::Close(at) => at,
+        Token::Word { start, end: _ } => start,
+        Token::Number {
+            start,
+            end: _,
+            value: _,
+        } => start,
+        Token::LongNumber { start, end: _ } => start,
+        Token::Other { start, end: _ } => start,
+    }
 }

@@ -1,0 +1,51 @@
+-- A run right after a fresh start: where it begins, and that what it leaves passes the checks again. Assumes nothing.
+use mathlib.Core.Path.{_≡_, refl, sym, ap, subst, _∙_}
+use mathlib.Core.Bool.{true}
+use mathlib.Core.List.{List}
+use Prim.Native.Nat.{ℕ}
+use lib.ListN.{length, replicate}
+use Rattle.plan.specs.declared.Plan.{Plan}
+use Rattle.plan.specs.Possible.{planPossible}
+use Rattle.machine.specs.declared.State.{State}
+use Rattle.machine.specs.Impossible.{statePossible}
+use Rattle.machine.specs.Records.{partRecords}
+use Rattle.machine.specs.Steps.{runOf, steps}
+use Rattle.machine.specs.View.{worldWith}
+use Rattle.machine.specs.World.{World}
+use Rattle.machine.proofs.Reached.{log-length, state-possible}
+use Rattle.machine.proofs.Runs.{run-world}
+use Rattle.refusal.specs.declared.Verdict.{Verdict}
+use Rattle.refusal.specs.declared.Verdict.the-variants.{Accepted, Refused}
+use Rattle.engine.specs.Answers.{freshWith}
+use Rattle.engine.specs.Checks.{freshVerdict, runVerdict}
+use Rattle.engine.specs.FreshStart.{Fresh, freshFrom, freshStartOf, freshWorld}
+use Rattle.engine.specs.Running.{Run, ranFrom, runCallOf, runFrom}
+
+-- a fresh start under a possible plan, on tables of the right lengths, gives the world from which runs start
+pub started-fresh :
+    (plan : Plan) (old fresh : State) (verdict : Verdict) (cache boxes log : List ℕ)
+    → planPossible plan ≡ true
+    → freshWith verdict fresh cache boxes ≡ freshStartOf plan old (replicate 272 0) (replicate 64 0)
+    → worldWith fresh cache boxes log ≡ freshWorld log
+unfolding freshStartOf freshWorld freshVerdict
+started-fresh plan old fresh verdict cache boxes log possible did =
+    let accepted : freshVerdict plan (replicate 272 0) (replicate 64 0) ≡ Accepted = rw possible refl in
+    let started = did ∙ ap (λ (v : Verdict). freshFrom v old (replicate 272 0) (replicate 64 0)) accepted in
+    ap (λ (f : Fresh). worldWith (f .state) (f .cache) (f .boxes) log) started
+
+-- what a run from a fresh start leaves is as long as its log was, and passes the check for 14
+pub record Left (plan : Plan) (log : List ℕ) (world : World) : Type 0 where
+  pub possible : statePossible plan (partRecords plan (length log)) (world .state) ≡ true
+  pub long : length (world .log) ≡ length log
+
+pub run-left :
+    (plan : Plan) (scripts log : List ℕ) (limit : ℕ) → planPossible plan ≡ true → Left plan log (runCallOf plan scripts (freshWorld log) limit .world)
+unfolding runCallOf ranFrom freshWorld steps
+run-left plan scripts log limit possible = go (runVerdict plan scripts (freshWorld log))
+  where
+    reached : (count : ℕ) → Left plan log (steps plan scripts (partRecords plan (length log)) count (freshWorld log))
+    reached count = record { possible = state-possible plan scripts log count possible; long = log-length plan scripts log count possible }
+
+    go : (verdict : Verdict) → Left plan log (runFrom verdict plan scripts (freshWorld log) limit .world)
+    go Accepted = subst (Left plan log) (sym (run-world plan scripts (partRecords plan (length log)) limit (freshWorld log))) (reached limit)
+    go (Refused refusal) = reached 0

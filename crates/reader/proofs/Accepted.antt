@@ -1,0 +1,195 @@
+-- Every accepted plan passes the check for 12: what is known of the lines that were read, and of a draft that passes the last checks, is what
+-- the check asks. Assumes nothing.
+use Prim.Native.Nat.{ℕ, _+_, _-_, _^_, _≤_, _<_}
+use native.Mathlib.Nat.{zero-add}
+use native.Mathlib.Omega.{arith}
+use mathlib.Core.Bool.{Bool, true, false, cond, not, _&&_, _||_, and-eq-true-iff}
+use mathlib.Core.List.{List}
+use mathlib.Core.Path.{_≡_, refl, ap, _∙_}
+use lib.Dec.{eqb, leb, ltb}
+use lib.ListN.{length, getD}
+use borrow.Author.Tests.{eq-eqb, eqb-false, le-leb, lt-ltb, ltb-false, ltb-true}
+use Rattle.plan.proofs.Sums.{below-all}
+use Rattle.plan.specs.declared.Plan.{Plan}
+use Rattle.plan.specs.Colours.{coloursAt, firstColour, maskOf, sharesTotal}
+use Rattle.plan.specs.Possible.{countsPossible, declaredPossible, domainPossible, maskPossible, planPossible, undeclaredPossible, windowPossible, within}
+use Rattle.plan.specs.Windows.{ticksTotal}
+use Rattle.refusal.specs.declared.Refusal.{Refusal}
+use Rattle.refusal.specs.declared.Refusal.the-variants.{TextTooLong, WrongLength}
+use Rattle.refusal.specs.declared.Verdict.{Verdict}
+use Rattle.refusal.specs.declared.Verdict.the-variants.{Accepted, Refused}
+use Rattle.text.proofs.Reached.{cond-holds}
+use Rattle.reader.proofs.GoodDraft.{GoodDraft, GoodOutcome, draft-first}
+use Rattle.reader.proofs.HighBits.{high-off}
+use Rattle.reader.proofs.LastChecks.{Passes, coloured-each, mask-at, maskAfter, passes, undeclared-none}
+use Rattle.reader.proofs.Walking.{walk-good}
+use Rattle.reader.specs.declared.Draft.{Draft}
+use Rattle.reader.specs.Draft.{Outcome, kept, noDraft, noOps, refused, storeLength}
+use Rattle.reader.specs.Final.{finalVerdict, lacking, masksFrom, planWithMasks}
+use Rattle.reader.specs.Read.{Read, finished, judged, readOf, refusedRead, walkFrom}
+
+-- ---- tests
+
+both : (a b : Bool) → a ≡ true → b ≡ true → (a && b) ≡ true
+both a b p q = and-eq-true-iff a b .1 (p, q)
+
+within-true : (low high number : ℕ) → low ≤ number → number ≤ high → within low high number ≡ true
+within-true low high number l h = both (leb low number) (leb number high) (le-leb _ _ l) (le-leb _ _ h)
+
+neither : (a b : Bool) → (a || b) ≡ false → (a ≡ false) × (b ≡ false)
+neither true b e = let z : _≡_ {A = ℕ} 0 1 = cc in absurd (omega arith)
+neither false b e = (refl, e)
+
+-- ---- a draft that passes the last checks
+
+-- the plan that it gives
+abbrev planOf : Draft → Plan
+planOf draft = planWithMasks (draft .plan)
+
+module _ (draft : Draft) (good : GoodDraft draft) (fine : Passes draft) where
+  -- nothing is lacking
+  present : (draft .plan .pad ≡ 0 → ⊥) × (1 ≤ draft .plan .domains) × (1 ≤ draft .plan .windows) × (1 ≤ draft .plan .run)
+  unfolding lacking
+  present =
+      let third = neither (eqb (draft .plan .pad) 0 || eqb (draft .plan .domains) 0 || eqb (draft .plan .windows) 0) _ (fine .nothing-lacking) in
+      let second = neither (eqb (draft .plan .pad) 0 || eqb (draft .plan .domains) 0) _ (third .0) in
+      let first = neither (eqb (draft .plan .pad) 0) _ (second .0) in
+      let pad = eqb-false _ _ (first .0) in
+      let domains : draft .plan .domains ≡ 0 → ⊥ = eqb-false _ _ (first .1) in
+      let windows : draft .plan .windows ≡ 0 → ⊥ = eqb-false _ _ (second .1) in
+      let run : draft .plan .run ≡ 0 → ⊥ = eqb-false _ _ (third .1) in
+      (pad, omega arith, omega arith, omega arith)
+
+  counts-pass : countsPossible (planOf draft) ≡ true
+  unfolding planWithMasks countsPossible
+  counts-pass =
+      both _ _ (both _ _ (both _ _
+      (within-true 276 1_000_000 _ (good .pad-least (present .0)) (good .pad-most))
+      (within-true 1 1_000 _ (present .3) (good .run-most)))
+      (within-true 1 8 _ (present .1) (good .domains .most)))
+      (within-true 1 32 _ (present .2) (good .windows .most))
+
+  -- a domain's recipients are declared
+  rights-most : (domain : ℕ) → domain < draft .plan .domains → getD (draft .plan .rights) domain 0 < 2 ^ draft .plan .domains
+  rights-most domain below =
+      let here = good .domains .declared domain below in
+      let gap = 8 - draft .plan .domains in
+      let whole : draft .plan .domains + gap ≡ 8 = omega (arith, good .domains .most) in
+      high-off gap _ (draft .plan .domains) (rw whole (here .small)) (λ place from most has.
+      here .noted place has (undeclared-none (draft .named) (draft .plan .domains) 8 place (fine .all-declared) (omega arith) from))
+
+  -- the masks are those that the shares give
+  mask-is : (domain : ℕ) → domain < 8 → getD (masksFrom (draft .plan) 8 0) domain 0 ≡ cond (ltb domain (draft .plan .domains)) (maskOf (draft .plan) domain) 0
+  unfolding maskAfter
+  mask-is domain below = mask-at (draft .plan) 8 0 domain below ∙ ap (maskAfter (draft .plan)) (zero-add domain)
+
+  mask-pass : (domain : ℕ) → domain < 8 → maskPossible (planOf draft) domain ≡ true
+  unfolding planWithMasks maskPossible maskOf firstColour
+  mask-pass domain small = eq-eqb _ _ (mask-is domain small)
+
+  declared-pass : (domain : ℕ) → domain < draft .plan .domains → declaredPossible (planOf draft) domain ≡ true
+  unfolding planWithMasks declaredPossible
+  declared-pass domain below =
+      let here = good .domains .declared domain below in
+      let colours : coloursAt (draft .plan) domain ≡ 0 → ⊥ =
+      coloured-each (draft .plan) (draft .plan .domains) 0 domain (omega (arith, fine .coloured)) (omega arith) (omega arith) in
+      both _ _ (both _ _ (both _ _
+      (within-true 1 1_000 _ (here .share-least) (here .share-most))
+      (le-leb 1 (coloursAt (draft .plan) domain) (omega arith)))
+      (lt-ltb _ _ (rights-most domain below)))
+      (ap not (here .not-own))
+
+  undeclared-pass : (domain : ℕ) → draft .plan .domains ≤ domain → undeclaredPossible (planOf draft) domain ≡ true
+  unfolding planWithMasks undeclaredPossible
+  undeclared-pass domain past =
+      let none = good .domains .undeclared domain past in
+      both _ _ (eq-eqb _ _ (none .0)) (eq-eqb _ _ (none .1))
+
+  domain-pass : (domain : ℕ) → domain < 8 → domainPossible (planOf draft) domain ≡ true
+  unfolding planWithMasks domainPossible
+  domain-pass domain _ =
+      cond-holds (λ (test : Bool). test ≡ true) (ltb domain (draft .plan .domains)) (declaredPossible (planOf draft) domain)
+      (undeclaredPossible (planOf draft) domain)
+      (λ below. declared-pass domain (ltb-true _ _ below))
+      (λ past. undeclared-pass domain (ltb-false _ _ past))
+
+  window-pass : (slot : ℕ) → slot < 32 → windowPossible (planOf draft) slot ≡ true
+  unfolding planWithMasks windowPossible
+  window-pass slot small =
+      cond-holds (λ (test : Bool). test ≡ true) (ltb slot (draft .plan .windows)) _ _
+      (λ below.
+      let here = good .windows .window slot (ltb-true _ _ below) in
+      both _ _ (lt-ltb _ _ (here .owned)) (within-true 1 1_000_000 _ (here .least) (here .most)))
+      (λ past.
+      let none = good .windows .no-window slot (ltb-false _ _ past) in
+      both _ _ (eq-eqb _ _ (none .0)) (eq-eqb _ _ (none .1)))
+
+  pub passing-possible : planPossible (planOf draft) ≡ true
+  unfolding planWithMasks planPossible sharesTotal ticksTotal
+  passing-possible =
+      both _ _ (both _ _ (both _ _ (both _ _ (both _ _
+      counts-pass
+      (below-all (domainPossible (planOf draft)) 8 domain-pass))
+      (le-leb _ _ (fine .shares)))
+      (below-all (maskPossible (planOf draft)) 8 mask-pass))
+      (below-all (windowPossible (planOf draft)) 32 window-pass))
+      (le-leb _ _ (fine .ticks))
+
+-- ---- the whole reading
+
+-- no refused reading is accepted
+not-refused : (why : Refusal) (scripts : List ℕ) → refusedRead why scripts .verdict ≡ Accepted → ⊥
+unfolding refusedRead
+not-refused why scripts e = let z : _≡_ {A = ℕ} 0 1 = cc in omega arith
+
+judged-possible : (textLength : ℕ) (draft : Draft) (store scripts : List ℕ) → GoodDraft draft → (verdict : Verdict)
+    → finalVerdict textLength draft ≡ verdict → judged verdict draft store scripts .verdict ≡ Accepted
+    → planPossible (judged verdict draft store scripts .plan) ≡ true
+judged-possible textLength draft store scripts good Accepted final e = passing-possible draft good (passes textLength draft final)
+judged-possible textLength draft store scripts good (Refused why) final e = absurd (not-refused why scripts e)
+
+finished-possible : (size textLength : ℕ) (outcome : Outcome) (scripts : List ℕ) → GoodOutcome size outcome
+    → finished textLength outcome scripts .verdict ≡ Accepted → planPossible (finished textLength outcome scripts .plan) ≡ true
+finished-possible size textLength (refused why) scripts good e = absurd (not-refused why scripts e)
+finished-possible size textLength (kept draft store) scripts good e =
+    judged-possible textLength draft store scripts (good .0) (finalVerdict textLength draft) refl e
+
+pub accepted-possible : (text scripts : List ℕ) → readOf text scripts .verdict ≡ Accepted → planPossible (readOf text scripts .plan) ≡ true
+unfolding readOf
+accepted-possible text scripts = by-length (eqb (length scripts) storeLength)
+  where
+    by-size : (long : Bool)
+        → (elim long as (λ _. Read) [
+          | true ↦ refusedRead TextTooLong scripts
+          | false ↦ finished (length text) (walkFrom (length text) text 0 noDraft noOps) scripts
+        ]) .verdict ≡ Accepted
+        → planPossible
+        ((elim long as (λ _. Read) [
+          | true ↦ refusedRead TextTooLong scripts
+          | false ↦ finished (length text) (walkFrom (length text) text 0 noDraft noOps) scripts
+        ]) .plan) ≡ true
+    by-size true e = absurd (not-refused TextTooLong scripts e)
+    by-size false e =
+        finished-possible (length noOps) (length text) (walkFrom (length text) text 0 noDraft noOps) scripts
+        (walk-good (length text) text 0 noDraft noOps draft-first) e
+
+    by-length : (fits : Bool)
+        → (elim fits as (λ _. Read) [
+          | false ↦ refusedRead WrongLength scripts
+          | true ↦
+              elim (ltb 32_768 (length text)) [
+                | true ↦ refusedRead TextTooLong scripts
+                | false ↦ finished (length text) (walkFrom (length text) text 0 noDraft noOps) scripts
+              ]
+        ]) .verdict ≡ Accepted
+        → planPossible
+        ((elim fits as (λ _. Read) [
+          | false ↦ refusedRead WrongLength scripts
+          | true ↦
+              elim (ltb 32_768 (length text)) [
+                | true ↦ refusedRead TextTooLong scripts
+                | false ↦ finished (length text) (walkFrom (length text) text 0 noDraft noOps) scripts
+              ]
+        ]) .plan) ≡ true
+    by-length false e = absurd (not-refused WrongLength scripts e)
+    by-length true e = by-size (ltb 32_768 (length text)) e

@@ -1,0 +1,19 @@
+-- A list that is filled from its front with another's numbers: one more, and all of them. Assumes nothing.
+use Prim.Native.Nat.{ℕ, _+_, _<_}
+use native.Mathlib.Numerals.{add-one}
+use native.Mathlib.Omega.{arith}
+use mathlib.Core.List.{List, [], _∷_, _++_}
+use mathlib.Core.Path.{_≡_, sym, ap, _∙_}
+use lib.ListN.{length, getD, set, take}
+use lib.Seq.{take-all, take-suc, take-suc-set}
+
+pub filled-next : (from to : List ℕ) (place : ℕ) → place < length from → place < length to → take place to ≡ take place from
+    → take (place + 1) (set to place (getD from place 0)) ≡ take (place + 1) from
+filled-next from to place within room so-far =
+    let number = getD from place 0 in
+    rw (add-one place)
+    (take-suc-set to place number room ∙ ap (λ (front : List ℕ). front ++ (number ∷ [])) so-far ∙ sym (take-suc from place 0 within))
+
+pub filled-all : (from to : List ℕ) (count : ℕ) → length from ≡ count → length to ≡ count → take count to ≡ take count from → to ≡ from
+filled-all from to count whole room same =
+    sym (take-all count to (omega arith)) ∙ same ∙ take-all count from (omega arith)

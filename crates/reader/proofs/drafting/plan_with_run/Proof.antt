@@ -1,0 +1,12 @@
+-- `reader::drafting::plan_with_run` meets its contract. Assumes nothing.
+use mathlib.Core.Path.{refl}
+use Rattle.reader.specs.Draft.{planWithRun}
+use Rattle.reader.proofs.drafting.plan_with_run.Statement.{statement}
+use Rattle.reader.proofs.drafting.plan_with_run.Tie as tie
+
+returns : tie.Need-returns
+unfolding planWithRun
+returns c = refl
+
+pub plan-with-run-spec : {M : Type 1} → statement M
+plan-with-run-spec = tie.close (tie.spec returns)

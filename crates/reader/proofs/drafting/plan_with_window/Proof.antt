@@ -1,0 +1,40 @@
+-- `reader::drafting::plan_with_window` meets its contract. Assumes nothing.
+use mathlib.Core.Path.{refl}
+use borrow.Author.Needs.{needs}
+use Rattle.reader.specs.Draft.{planWithWindow}
+use Rattle.reader.proofs.drafting.plan_with_window.Statement.{statement}
+use Rattle.reader.proofs.drafting.plan_with_window.Tie as tie
+
+cast-place : tie.Need-cast-place
+cast-place c = search needs
+
+mul-plan : tie.Need-mul-plan
+mul-plan c = search needs
+
+element-write-plan : tie.Need-element-write-plan
+element-write-plan c = search needs
+
+mul-plan-2 : tie.Need-mul-plan-2
+mul-plan-2 c = search needs
+
+element-write-plan-2 : tie.Need-element-write-plan-2
+element-write-plan-2 c = search needs
+
+add-plan : tie.Need-add-plan
+add-plan c = search needs
+
+returns : tie.Need-returns
+unfolding planWithWindow
+returns c = refl
+
+pub plan-with-window-spec : {M : Type 1} → statement M
+plan-with-window-spec =
+    tie.close
+    (tie.spec
+    cast-place
+    mul-plan
+    element-write-plan
+    mul-plan-2
+    element-write-plan-2
+    add-plan
+    returns)

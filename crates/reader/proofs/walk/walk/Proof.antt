@@ -1,0 +1,74 @@
+-- `reader::walk::walk` meets its contract. Assumes nothing.
+use Prim.Native.Nat.{_-_}
+use native.Mathlib.Omega.{arith}
+use lib.ListN.{length}
+use borrow.Author.Needs.{needs}
+use Rattle.reader.specs.Draft.{noDraft}
+use Rattle.reader.specs.Read.{walkFrom}
+use Rattle.reader.proofs.GoodDraft.{draft-first}
+use Rattle.reader.proofs.Walking.{LinesLeft, lines-end, lines-first, turn-domain, turn-next, turn-op, turn-reach, turn-refused, turn-within}
+use Rattle.reader.proofs.walk.walk.Statement.{statement}
+use Rattle.reader.proofs.walk.walk.Tie as tie
+
+abbrev Inv-loop : tie.InvT-loop
+Inv-loop text store₀ draft₀ at₀ store draft at = LinesLeft text at draft store (walkFrom (length text) text 0 noDraft store₀)
+
+abbrev μ-loop : tie.MeasureT-loop
+μ-loop text store₀ draft₀ at₀ store draft at = length text - at
+
+no-draft-requires : tie.Need-no-draft-requires Inv-loop μ-loop
+no-draft-requires c κs = tt
+
+loop-holds : tie.Need-loop-holds Inv-loop μ-loop
+loop-holds c = rw (c .no-draft .ensures) (lines-first _ noDraft _ draft-first)
+
+line-at-requires : tie.Need-line-at-requires Inv-loop μ-loop
+line-at-requires c κs = tt
+
+take-line-requires : tie.Need-take-line-requires Inv-loop μ-loop
+take-line-requires c κs = (turn-domain _ _ _ _ _ (c .before .before .before .before .loop .inv) (c .before .before .before .loop-test .taken) _ (c .before .line-at .ensures), turn-op _ _ _ _ _ (c .before .before .before .before .loop .inv) (c .before .before .before .loop-test .taken) _ (c .before .line-at .ensures))
+
+enum-told : tie.Need-enum-told Inv-loop μ-loop
+enum-told c = search needs
+
+returns : tie.Need-returns Inv-loop μ-loop
+returns c =
+    let taken = c .before .before .take-line in
+    turn-refused _ _ _ _ _ (c .before .before .before .before .before .before .before .loop .inv) (c .before .before .before .before .before .before .loop-test .taken) _ (c .before .before .before .before .line-at .ensures) (taken .result .verdict) (taken .result .draft) (taken .last .1 .1 .0) (taken .ensures) _ (c .enum-told .given .1)
+
+enum-told-2 : tie.Need-enum-told-2 Inv-loop μ-loop
+enum-told-2 c = search needs
+
+add-at : tie.Need-add-at Inv-loop μ-loop
+add-at c = omega (arith, turn-within _ _ _ _ _ (c .before .before .before .before .before .before .before .before .before .loop .inv) (c .before .before .before .before .before .before .before .before .loop-test .taken) _ (c .before .before .before .before .before .before .line-at .ensures))
+
+loop-less : tie.Need-loop-less Inv-loop μ-loop
+loop-less c =
+    let taken = c .before .before .before .before .take-line in
+    omega (arith, c .before .before .before .before .before .before .before .before .loop-test .taken, turn-reach _ _ _ _ _ (c .before .before .before .before .before .before .before .before .before .loop .inv) (c .before .before .before .before .before .before .before .before .loop-test .taken) _ (c .before .before .before .before .before .before .line-at .ensures) (taken .result .verdict) (taken .result .draft) (taken .last .1 .1 .0) (taken .ensures) (c .before .before .enum-told2 .given .1))
+
+loop-again : tie.Need-loop-again Inv-loop μ-loop
+loop-again c =
+    let taken = c .before .before .before .before .take-line in
+    turn-next _ _ _ _ _ (c .before .before .before .before .before .before .before .before .before .loop .inv) (c .before .before .before .before .before .before .before .before .loop-test .taken) _ (c .before .before .before .before .before .before .line-at .ensures) (taken .result .verdict) (taken .result .draft) (taken .last .1 .1 .0) (taken .ensures) (c .before .before .enum-told2 .given .1)
+
+returns-2 : tie.Need-returns-2 Inv-loop μ-loop
+returns-2 c = lines-end _ _ _ _ _ (c .before .loop .inv) (c .loop-test .left)
+
+pub walk-spec : {M : Type 1} → statement M
+walk-spec =
+    tie.close
+    (tie.spec
+    Inv-loop
+    μ-loop
+    no-draft-requires
+    loop-holds
+    line-at-requires
+    take-line-requires
+    enum-told
+    returns
+    enum-told-2
+    add-at
+    loop-less
+    loop-again
+    returns-2)

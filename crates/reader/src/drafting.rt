@@ -1,0 +1,214 @@
+// What a good line adds to the plan and the scripts; at a line's end 5 and 10.
+use crate::Added;
+use crate::DomainLine;
+use crate::Draft;
+use crate::Form;
+use crate::Line;
+use crate::OpLine;
+use crate::WindowLine;
+use plan::Plan;
+use refusal::Refusal;
+use refusal::Verdict;
+use script::stored;
+ghost use mathlib.Core.List.{List};
+ghost use mathlib.Core.Path.{_≡_};
+ghost use Prim.Native.Nat.{ℕ, _<_};
+ghost use Rattle.refusal.specs.declared.Verdict.the-variants.{Accepted, Refused};
+ghost use Rattle.reader.specs.declared.Form.the-variants.{Domain, Op};
+ghost use Rattle.reader.specs.Draft.{Outcome, kept, noDraft, noPlan, planWithDomain, planWithPad, planWithRun, planWithWindow, refused};
+ghost use Rattle.reader.specs.Draft.{takeDomain, takeLine, takeOp, takePad, takeRun, takeWindow, withPlan};
+
+// The plan beside a refused reading, and before the first line: all zeros.
+pub fn no_plan() -> Plan
+    ensures { λ r. ⌜ r ≡ noPlan ⌝ }
+{
+    Plan {
+        pad: 0,
+        run: 0,
+        domains: 0,
+        windows: 0,
+        shares: [0; 8],
+        rights: [0; 8],
+        owners: [0; 32],
+        lengths: [0; 32],
+        masks: [0; 8],
+    }
+}
+
+pub fn no_draft() -> Draft
+    ensures { λ r. ⌜ r ≡ noDraft ⌝ }
+{
+    let plan = no_plan();
+    Draft {
+        plan,
+        ops: [0; 8],
+        named: [0; 8],
+    }
+}
+
+fn with_plan(draft: Draft, plan: Plan) -> Draft
+    ensures { λ r. ⌜ r ≡ withPlan draft plan ⌝ }
+{
+    let ops = draft.ops;
+    let named = draft.named;
+    Draft { plan, ops, named }
+}
+
+fn plan_with_pad(mut plan: Plan, ticks: u32) -> Plan
+    ensures { λ r. ⌜ r ≡ planWithPad plan ticks ⌝ }
+{
+    plan.pad = ticks;
+    plan
+}
+
+fn plan_with_run(mut plan: Plan, times: u32) -> Plan
+    ensures { λ r. ⌜ r ≡ planWithRun plan times ⌝ }
+{
+    plan.run = times;
+    plan
+}
+
+fn plan_with_domain(mut plan: Plan, line: DomainLine) -> Plan
+    requires { ⌜ plan .domains < 8 ⌝ }
+    ensures { λ r. ⌜ r ≡ planWithDomain plan line ⌝ }
+{
+    let place = plan.domains as usize;
+    plan.shares[place] = line.share;
+    plan.rights[place] = line.rights;
+    plan.domains += 1;
+    plan
+}
+
+fn plan_with_window(mut plan: Plan, line: WindowLine) -> Plan
+    requires { ⌜ plan .windows < 32 ⌝ }
+    ensures { λ r. ⌜ r ≡ planWithWindow plan line ⌝ }
+{
+    let place = plan.windows as usize;
+    plan.owners[place] = line.owner;
+    plan.lengths[place] = line.length;
+    plan.windows += 1;
+    plan
+}
+
+// A second pad is refused.
+fn take_pad(ticks: u32, bracket: usize, draft: Draft) -> Added
+    ensures { λ r. ⌜ ((store : List ℕ) → elim (r .verdict) as (λ _. Outcome) [ Accepted ↦ kept (r .draft) store | Refused why ↦ refused why ]
+        ≡ takePad ticks bracket draft store) ⌝ }
+{
+    let plan = draft.plan;
+    if plan.pad != 0 {
+        return Added {
+            verdict: Verdict::Refused(Refusal::RepeatedOrMissing(bracket)),
+            draft,
+        };
+    }
+    let fuller = with_plan(draft, plan_with_pad(plan, ticks));
+    Added {
+        verdict: Verdict::Accepted,
+        draft: fuller,
+    }
+}
+
+// A second run is refused.
+fn take_run(times: u32, bracket: usize, draft: Draft) -> Added
+    ensures { λ r. ⌜ ((store : List ℕ) → elim (r .verdict) as (λ _. Outcome) [ Accepted ↦ kept (r .draft) store | Refused why ↦ refused why ]
+        ≡ takeRun times bracket draft store) ⌝ }
+{
+    let plan = draft.plan;
+    if plan.run != 0 {
+        return Added {
+            verdict: Verdict::Refused(Refusal::RepeatedOrMissing(bracket)),
+            draft,
+        };
+    }
+    let fuller = with_plan(draft, plan_with_run(plan, times));
+    Added {
+        verdict: Verdict::Accepted,
+        draft: fuller,
+    }
+}
+
+fn take_domain(line: DomainLine, named: [usize; 8], draft: Draft) -> Added
+    requires { ⌜ draft .plan .domains < 8 ⌝ }
+    ensures { λ r. ⌜ ((store : List ℕ) → elim (r .verdict) as (λ _. Outcome) [ Accepted ↦ kept (r .draft) store | Refused why ↦ refused why ]
+        ≡ takeDomain line named draft store) ⌝ }
+{
+    let plan = plan_with_domain(draft.plan, line);
+    let ops = draft.ops;
+    Added {
+        verdict: Verdict::Accepted,
+        draft: Draft { plan, ops, named },
+    }
+}
+
+// The 33rd window is refused.
+fn take_window(line: WindowLine, bracket: usize, draft: Draft) -> Added
+    ensures { λ r. ⌜ ((store : List ℕ) → elim (r .verdict) as (λ _. Outcome) [ Accepted ↦ kept (r .draft) store | Refused why ↦ refused why ]
+        ≡ takeWindow line bracket draft store) ⌝ }
+{
+    let plan = draft.plan;
+    if 32 <= plan.windows {
+        return Added {
+            verdict: Verdict::Refused(Refusal::TooMany(bracket)),
+            draft,
+        };
+    }
+    let fuller = with_plan(draft, plan_with_window(plan, line));
+    Added {
+        verdict: Verdict::Accepted,
+        draft: fuller,
+    }
+}
+
+// A domain's 257th op is refused.
+fn take_op(line: OpLine, bracket: usize, draft: Draft, store: &mut [u32; 2048]) -> Added
+    requires { ⌜ line .domain < 8 ⌝ }
+    ensures { λ r. ⌜ elim (r .verdict) as (λ _. Outcome) [ Accepted ↦ kept (r .draft) (now (store .exit)) | Refused why ↦ refused why ]
+        ≡ takeOp line bracket draft (now (store .entry)) ⌝ }
+{
+    let domain = line.domain as usize;
+    let op = line.op;
+    let mut ops = draft.ops;
+    let place = ops[domain];
+    if 256 <= place {
+        return Added {
+            verdict: Verdict::Refused(Refusal::TooMany(bracket)),
+            draft,
+        };
+    }
+    store[256 * domain + place] = stored(op);
+    ops[domain] = place + 1;
+    let plan = draft.plan;
+    let named = draft.named;
+    Added {
+        verdict: Verdict::Accepted,
+        draft: Draft { plan, ops, named },
+    }
+}
+
+// A line is taken up: its form says what it adds.
+pub fn take_line(line: Line, draft: Draft, store: &mut [u32; 2048]) -> Added
+    requires { ⌜ ((domain : DomainLine) → line .form ≡ Domain domain → draft .plan .domains < 8)
+        × ((op : OpLine) → line .form ≡ Op op → op .domain < 8) ⌝ }
+    ensures { λ r. ⌜ elim (r .verdict) as (λ _. Outcome) [ Accepted ↦ kept (r .draft) (now (store .exit)) | Refused why ↦ refused why ]
+        ≡ takeLine line draft (now (store .entry)) ⌝ }
+{
+    let form = line.form;
+    let bracket = line.bracket;
+    let named = line.named;
+    match form {
+        Form::Blank => Added {
+            verdict: Verdict::Accepted,
+            draft,
+        },
+        Form::Pad(ticks) => take_pad(ticks, bracket, draft),
+        Form::Run(times) => take_run(times, bracket, draft),
+        Form::Domain(domain) => take_domain(domain, named, draft),
+        Form::Window(window) => take_window(window, bracket, draft),
+        Form::Op(op) => take_op(op, bracket, draft, store),
+        Form::Refused(refusal) => Added {
+            verdict: Verdict::Refused(refusal),
+            draft,
+        },
+    }
+}

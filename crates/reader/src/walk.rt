@@ -1,0 +1,48 @@
+// The lines of a text, each taken up as it is read.
+use crate::Added;
+use crate::drafting::no_draft;
+use crate::drafting::take_line;
+use crate::lines::line_at;
+use refusal::Verdict;
+ghost use mathlib.Core.Path.{_≡_};
+ghost use lib.ListN.{length};
+ghost use Rattle.refusal.specs.declared.Verdict.the-variants.{Accepted, Refused};
+ghost use Rattle.reader.specs.Draft.{Outcome, kept, noDraft, refused};
+ghost use Rattle.reader.specs.Read.{walkFrom};
+
+pub fn walk(text: &[u8], store: &mut [u32; 2048]) -> Added
+    ensures { λ r. ⌜ elim (r .verdict) as (λ _. Outcome) [ Accepted ↦ kept (r .draft) (now (store .exit)) | Refused why ↦ refused why ]
+        ≡ walkFrom (length (now (text .entry))) (now (text .entry)) 0 noDraft (now (store .entry)) ⌝ }
+{
+    let mut draft = no_draft();
+    let mut at: usize = 0;
+    while at < text.len() {
+        let declared = draft.plan.domains;
+        let named = draft.named;
+        let line = line_at(text, declared, named, at);
+        let added = take_line(line, draft, store);
+        let verdict = added.verdict;
+        if let Verdict::Refused(_) = verdict {
+            return added;
+        }
+        let next = added.draft;
+        draft = next;
+        at = line.end + 1;
+    }
+    Added {
+        verdict: Verdict::Accepted,
+        draft,
+    }
+}
+
+// A store's numbers are handed over, all of them.
+pub fn hand_over(store: &[u32; 2048], scripts: &mut [u32])
+    requires { ⌜ (length (now store) ≡ 2_048) × (length (now scripts) ≡ 2_048) ⌝ }
+    ensures { λ _. ⌜ now (scripts .exit) ≡ now (store .entry) ⌝ }
+{
+    let mut place: usize = 0;
+    while place < 2_048 {
+        scripts[place] = store[place];
+        place += 1;
+    }
+}

@@ -1,0 +1,4 @@
+-- The laws on the printed lines.
+pub mod Limits
+pub mod Places
+pub mod Written

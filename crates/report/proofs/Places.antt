@@ -1,0 +1,44 @@
+-- Where the records lie: within their parts, and the parts within the log. Assumes nothing.
+use Prim.Native.Nat.{ℕ, _+_, _*_, _/_, _≤_, _<_}
+use mathlib.Core.Path.{_≡_}
+use mathlib.Core.Bool.{true, _&&_}
+use native.Mathlib.Nat.{div-mul-le-self, mul-le-mul-left, mul-left-comm, mul-suc}
+use native.Mathlib.Omega.{arith}
+use lib.Dec.{leb}
+use borrow.Author.Tests.{leb-true, lt-ltb}
+use Rattle.plan.specs.declared.Plan.{Plan}
+use Rattle.plan.specs.Sums.{allBelow}
+use Rattle.plan.proofs.Possible.{both}
+use Rattle.plan.proofs.Sums.{all-below}
+use Rattle.machine.specs.declared.State.{State}
+use Rattle.machine.specs.Impossible.{clockPossible, countsPossible, statePossible}
+use Rattle.machine.specs.Records.{partRecords, recordPlace}
+use Rattle.machine.specs.World.{positionAt, recordsAt}
+
+-- a part ends where the next begins, and that is at most the end of the last
+pub part-ends : (quota domain domains : ℕ) → domain < domains → quota * domain + quota ≤ quota * domains
+part-ends quota domain domains below =
+    omega (arith, mul-suc quota domain, mul-le-mul-left quota below)
+
+-- the parts of all declared domains lie within the log
+pub parts-within : (plan : Plan) (long : ℕ) → recordPlace (partRecords plan long) (plan .domains) 0 ≤ long
+unfolding partRecords
+parts-within plan long =
+    let quota = long / (8 * plan .domains) in
+    let scaled : 8 * (quota * plan .domains) ≤ long = rw (mul-left-comm quota 8 (plan .domains)) at (div-mul-le-self long (8 * plan .domains)) in
+    omega arith
+
+-- in a possible state no declared domain has more records than its part holds
+pub records-within :
+    (plan : Plan) (quota : ℕ) (state : State) (domain : ℕ)
+    → statePossible plan quota state ≡ true
+    → domain < plan .domains
+    → domain < 8
+    → recordsAt state domain ≤ quota
+unfolding statePossible countsPossible
+records-within plan quota state domain possible declared below =
+    let counts = both (clockPossible plan state) (allBelow (countsPossible plan quota state) 8) possible .1 in
+    let whole = all-below (countsPossible plan quota state) 8 domain counts below in
+    let own : leb (positionAt state domain) 256 && leb (recordsAt state domain) quota ≡ true =
+    rw (lt-ltb domain (plan .domains) declared) at whole in
+    leb-true _ _ (both (leb (positionAt state domain) 256) (leb (recordsAt state domain) quota) own .1)

@@ -1,0 +1,92 @@
+-- `report::program::run_lines` meets its contract. Assumes nothing.
+use mathlib.Core.Path.{_∙_, _≡_, ap, subst, sym}
+use Prim.Native.Nat.{ℕ}
+use native.Mathlib.Omega.{arith}
+use lib.ListN.{length, length-replicate}
+use lib.Seq.{sets}
+use borrow.Author.Needs.{needs}
+use Rattle.engine.proofs.FreshRuns.{Left, run-left, started-fresh}
+use Rattle.engine.specs.FreshStart.{freshWorld}
+use Rattle.engine.specs.Running.{Run, runCallOf}
+use Rattle.machine.specs.Impossible.{statePossible}
+use Rattle.machine.specs.Records.{partRecords}
+use Rattle.machine.specs.View.{worldWith}
+use Rattle.machine.specs.World.{World}
+use Rattle.report.specs.Planrun.{largestLimit, lentLog, ranLines}
+use Rattle.report.proofs.program.run_lines.Statement.{statement}
+use denote.Ref.{now}
+use Rattle.report.proofs.program.run_lines.Tie as tie
+
+-- the run starts from a fresh start, so it leaves what the definition says
+world-is :
+    (c : tie.After-run)
+    → worldWith (c .run .result .state) (c .run .last .1 .1 .1 .0) (c .run .last .1 .1 .1 .1 .0) (c .run .last .1 .1 .1 .1 .1 .0)
+    ≡ runCallOf (c .before .before .before .before .before .before .before .before .before .before .before .before .args .plan) (now (c .before .before .before .before .before .before .before .before .before .before .before .before .args .scripts)) (freshWorld lentLog) largestLimit .world
+world-is c =
+    ap (λ (r : Run). r .world) (c .run .ensures)
+    ∙ ap (λ (w : World). runCallOf (c .before .before .before .before .before .before .before .before .before .before .before .before .args .plan) (now (c .before .before .before .before .before .before .before .before .before .before .before .before .args .scripts)) w largestLimit .world)
+    (started-fresh _ _ _ _ _ _ lentLog (c .before .before .before .before .before .before .before .before .before .before .before .before .pre) (c .before .before .before .before .before .before .before .fresh-start .ensures))
+
+left-by :
+    (c : tie.After-run)
+    → Left (c .before .before .before .before .before .before .before .before .before .before .before .before .args .plan) lentLog
+    (worldWith (c .run .result .state) (c .run .last .1 .1 .1 .0) (c .run .last .1 .1 .1 .1 .0) (c .run .last .1 .1 .1 .1 .1 .0))
+left-by c =
+    subst (Left (c .before .before .before .before .before .before .before .before .before .before .before .before .args .plan) lentLog) (sym (world-is c)) (run-left (c .before .before .before .before .before .before .before .before .before .before .before .before .args .plan) (now (c .before .before .before .before .before .before .before .before .before .before .before .before .args .scripts)) lentLog largestLimit (c .before .before .before .before .before .before .before .before .before .before .before .before .pre))
+
+slice-aggregate-fresh-start : tie.Need-slice-aggregate-fresh-start
+slice-aggregate-fresh-start c = search needs
+
+slice-aggregate-fresh-start-2 : tie.Need-slice-aggregate-fresh-start-2
+slice-aggregate-fresh-start-2 c = search needs
+
+fresh-start-requires : tie.Need-fresh-start-requires
+fresh-start-requires c κs = search needs
+
+slice-aggregate-run : tie.Need-slice-aggregate-run
+slice-aggregate-run c = search needs
+
+slice-aggregate-run-2 : tie.Need-slice-aggregate-run-2
+slice-aggregate-run-2 c = search needs
+
+slice-aggregate-run-3 : tie.Need-slice-aggregate-run-3
+slice-aggregate-run-3 c = search needs
+
+run-requires : tie.Need-run-requires
+run-requires c κs = search needs
+
+slice-aggregate-write-run : tie.Need-slice-aggregate-write-run
+slice-aggregate-write-run c = search needs
+
+write-run-requires : tie.Need-write-run-requires
+write-run-requires c κs =
+    let left = left-by (c .before .before .before .before .before .before) in (
+      (c .before .before .before .before .before .before .before .before .before .before .before .before .before .before .before .before .before .before .pre),
+      ap (λ (n : ℕ). statePossible (c .before .before .before .before .before .before .before .before .before .before .before .before .before .before .before .before .before .before .args .plan) (partRecords (c .before .before .before .before .before .before .before .before .before .before .before .before .before .before .before .before .before .before .args .plan) n) (c .before .before .before .before .before .before .run .result .state)) (left .long) ∙ left .possible,
+      rw (left .long) (rw length-replicate (omega arith)),
+    )
+
+same-length : tie.Need-same-length
+same-length c = search needs
+
+returns : tie.Need-returns
+unfolding ranLines
+returns c =
+    let lines = ap (λ (w : World). ranLines (c .before .before .before .before .before .before .before .before .before .before .before .before .before .before .before .before .before .before .before .before .before .args .plan) w) (world-is (c .before .before .before .before .before .before .before .before .before)) in
+    (c .before .before .write-run .ensures .0 ∙ ap length lines, c .before .before .write-run .ensures .1 ∙ ap (sets (now (c .before .before .before .before .before .before .before .before .before .before .before .before .before .before .before .before .before .before .before .before .before .args .out)) 0) lines)
+
+pub run-lines-spec : {M : Type 1} → statement M
+run-lines-spec =
+    tie.close
+    (tie.spec
+    slice-aggregate-fresh-start
+    slice-aggregate-fresh-start-2
+    fresh-start-requires
+    slice-aggregate-run
+    slice-aggregate-run-2
+    slice-aggregate-run-3
+    run-requires
+    slice-aggregate-write-run
+    write-run-requires
+    same-length
+    returns)

@@ -1,0 +1,65 @@
+// What the program planrun prints for a plan's text.
+use crate::write_refusal;
+use crate::write_run;
+use engine::running::run;
+use engine::starting::fresh_start;
+use machine::State;
+use plan::Plan;
+use reader::read_plan;
+use refusal::{code_of, Verdict};
+ghost use mathlib.Core.Path.{_≡_};
+ghost use mathlib.Core.Bool.{true};
+ghost use lib.ListN.{length};
+ghost use lib.Seq.{sets};
+ghost use Rattle.plan.specs.Possible.{planPossible};
+ghost use Rattle.engine.specs.FreshStart.{freshWorld};
+ghost use Rattle.engine.specs.Running.{runCallOf};
+ghost use Rattle.report.specs.Planrun.{largestLimit, lentLog, planrunOf, ranLines};
+
+// The lines of an accepted plan, run from a fresh start to its end.
+fn run_lines(plan: Plan, scripts: &[u32], out: &mut [u8]) -> usize
+    requires { ⌜ planPossible plan ≡ true ⌝ }
+    ensures { λ r. ⌜ (r ≡ length (ranLines plan (runCallOf plan (now (scripts .entry)) (freshWorld lentLog) largestLimit .world)))
+        × (now (out .exit) ≡ sets (now (out .entry)) 0 (ranLines plan (runCallOf plan (now (scripts .entry)) (freshWorld lentLog) largestLimit .world))) ⌝ }
+{
+    let mut cache = [0u16; 272];
+    let mut boxes = [0u32; 64];
+    let mut log = [0u8; 16_384];
+    let nothing = State {
+        windows: 0,
+        clock: 0,
+        positions: [0; 8],
+        records: [0; 8],
+    };
+    let started = fresh_start(plan, nothing, &mut cache, &mut boxes);
+    let fresh = started.state;
+    let progress = run(
+        plan,
+        scripts,
+        fresh,
+        &mut cache,
+        &mut boxes,
+        &mut log,
+        18_446_744_073_709_551_615,
+    );
+    let last = progress.state;
+    write_run(plan, last, &log, out)
+}
+
+// The lines for a plan's text: those of its run, or of its refusal.
+pub fn plan_lines(text: &[u8], out: &mut [u8]) -> usize
+    ensures { λ r. ⌜ (r ≡ length (planrunOf (now (text .entry))))
+        × (now (out .exit) ≡ sets (now (out .entry)) 0 (planrunOf (now (text .entry)))) ⌝ }
+{
+    let mut scripts = [0u32; 2_048];
+    let reading = read_plan(text, &mut scripts);
+    let plan = reading.plan;
+    let verdict = reading.verdict;
+    match verdict {
+        Verdict::Refused(refusal) => {
+            let code = code_of(Verdict::Refused(refusal));
+            write_refusal(code, out)
+        }
+        Verdict::Accepted => run_lines(plan, &scripts, out),
+    }
+}
