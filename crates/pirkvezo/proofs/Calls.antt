@@ -11,14 +11,16 @@ use Rattle.plan.specs.declared.Plan.{Plan}
 use Rattle.machine.specs.declared.State.{State}
 use Rattle.machine.specs.View.{worldWith}
 use Rattle.refusal.specs.declared.Verdict.{Verdict}
+use Rattle.reader.specs.Read.{readOf}
 use Rattle.engine.specs.declared.Ending.{Ending}
 use Rattle.engine.specs.Answers.{answered, freshWith as engineFresh}
 use Rattle.engine.specs.FreshStart.{Fresh, freshStartOf}
 use Rattle.engine.specs.Running.{Run, endingNumber, runCallOf}
 use Rattle.pirkvezo.specs.declared.Asked.{Asked}
-use Rattle.pirkvezo.specs.Answers.{allFit, answerOf, numberOf, wrongLength}
+use Rattle.pirkvezo.specs.Answers.{allFit, answerOf, numberOf, planFits, wrongLength}
 use Rattle.pirkvezo.specs.Asking.{askedOf, hostLog, logDone, logWith}
-use Rattle.pirkvezo.specs.Numbers.{handedPlan, planOf, stateNumbers, stateOf}
+use Rattle.pirkvezo.specs.Numbers.{handedPlan, planNumbers, planOf, stateNumbers, stateOf}
+use Rattle.pirkvezo.specs.Reading.{hostRead, readDone, readWith}
 use Rattle.pirkvezo.specs.Running.{hostRun, runDone, runWith}
 use Rattle.pirkvezo.specs.Starting.{freshDone, freshWith, hostFreshStart}
 use Rattle.pirkvezo.proofs.Judged.{asked-alike, fresh-alike, handed, run-alike}
@@ -46,6 +48,32 @@ lengths plan state answer fit =
     let first = and-eq-true-iff (eqb (length plan) 92) _ .0 fit in
     let second = and-eq-true-iff (eqb (length state) 18) _ .0 (first .1) in
     record { plan-is = eqb-true _ _ (first .0); state-is = eqb-true _ _ (second .0); answer-is = eqb-true _ _ (second .1) }
+
+pub read-lengths : (plan answer : List ℕ) → planFits plan answer ≡ true → (length plan ≡ 92) × (length answer ≡ 4)
+read-lengths plan answer fit =
+    let both = and-eq-true-iff (eqb (length plan) 92) _ .0 fit in
+    (eqb-true _ _ (both .0), eqb-true _ _ (both .1))
+
+-- ---- a reading
+
+module _ (text scripts plan answer : List ℕ) (number : ℕ) (written : List ℕ) where
+  pub read-unfit :
+      planFits plan answer ≡ false
+      → Told wrongLength 0 0 answer number written
+      → readWith number scripts plan written ≡ hostRead text scripts plan answer
+  unfolding hostRead
+  read-unfit unfit tells = rw (unfit, hostRead, tells .number-is, tells .answer-is) refl
+
+  pub read-fit :
+      (verdict : Verdict) (given : Plan) (filled stored : List ℕ)
+      → planFits plan answer ≡ true
+      → (verdict ≡ readOf text scripts .verdict) × (given ≡ readOf text scripts .plan) × (filled ≡ readOf text scripts .scripts)
+      → stored ≡ planNumbers given
+      → Told verdict 0 0 answer number written
+      → readWith number filled stored written ≡ hostRead text scripts plan answer
+  unfolding hostRead readDone
+  read-fit verdict given filled stored fit did stores tells =
+      rw (fit, hostRead, tells .number-is, tells .answer-is, stores, did .0, did .1, did .2) refl
 
 -- ---- a fresh start
 

@@ -7,3 +7,5 @@ pub mod Askings
 pub mod Judged
 pub mod Calls
 pub mod Kept
+pub mod ReadBack
+pub mod StateBack

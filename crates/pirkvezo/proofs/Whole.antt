@@ -35,11 +35,16 @@ pub plan-kept : (numbers : List ℕ) → length numbers ≡ 92 → planNumbers (
 unfolding planNumbers planOf numbersFrom
 plan-kept numbers long = run-all numbers 92 long
 
--- a state whose two arrays have their lengths comes back from its numbers
-pub state-again : (state : State) → length (state .positions) ≡ 8 → length (state .records) ≡ 8 → stateOf (stateNumbers state) ≡ state
+-- the arrays of a state have their lengths
+pub record StateLengths (state : State) : Type 0 where
+  pub positions : length (state .positions) ≡ 8
+  pub records : length (state .records) ≡ 8
+
+-- such a state comes back from its numbers
+pub state-again : (state : State) → StateLengths state → stateOf (stateNumbers state) ≡ state
 unfolding stateNumbers stateOf numbersFrom
-state-again state positions records =
-    rw (run-all (state .positions) 8 positions, run-all (state .records) 8 records) refl
+state-again state long =
+    rw (run-all (state .positions) 8 (long .positions), run-all (state .records) 8 (long .records)) refl
 
 -- the arrays of a plan have their lengths
 pub record PlanLengths (plan : Plan) : Type 0 where

@@ -2,6 +2,7 @@
 pub mod answers;
 pub mod asking;
 pub mod plans;
+pub mod reading;
 pub mod running;
 pub mod starting;
 pub mod states;
