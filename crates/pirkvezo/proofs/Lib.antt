@@ -1,4 +1,4 @@
--- The laws of lent numbers, and of plans that are judged alike.
+-- The laws of the library: lent numbers, answers, plans that are judged alike, and what each call leaves.
 pub mod Runs
 pub mod Whole
 pub mod Written

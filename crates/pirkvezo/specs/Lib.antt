@@ -1,3 +1,4 @@
+-- What the library's functions take, answer and leave.
 pub mod Numbers
 pub mod Answers
 pub mod Reading
