@@ -1,0 +1,159 @@
+-- What each exported call leaves, from what its parts give: the plan that is handed on, the state, the engine's call, what is stored and what is
+-- answered. Assumes nothing.
+use mathlib.Core.Path.{_≡_, refl, ap, _∙_}
+use mathlib.Core.Bool.{true, false, and-eq-true-iff}
+use mathlib.Core.List.{List}
+use Prim.Native.Nat.{ℕ}
+use lib.Dec.{eqb}
+use lib.ListN.{length}
+use borrow.Author.Tests.{eqb-true}
+use Rattle.plan.specs.declared.Plan.{Plan}
+use Rattle.machine.specs.declared.State.{State}
+use Rattle.machine.specs.View.{worldWith}
+use Rattle.refusal.specs.declared.Verdict.{Verdict}
+use Rattle.reader.specs.Read.{readOf}
+use Rattle.engine.specs.declared.Ending.{Ending}
+use Rattle.engine.specs.Answers.{answered, freshWith as engineFresh}
+use Rattle.engine.specs.FreshStart.{Fresh, freshStartOf}
+use Rattle.engine.specs.Running.{Run, endingNumber, runCallOf}
+use Rattle.pirkvezo.specs.declared.Asked.{Asked}
+use Rattle.pirkvezo.specs.Answers.{allFit, answerOf, numberOf, planFits, wrongLength}
+use Rattle.pirkvezo.specs.Asking.{askedOf, hostLog, logDone, logWith}
+use Rattle.pirkvezo.specs.Numbers.{handedPlan, planNumbers, planOf, stateNumbers, stateOf}
+use Rattle.pirkvezo.specs.Reading.{hostRead, readDone, readWith}
+use Rattle.pirkvezo.specs.Running.{hostRun, runDone, runWith}
+use Rattle.pirkvezo.specs.Starting.{freshDone, freshWith, hostFreshStart}
+use Rattle.pirkvezo.proofs.Judged.{asked-alike, fresh-alike, handed, run-alike}
+
+-- the number that is returned, and the answer that is written
+pub record Told (verdict : Verdict) (third fourth : ℕ) (answer : List ℕ) (number : ℕ) (written : List ℕ) : Type 0 where
+  pub number-is : number ≡ numberOf verdict
+  pub answer-is : written ≡ answerOf verdict third fourth answer
+
+pub told :
+    {verdict : Verdict} {third fourth : ℕ} {answer : List ℕ} {number : ℕ} {written : List ℕ}
+    → (number ≡ numberOf verdict) × (written ≡ answerOf verdict third fourth answer)
+    → Told verdict third fourth answer number written
+told both = record { number-is = both .0; answer-is = both .1 }
+
+-- ---- the lengths
+
+pub record Lengths (plan state answer : List ℕ) : Type 0 where
+  pub plan-is : length plan ≡ 92
+  pub state-is : length state ≡ 18
+  pub answer-is : length answer ≡ 4
+
+pub lengths : (plan state answer : List ℕ) → allFit plan state answer ≡ true → Lengths plan state answer
+lengths plan state answer fit =
+    let first = and-eq-true-iff (eqb (length plan) 92) _ .0 fit in
+    let second = and-eq-true-iff (eqb (length state) 18) _ .0 (first .1) in
+    record { plan-is = eqb-true _ _ (first .0); state-is = eqb-true _ _ (second .0); answer-is = eqb-true _ _ (second .1) }
+
+pub read-lengths : (plan answer : List ℕ) → planFits plan answer ≡ true → (length plan ≡ 92) × (length answer ≡ 4)
+read-lengths plan answer fit =
+    let both = and-eq-true-iff (eqb (length plan) 92) _ .0 fit in
+    (eqb-true _ _ (both .0), eqb-true _ _ (both .1))
+
+-- ---- a reading
+
+module _ (text scripts plan answer : List ℕ) (number : ℕ) (written : List ℕ) where
+  pub read-unfit :
+      planFits plan answer ≡ false
+      → Told wrongLength 0 0 answer number written
+      → readWith number scripts plan written ≡ hostRead text scripts plan answer
+  unfolding hostRead
+  read-unfit unfit tells = rw (unfit, hostRead, tells .number-is, tells .answer-is) refl
+
+  pub read-fit :
+      (verdict : Verdict) (given : Plan) (filled stored : List ℕ)
+      → planFits plan answer ≡ true
+      → (verdict ≡ readOf text scripts .verdict) × (given ≡ readOf text scripts .plan) × (filled ≡ readOf text scripts .scripts)
+      → stored ≡ planNumbers given
+      → Told verdict 0 0 answer number written
+      → readWith number filled stored written ≡ hostRead text scripts plan answer
+  unfolding hostRead readDone
+  read-fit verdict given filled stored fit did stores tells =
+      rw (fit, hostRead, tells .number-is, tells .answer-is, stores, did .0, did .1, did .2) refl
+
+-- ---- a fresh start
+
+module _ (plan state cache boxes answer : List ℕ) (number : ℕ) (written : List ℕ) where
+  pub fresh-unfit :
+      allFit plan state answer ≡ false
+      → Told wrongLength 0 0 answer number written
+      → freshWith number state cache boxes written ≡ hostFreshStart plan state cache boxes answer
+  unfolding hostFreshStart
+  fresh-unfit unfit tells = rw (unfit, hostFreshStart, tells .number-is, tells .answer-is) refl
+
+  pub fresh-fit :
+      (lent : Plan) (before left : State) (verdict : Verdict) (stored emptied cleared : List ℕ)
+      → allFit plan state answer ≡ true
+      → lent ≡ handedPlan plan
+      → before ≡ stateOf state
+      → engineFresh verdict left emptied cleared ≡ freshStartOf lent before cache boxes
+      → stored ≡ stateNumbers left
+      → Told verdict 0 0 answer number written
+      → freshWith number stored emptied cleared written ≡ hostFreshStart plan state cache boxes answer
+  unfolding hostFreshStart freshDone
+  fresh-fit lent before left verdict stored emptied cleared fit planned stated did stores tells =
+      let done : engineFresh verdict left emptied cleared ≡ freshStartOf (planOf plan) (stateOf state) cache boxes =
+      did
+      ∙ ap (λ (p : Plan). freshStartOf p before cache boxes) planned
+      ∙ ap (λ (s : State). freshStartOf (handedPlan plan) s cache boxes) stated
+      ∙ handed (λ p. freshStartOf p (stateOf state) cache boxes) (fresh-alike (stateOf state) cache boxes) plan in
+      rw (fit, hostFreshStart, tells .number-is, tells .answer-is, stores) (ap (λ (fresh : Fresh). freshDone fresh answer) done)
+
+-- ---- a run
+
+module _ (plan scripts state cache boxes log : List ℕ) (limit : ℕ) (answer : List ℕ) (number : ℕ) (written : List ℕ) where
+  pub run-unfit :
+      allFit plan state answer ≡ false
+      → Told wrongLength 0 0 answer number written
+      → runWith number state cache boxes log written ≡ hostRun plan scripts state cache boxes log limit answer
+  unfolding hostRun
+  run-unfit unfit tells = rw (unfit, hostRun, tells .number-is, tells .answer-is) refl
+
+  pub run-fit :
+      (lent : Plan) (before left : State) (verdict : Verdict) (steps ended : ℕ) (ending : Ending) (stored cache′ boxes′ log′ : List ℕ)
+      → allFit plan state answer ≡ true
+      → lent ≡ handedPlan plan
+      → before ≡ stateOf state
+      → answered verdict steps ending (worldWith left cache′ boxes′ log′) ≡ runCallOf lent scripts (worldWith before cache boxes log) limit
+      → ended ≡ endingNumber ending
+      → stored ≡ stateNumbers left
+      → Told verdict steps ended answer number written
+      → runWith number stored cache′ boxes′ log′ written ≡ hostRun plan scripts state cache boxes log limit answer
+  unfolding hostRun runDone
+  run-fit lent before left verdict steps ended ending stored cache′ boxes′ log′ fit planned stated did ends stores tells =
+      let done : answered verdict steps ending (worldWith left cache′ boxes′ log′)
+      ≡ runCallOf (planOf plan) scripts (worldWith (stateOf state) cache boxes log) limit =
+      did
+      ∙ ap (λ (p : Plan). runCallOf p scripts (worldWith before cache boxes log) limit) planned
+      ∙ ap (λ (s : State). runCallOf (handedPlan plan) scripts (worldWith s cache boxes log) limit) stated
+      ∙ handed (λ p. runCallOf p scripts (worldWith (stateOf state) cache boxes log) limit)
+      (run-alike scripts (worldWith (stateOf state) cache boxes log) limit) plan in
+      rw (fit, hostRun, tells .number-is, tells .answer-is, stores, ends) (ap (λ (run : Run). runDone run answer) done)
+
+-- ---- an asking
+
+module _ (plan state log : List ℕ) (domain : ℕ) (answer : List ℕ) (number : ℕ) (written : List ℕ) where
+  pub log-unfit : allFit plan state answer ≡ false → Told wrongLength 0 0 answer number written → logWith number written ≡ hostLog plan state log domain answer
+  unfolding hostLog
+  log-unfit unfit tells = rw (unfit, hostLog, tells .number-is, tells .answer-is) refl
+
+  pub log-fit :
+      (lent : Plan) (held : State) (asked : Asked)
+      → allFit plan state answer ≡ true
+      → lent ≡ handedPlan plan
+      → held ≡ stateOf state
+      → asked ≡ askedOf lent held log domain
+      → Told (asked .verdict) (asked .place) (asked .length) answer number written
+      → logWith number written ≡ hostLog plan state log domain answer
+  unfolding hostLog logDone
+  log-fit lent held asked fit planned stated asks tells =
+      let done : asked ≡ askedOf (planOf plan) (stateOf state) log domain =
+      asks
+      ∙ ap (λ (p : Plan). askedOf p held log domain) planned
+      ∙ ap (λ (s : State). askedOf (handedPlan plan) s log domain) stated
+      ∙ handed (λ p. askedOf p (stateOf state) log domain) (asked-alike (stateOf state) log domain) plan in
+      rw (fit, hostLog, tells .number-is, tells .answer-is) (ap (λ (answered : Asked). logDone answered answer) done)

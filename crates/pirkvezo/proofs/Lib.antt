@@ -1,0 +1,11 @@
+-- The laws of the library: lent numbers, answers, plans that are judged alike, and what each call leaves.
+pub mod Runs
+pub mod Whole
+pub mod Written
+pub mod Answered
+pub mod Askings
+pub mod Judged
+pub mod Calls
+pub mod Kept
+pub mod ReadBack
+pub mod StateBack

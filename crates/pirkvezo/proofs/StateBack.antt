@@ -1,0 +1,100 @@
+-- The state that a host lends to its next call is the state that the last one left: a lent state's arrays have their lengths, and every step
+-- keeps them. Assumes nothing.
+use mathlib.Core.Path.{_≡_, refl}
+use mathlib.Core.Bool.{Bool, true, false}
+use mathlib.Core.List.{List}
+use Prim.Native.Nat.{ℕ, zero, suc}
+use lib.ListN.{length, length-set}
+use Rattle.plan.specs.declared.Plan.{Plan}
+use Rattle.script.specs.declared.Fetched.{Fetched}
+use Rattle.script.specs.declared.Fetched.the-variants.{Op as Fetch, End}
+use Rattle.machine.specs.declared.State.{State}
+use Rattle.machine.specs.Records.{partRecords}
+use Rattle.machine.specs.Steps.{Ran, activeStep, closedOf, fetchedStep, nextOf, oneMore, opStepOf, runOf}
+use Rattle.machine.specs.Switch.{switchOf}
+use Rattle.machine.specs.View.{worldWith}
+use Rattle.machine.specs.World.{World, endedOf, freshState}
+use Rattle.refusal.specs.declared.Verdict.{Verdict}
+use Rattle.refusal.specs.declared.Verdict.the-variants.{Accepted, Refused}
+use Rattle.engine.specs.Checks.{freshVerdict, runVerdict}
+use Rattle.engine.specs.FreshStart.{freshFrom, freshStartOf}
+use Rattle.engine.specs.Running.{ranFrom, runCallOf, runFrom}
+use Rattle.pirkvezo.specs.Numbers.{planOf, stateNumbers, stateOf}
+use Rattle.pirkvezo.proofs.Runs.{run-length}
+use Rattle.pirkvezo.proofs.Whole.{StateLengths, state-again}
+
+lent-long : (numbers : List ℕ) → StateLengths (stateOf numbers)
+unfolding stateOf
+lent-long numbers = record { positions = run-length numbers 2 8; records = run-length numbers 10 8 }
+
+-- ---- a fresh start
+
+fresh-long : (verdict : Verdict) (state : State) (cache boxes : List ℕ) → StateLengths state → StateLengths (freshFrom verdict state cache boxes .state)
+unfolding freshState
+fresh-long Accepted state cache boxes long = record { positions = refl; records = refl }
+fresh-long (Refused refusal) state cache boxes long = long
+
+pub fresh-back :
+    (plan state cache boxes : List ℕ)
+    → stateOf (stateNumbers (freshStartOf (planOf plan) (stateOf state) cache boxes .state)) ≡ freshStartOf (planOf plan) (stateOf state) cache boxes .state
+unfolding freshStartOf
+fresh-back plan state cache boxes = state-again _ (fresh-long (freshVerdict (planOf plan) cache boxes) (stateOf state) cache boxes (lent-long state))
+
+-- ---- a run
+
+abbrev Long : World → Type 0
+Long world = StateLengths (world .state)
+
+module _ (plan : Plan) (scripts : List ℕ) (quota : ℕ) where
+  switch-long : (world : World) → Long world → Long (switchOf plan world)
+  unfolding switchOf
+  switch-long world long = record { positions = long .positions; records = long .records }
+
+  fetched-long : (fetched : Fetched) (world : World) → Long world → Long (fetchedStep plan quota fetched world)
+  unfolding fetchedStep opStepOf
+  fetched-long (Fetch op) world long =
+      record { positions = simp length-set (long .positions); records = simp length-set (long .records) }
+  fetched-long End world long = switch-long world long
+
+  active-long : (world : World) → Long world → Long (activeStep plan scripts quota world)
+  unfolding activeStep
+  active-long world long = go (closedOf plan quota (world .state))
+    where
+      go :
+          (closed : Bool)
+          → Long (elim closed as (λ _. World) [
+            | true ↦ switchOf plan world
+            | false ↦ fetchedStep plan quota (nextOf plan scripts (world .state)) world
+          ])
+      go true = switch-long world long
+      go false = fetched-long (nextOf plan scripts (world .state)) world long
+
+  run-long : (limit : ℕ) (world : World) → Long world → Long (runOf plan scripts quota limit world .world)
+  unfolding runOf
+  run-long zero world long = long
+  run-long (suc limit) world long = go (endedOf plan (world .state)) (run-long limit (activeStep plan scripts quota world) (active-long world long))
+    where
+      go :
+          (ended : Bool)
+          → Long (runOf plan scripts quota limit (activeStep plan scripts quota world) .world)
+          → Long ((elim ended as (λ _. Ran) [
+            | true ↦ record { done = 0; world = world }
+            | false ↦ oneMore (runOf plan scripts quota limit (activeStep plan scripts quota world))
+          ]) .world)
+      go true rest = long
+      go false rest = rest
+
+call-long :
+    (verdict : Verdict) (plan : Plan) (scripts : List ℕ) (world : World) (limit : ℕ) → Long world → Long (runFrom verdict plan scripts world limit .world)
+unfolding ranFrom
+call-long Accepted plan scripts world limit long = run-long plan scripts (partRecords plan (length (world .log))) limit world long
+call-long (Refused refusal) plan scripts world limit long = long
+
+pub run-back :
+    (plan scripts state cache boxes log : List ℕ) (limit : ℕ)
+    → stateOf (stateNumbers (runCallOf (planOf plan) scripts (worldWith (stateOf state) cache boxes log) limit .world .state))
+    ≡ runCallOf (planOf plan) scripts (worldWith (stateOf state) cache boxes log) limit .world .state
+unfolding runCallOf
+run-back plan scripts state cache boxes log limit =
+    let world : World = worldWith (stateOf state) cache boxes log in
+    state-again _ (call-long (runVerdict (planOf plan) scripts world) (planOf plan) scripts world limit (lent-long state))

@@ -1,0 +1,67 @@
+-- Lent numbers and what they stand for: one undoes the other. Assumes nothing.
+use mathlib.Core.Path.{_≡_, refl, sym, ap, _∙_}
+use mathlib.Core.List.{List, [], _∷_}
+use Prim.Native.Nat.{ℕ, zero, suc, _+_, _-_, _≤_}
+use native.Mathlib.Omega.{arith}
+use lib.ListN.{getD, length}
+use lib.Seq.{take-all}
+use Rattle.lists.specs.Part.{part}
+use Rattle.lists.proofs.Parts.{part-next}
+use Rattle.plan.specs.declared.Plan.{Plan}
+use Rattle.machine.specs.declared.State.{State}
+use Rattle.pirkvezo.specs.Numbers.{numbersFrom, planNumbers, planOf, stateNumbers, stateOf}
+
+-- a run within a list is a part of it
+pub run-part : (list : List ℕ) (first count : ℕ) → first + count ≤ length list → numbersFrom list first count ≡ part first count list
+unfolding numbersFrom part
+run-part list first zero fits = refl
+run-part list first (suc count) fits =
+    let fewer : suc count - 1 ≡ count = omega arith in
+    ap (λ (rest : List ℕ). getD list first 0 ∷ rest) (run-part list (first + 1) count (omega arith))
+    ∙ sym (part-next first (suc count) list (omega arith) (omega arith) ∙ ap (λ (n : ℕ). getD list first 0 ∷ part (first + 1) n list) fewer)
+
+-- all the numbers of a list are the list
+pub run-all : (list : List ℕ) (count : ℕ) → length list ≡ count → numbersFrom list 0 count ≡ list
+unfolding part
+run-all list count long = run-part list 0 count (omega arith) ∙ take-all count list (omega arith)
+
+-- numbers of a state's length come back as they were lent
+pub state-kept : (numbers : List ℕ) → length numbers ≡ 18 → stateNumbers (stateOf numbers) ≡ numbers
+unfolding stateNumbers stateOf numbersFrom
+state-kept numbers long = run-all numbers 18 long
+
+-- so do those of a plan's
+pub plan-kept : (numbers : List ℕ) → length numbers ≡ 92 → planNumbers (planOf numbers) ≡ numbers
+unfolding planNumbers planOf numbersFrom
+plan-kept numbers long = run-all numbers 92 long
+
+-- the arrays of a state have their lengths
+pub record StateLengths (state : State) : Type 0 where
+  pub positions : length (state .positions) ≡ 8
+  pub records : length (state .records) ≡ 8
+
+-- such a state comes back from its numbers
+pub state-again : (state : State) → StateLengths state → stateOf (stateNumbers state) ≡ state
+unfolding stateNumbers stateOf numbersFrom
+state-again state long =
+    rw (run-all (state .positions) 8 (long .positions), run-all (state .records) 8 (long .records)) refl
+
+-- the arrays of a plan have their lengths
+pub record PlanLengths (plan : Plan) : Type 0 where
+  pub shares : length (plan .shares) ≡ 8
+  pub rights : length (plan .rights) ≡ 8
+  pub owners : length (plan .owners) ≡ 32
+  pub lengths : length (plan .lengths) ≡ 32
+  pub masks : length (plan .masks) ≡ 8
+
+-- such a plan comes back from its numbers
+pub plan-again : (plan : Plan) → PlanLengths plan → planOf (planNumbers plan) ≡ plan
+unfolding planNumbers planOf numbersFrom
+plan-again plan long =
+    rw (
+      run-all (plan .shares) 8 (long .shares),
+      run-all (plan .rights) 8 (long .rights),
+      run-all (plan .owners) 32 (long .owners),
+      run-all (plan .lengths) 32 (long .lengths),
+      run-all (plan .masks) 8 (long .masks),
+    ) refl

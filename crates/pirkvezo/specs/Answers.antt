@@ -1,0 +1,40 @@
+-- The four numbers of an answer, and what a call does that was lent a plan, a state or an answer of another length. Assumes nothing.
+use Prim.Native.Nat.{ℕ}
+use mathlib.Core.Bool.{Bool, cond, _&&_}
+use mathlib.Core.List.{List, [], _∷_}
+use lib.Dec.{eqb}
+use lib.ListN.{length}
+use Rattle.refusal.specs.declared.Code.{Code}
+use Rattle.refusal.specs.declared.Refusal.the-variants.{WrongLength}
+use Rattle.refusal.specs.declared.Verdict.{Verdict}
+use Rattle.refusal.specs.declared.Verdict.the-variants.{Refused}
+use Rattle.refusal.specs.Code.{codeOf}
+use Rattle.pirkvezo.specs.Numbers.{planLength, stateLength}
+
+-- how many numbers an answer is
+abbrev pub answerLength : ℕ
+answerLength = 4
+
+-- what a call returns: the refusal's number, 0 where nothing is refused
+abbrev pub numberOf : Verdict → ℕ
+numberOf verdict = codeOf verdict .number
+
+-- the number, its companion, and two numbers of the call's own
+abbrev pub answerNumbers : Code → ℕ → ℕ → List ℕ
+answerNumbers code third fourth = code .number ∷ code .companion ∷ third ∷ fourth ∷ []
+
+-- the lent answer at exit; one of another length stays as it is
+unfoldable pub answerOf : Verdict → ℕ → ℕ → List ℕ → List ℕ
+answerOf verdict third fourth answer =
+    cond (eqb (length answer) answerLength) (answerNumbers (codeOf verdict) third fourth) answer
+
+-- 11, of a plan, a state or an answer
+abbrev pub wrongLength : Verdict
+wrongLength = Refused WrongLength
+
+-- what each call asks of the lengths, before all else
+abbrev pub planFits : List ℕ → List ℕ → Bool
+planFits plan answer = eqb (length plan) planLength && eqb (length answer) answerLength
+
+abbrev pub allFit : List ℕ → List ℕ → List ℕ → Bool
+allFit plan state answer = eqb (length plan) planLength && (eqb (length state) stateLength && eqb (length answer) answerLength)

@@ -1,0 +1,47 @@
+-- `pirkvezo_log`: what it returns and leaves, for every input. Assumes nothing.
+use Prim.Native.Nat.{ℕ}
+use mathlib.Core.Bool.{true, false}
+use mathlib.Core.List.{List}
+use lib.ListN.{length}
+use Rattle.plan.specs.declared.Plan.{Plan}
+use Rattle.machine.specs.declared.State.{State}
+use Rattle.machine.specs.Records.{partRecords, recordPlace}
+use Rattle.refusal.specs.declared.Verdict.{Verdict}
+use Rattle.refusal.specs.declared.Verdict.the-variants.{Accepted, Refused}
+use Rattle.engine.specs.Asking.{logCallOf, logRefusalOf}
+use Rattle.pirkvezo.specs.declared.Asked.{Asked}
+use Rattle.pirkvezo.specs.Answers.{allFit, answerOf, numberOf, wrongLength}
+use Rattle.pirkvezo.specs.Numbers.{planOf, stateOf}
+
+pub record LogCall : Type 0 where
+  pub number : ℕ
+  pub answer : List ℕ
+
+-- an answer with the lent thing at exit
+abbrev pub logWith : ℕ → List ℕ → LogCall
+logWith number answer = record { number = number; answer = answer }
+
+-- where a domain's log begins within the lent log; 0 where the asking is refused
+abbrev pub logPlace : Verdict → Plan → ℕ → ℕ → ℕ
+logPlace Accepted plan logLength domain = recordPlace (partRecords plan logLength) domain 0
+logPlace (Refused refusal) plan logLength domain = 0
+
+-- an asking: its verdict, the place of the log's first byte, and how many bytes the log has
+unfoldable pub askedOf : Plan → State → List ℕ → ℕ → Asked
+askedOf plan state log domain =
+    record {
+      verdict = logRefusalOf plan state log domain;
+      place = logPlace (logRefusalOf plan state log domain) plan (length log) domain;
+      length = length (logCallOf plan state log domain);
+    }
+
+-- these two are an answer's third and fourth number
+unfoldable pub logDone : Asked → List ℕ → LogCall
+logDone asked answer = logWith (numberOf (asked .verdict)) (answerOf (asked .verdict) (asked .place) (asked .length) answer)
+
+unfoldable pub hostLog : List ℕ → List ℕ → List ℕ → ℕ → List ℕ → LogCall
+hostLog plan state log domain answer =
+    elim (allFit plan state answer) [
+      | false ↦ logWith (numberOf wrongLength) (answerOf wrongLength 0 0 answer)
+      | true ↦ logDone (askedOf (planOf plan) (stateOf state) log domain) answer
+    ]

@@ -1,0 +1,29 @@
+-- `pirkvezo_read_plan`: what it returns and leaves, for every input. Assumes nothing.
+use Prim.Native.Nat.{ℕ}
+use mathlib.Core.Bool.{true, false}
+use mathlib.Core.List.{List}
+use Rattle.reader.specs.Read.{Read, readOf}
+use Rattle.pirkvezo.specs.Answers.{answerOf, numberOf, planFits, wrongLength}
+use Rattle.pirkvezo.specs.Numbers.{planNumbers}
+
+pub record ReadCall : Type 0 where
+  pub number : ℕ
+  pub scripts : List ℕ
+  pub plan : List ℕ
+  pub answer : List ℕ
+
+-- an answer with the lent things at exit
+abbrev pub readWith : ℕ → List ℕ → List ℕ → List ℕ → ReadCall
+readWith number scripts plan answer = record { number = number; scripts = scripts; plan = plan; answer = answer }
+
+-- the plan that is read, in numbers; all zeros beside a refused reading
+unfoldable pub readDone : Read → List ℕ → ReadCall
+readDone read answer =
+    readWith (numberOf (read .verdict)) (read .scripts) (planNumbers (read .plan)) (answerOf (read .verdict) 0 0 answer)
+
+unfoldable pub hostRead : List ℕ → List ℕ → List ℕ → List ℕ → ReadCall
+hostRead text scripts plan answer =
+    elim (planFits plan answer) [
+      | false ↦ readWith (numberOf wrongLength) scripts plan (answerOf wrongLength 0 0 answer)
+      | true ↦ readDone (readOf text scripts) answer
+    ]

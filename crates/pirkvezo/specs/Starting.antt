@@ -1,0 +1,29 @@
+-- `pirkvezo_fresh_start`: what it returns and leaves, for every input. Assumes nothing.
+use Prim.Native.Nat.{ℕ}
+use mathlib.Core.Bool.{true, false}
+use mathlib.Core.List.{List}
+use Rattle.engine.specs.FreshStart.{Fresh, freshStartOf}
+use Rattle.pirkvezo.specs.Answers.{allFit, answerOf, numberOf, wrongLength}
+use Rattle.pirkvezo.specs.Numbers.{planOf, stateNumbers, stateOf}
+
+pub record FreshCall : Type 0 where
+  pub number : ℕ
+  pub state : List ℕ
+  pub cache : List ℕ
+  pub boxes : List ℕ
+  pub answer : List ℕ
+
+-- an answer with the lent things at exit
+abbrev pub freshWith : ℕ → List ℕ → List ℕ → List ℕ → List ℕ → FreshCall
+freshWith number state cache boxes answer = record { number = number; state = state; cache = cache; boxes = boxes; answer = answer }
+
+unfoldable pub freshDone : Fresh → List ℕ → FreshCall
+freshDone fresh answer =
+    freshWith (numberOf (fresh .verdict)) (stateNumbers (fresh .state)) (fresh .cache) (fresh .boxes) (answerOf (fresh .verdict) 0 0 answer)
+
+unfoldable pub hostFreshStart : List ℕ → List ℕ → List ℕ → List ℕ → List ℕ → FreshCall
+hostFreshStart plan state cache boxes answer =
+    elim (allFit plan state answer) [
+      | false ↦ freshWith (numberOf wrongLength) state cache boxes (answerOf wrongLength 0 0 answer)
+      | true ↦ freshDone (freshStartOf (planOf plan) (stateOf state) cache boxes) answer
+    ]

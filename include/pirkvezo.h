@@ -1,0 +1,75 @@
+/* Pirkvezo: reads a plan of domains, cache shares, windows and padded switches, and runs it tick by tick.
+ *
+ * Every function is total and proved to meet its contract for every input: it returns 0, or the number of the refusal
+ * that docs/HOST.md lists. It keeps nothing between calls: all that it works on is lent by the caller, each array as a
+ * pointer and a number of elements. The caller sees to it that
+ *   - each pointer points to that many elements, aligned as C aligns the type (of an empty array it is still not null);
+ *   - no array that a call may write overlaps another that it is lent;
+ *   - nothing else reads or writes a lent array during the call, but that several calls may read the same one.
+ */
+#ifndef PIRKVEZO_H
+#define PIRKVEZO_H
+
+#include <stddef.h>
+#include <stdint.h>
+
+#ifdef __cplusplus
+extern "C" {
+#endif
+
+/* How many elements the lent arrays have. A text and a log have any length. */
+#define PIRKVEZO_PLAN 92
+#define PIRKVEZO_STATE 18
+#define PIRKVEZO_ANSWER 4
+#define PIRKVEZO_SCRIPTS 2048
+#define PIRKVEZO_CACHE 272
+#define PIRKVEZO_BOXES 64
+
+/* Reads a plan text. Accepted: the scripts and the plan are written, and 0 is returned. Refused: the scripts stay, and
+ * the plan is all zeros. answer: number, companion, 0, 0. */
+uint32_t pirkvezo_read_plan(const uint8_t *text, size_t text_length,
+                            uint32_t *scripts, size_t scripts_length,
+                            uint32_t *plan, size_t plan_length,
+                            uint64_t *answer, size_t answer_length);
+
+/* A fresh start under a plan: state, cache table and boxes are zeroed, whatever they held. Refused: they stay.
+ * answer: number, companion, 0, 0. */
+uint32_t pirkvezo_fresh_start(const uint32_t *plan, size_t plan_length,
+                              uint64_t *state, size_t state_length,
+                              uint16_t *cache, size_t cache_length,
+                              uint32_t *boxes, size_t boxes_length,
+                              uint64_t *answer, size_t answer_length);
+
+/* One step, an op or a switch: the same as pirkvezo_run with limit 1. */
+uint32_t pirkvezo_step(const uint32_t *plan, size_t plan_length,
+                       const uint32_t *scripts, size_t scripts_length,
+                       uint64_t *state, size_t state_length,
+                       uint16_t *cache, size_t cache_length,
+                       uint32_t *boxes, size_t boxes_length,
+                       uint8_t *log, size_t log_length,
+                       uint64_t *answer, size_t answer_length);
+
+/* At most `limit` steps. State, cache table, boxes and log are rewritten; refused, they stay.
+ * answer: number, companion, the steps done, and 1 where the run has ended, 0 where the limit came first. */
+uint32_t pirkvezo_run(const uint32_t *plan, size_t plan_length,
+                      const uint32_t *scripts, size_t scripts_length,
+                      uint64_t *state, size_t state_length,
+                      uint16_t *cache, size_t cache_length,
+                      uint32_t *boxes, size_t boxes_length,
+                      uint8_t *log, size_t log_length,
+                      uint64_t limit,
+                      uint64_t *answer, size_t answer_length);
+
+/* Where one domain's records so far stand in the lent log.
+ * answer: number, companion, the place of the first byte, and the number of bytes (0 and 0 where refused). */
+uint32_t pirkvezo_log(const uint32_t *plan, size_t plan_length,
+                      const uint64_t *state, size_t state_length,
+                      const uint8_t *log, size_t log_length,
+                      uint32_t domain,
+                      uint64_t *answer, size_t answer_length);
+
+#ifdef __cplusplus
+}
+#endif
+
+#endif

@@ -1,0 +1,172 @@
+/* A whole list of calls: a plan is read, started, run in parts and to its end, and each domain's log is asked for; then calls that are
+ * refused, which change nothing. tests/host/expected.txt is what it prints. */
+#include <inttypes.h>
+#include <stdio.h>
+#include <string.h>
+
+#include "pirkvezo.h"
+
+#define LOG 16384
+
+/* All that a host lends. */
+static uint32_t scripts[PIRKVEZO_SCRIPTS];
+static uint32_t plan[PIRKVEZO_PLAN];
+static uint64_t state[PIRKVEZO_STATE];
+static uint16_t cache[PIRKVEZO_CACHE];
+static uint32_t boxes[PIRKVEZO_BOXES];
+static uint8_t log_bytes[LOG];
+static uint64_t answer[PIRKVEZO_ANSWER];
+
+static const char *const settled =
+    "(pad 276)\n"
+    "(domain 0 (share 400) (may 1))\n"
+    "(domain 1 (share 300) (may))\n"
+    "(window 0 (length 400))\n"
+    "(window 1 (length 300))\n"
+    "(run 1)\n"
+    "(op 0 (write 3))\n"
+    "(op 0 (read 3))\n"
+    "(op 0 (send 1 77))\n"
+    "(op 1 (receive 0))\n"
+    "(op 1 (read 100))\n";
+
+/* What was called, what it returned, and its answer. */
+static void print_call(const char *call, uint32_t number)
+{
+    printf("%s: %" PRIu32 "; answer %" PRIu64 " %" PRIu64 " %" PRIu64 " %" PRIu64 "\n",
+           call, number, answer[0], answer[1], answer[2], answer[3]);
+}
+
+static uint32_t read_text(const char *text)
+{
+    return pirkvezo_read_plan((const uint8_t *)text, strlen(text), scripts, PIRKVEZO_SCRIPTS,
+                              plan, PIRKVEZO_PLAN, answer, PIRKVEZO_ANSWER);
+}
+
+static uint32_t start(void)
+{
+    return pirkvezo_fresh_start(plan, PIRKVEZO_PLAN, state, PIRKVEZO_STATE, cache, PIRKVEZO_CACHE,
+                                boxes, PIRKVEZO_BOXES, answer, PIRKVEZO_ANSWER);
+}
+
+static uint32_t step(void)
+{
+    return pirkvezo_step(plan, PIRKVEZO_PLAN, scripts, PIRKVEZO_SCRIPTS, state, PIRKVEZO_STATE,
+                         cache, PIRKVEZO_CACHE, boxes, PIRKVEZO_BOXES, log_bytes, LOG,
+                         answer, PIRKVEZO_ANSWER);
+}
+
+static uint32_t run(uint64_t limit)
+{
+    return pirkvezo_run(plan, PIRKVEZO_PLAN, scripts, PIRKVEZO_SCRIPTS, state, PIRKVEZO_STATE,
+                        cache, PIRKVEZO_CACHE, boxes, PIRKVEZO_BOXES, log_bytes, LOG, limit,
+                        answer, PIRKVEZO_ANSWER);
+}
+
+static uint32_t ask(uint32_t domain)
+{
+    return pirkvezo_log(plan, PIRKVEZO_PLAN, state, PIRKVEZO_STATE, log_bytes, LOG, domain,
+                        answer, PIRKVEZO_ANSWER);
+}
+
+/* A record is eight bytes: kind, 0, value (two bytes), clock (four), little end first. */
+static void print_record(uint32_t domain, const uint8_t *r)
+{
+    static const char *const kinds[] = {
+        "?", "hit1", "hit2", "miss", "sent", "got", "empty", "denied", "ran", "barred"};
+    unsigned value = r[2] + 256u * r[3];
+    uint32_t clock = r[4] + 256u * r[5] + 65536u * r[6] + 16777216u * r[7];
+    printf("(seen %" PRIu32 " %" PRIu32 " (%s %u))\n", domain, clock, kinds[r[0] <= 9 ? r[0] : 0], value);
+}
+
+/* One domain's records so far: the answer says where they stand. */
+static void print_log(uint32_t domain)
+{
+    print_call("log", ask(domain));
+    for (uint64_t at = 0; at < answer[3]; at += 8) {
+        print_record(domain, log_bytes + answer[2] + at);
+    }
+}
+
+/* A run in parts: no step, one, two more, and the rest up to the end. */
+static void accepted_calls(void)
+{
+    print_call("read_plan", read_text(settled));
+    print_call("fresh_start", start());
+    print_call("run, limit 0", run(0));
+    print_call("step", step());
+    print_log(0);
+    print_call("run, limit 2", run(2));
+    print_call("run, limit 1000", run(1000));
+    print_call("run after the end", run(1000));
+    printf("(end %" PRIu64 " %" PRIu64 ")\n", state[0], state[1]);
+    print_log(0);
+    print_log(1);
+}
+
+/* Each is told why. */
+static void refused_calls(void)
+{
+    print_call("log of an undeclared domain", ask(2));
+
+    state[1] += 1;
+    print_call("run, the clock wrong after the end", run(1));
+    state[1] -= 1;
+
+    boxes[0] = 5;
+    print_call("run, a full box without the right", run(1));
+    boxes[0] = 0;
+
+    plan[84] += 65536;
+    print_call("run, a colour mask of 17 bits", run(1));
+    print_call("fresh_start, the same", start());
+    print_call("log, the same", ask(0));
+    plan[84] -= 65536;
+
+    print_call("fresh_start, a plan of 91 numbers",
+               pirkvezo_fresh_start(plan, PIRKVEZO_PLAN - 1, state, PIRKVEZO_STATE, cache, PIRKVEZO_CACHE,
+                                    boxes, PIRKVEZO_BOXES, answer, PIRKVEZO_ANSWER));
+    memset(answer, 255, sizeof answer);
+    print_call("fresh_start, an answer of 3 numbers",
+               pirkvezo_fresh_start(plan, PIRKVEZO_PLAN, state, PIRKVEZO_STATE, cache, PIRKVEZO_CACHE,
+                                    boxes, PIRKVEZO_BOXES, answer, PIRKVEZO_ANSWER - 1));
+}
+
+/* A refused reading leaves the scripts, and its plan is all zeros, which no other call takes. */
+static void refused_readings(void)
+{
+    print_call("read_plan, pad 275", read_text("(pad 275)\n"));
+    print_call("read_plan, no text", read_text(""));
+    print_call("fresh_start, the plan beside a refused reading", start());
+}
+
+/* All that the calls of a run may write, to see that a refused call writes none of it. */
+struct tables {
+    uint32_t scripts[PIRKVEZO_SCRIPTS];
+    uint64_t state[PIRKVEZO_STATE];
+    uint16_t cache[PIRKVEZO_CACHE];
+    uint32_t boxes[PIRKVEZO_BOXES];
+    uint8_t log[LOG];
+};
+
+static void copy_tables(struct tables *copy)
+{
+    memset(copy, 0, sizeof *copy);
+    memcpy(copy->scripts, scripts, sizeof scripts);
+    memcpy(copy->state, state, sizeof state);
+    memcpy(copy->cache, cache, sizeof cache);
+    memcpy(copy->boxes, boxes, sizeof boxes);
+    memcpy(copy->log, log_bytes, sizeof log_bytes);
+}
+
+int main(void)
+{
+    static struct tables before, after;
+    accepted_calls();
+    copy_tables(&before);
+    refused_calls();
+    refused_readings();
+    copy_tables(&after);
+    printf("tables after the refused calls: %s\n", memcmp(&before, &after, sizeof before) == 0 ? "as before" : "changed");
+    return 0;
+}
