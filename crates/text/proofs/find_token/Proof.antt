@@ -1,5 +1,4 @@
 -- `text::find_token` meets its contract. Assumes nothing.
-use borrow.Author.Needs.{needs}
 use Rattle.text.specs.Tokens.{tokenAt}
 use Rattle.text.proofs.find_token.Statement.{statement}
 use Rattle.text.proofs.find_token.Tie as tie
