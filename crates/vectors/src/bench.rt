@@ -1,0 +1,61 @@
+// What the examples work on: the plan and the state of the example at hand, and how much of each table is lent.
+use machine::State;
+ghost use Prim.Native.Nat.{_≤_};
+use plan::Plan;
+
+pub struct Bench {
+    pub plan: Plan,
+    pub state: State,
+    // the bytes of the text written so far
+    pub text: usize,
+    // the numbers or bytes of each table that a call is lent
+    pub scripts: usize,
+    pub cache: usize,
+    pub boxes: usize,
+    pub log: usize,
+}
+
+fn no_plan() -> Plan {
+    Plan {
+        pad: 0,
+        run: 0,
+        domains: 0,
+        windows: 0,
+        shares: [0; 8],
+        rights: [0; 8],
+        owners: [0; 32],
+        lengths: [0; 32],
+        masks: [0; 8],
+    }
+}
+
+fn no_state() -> State {
+    State {
+        windows: 0,
+        clock: 0,
+        positions: [0; 8],
+        records: [0; 8],
+    }
+}
+
+// Before the first line: tables of the right lengths, and a log of 64 bytes.
+pub fn first_bench() -> Bench {
+    let plan = no_plan();
+    let state = no_state();
+    Bench {
+        plan,
+        state,
+        text: 0,
+        scripts: 2_048,
+        cache: 272,
+        boxes: 64,
+        log: 64,
+    }
+}
+
+// A number that is no more than `most`.
+pub fn at_most(number: usize, most: usize) -> usize
+    ensures { λ r. ⌜ r ≤ most ⌝ }
+{
+    if number < most { number } else { most }
+}

@@ -1,0 +1,192 @@
+// The commands that call the reader and the entry points of a run, and print what they answer. Each prints its label first.
+use crate::bench::Bench;
+use crate::bench::at_most;
+use crate::lines::number_in;
+use crate::lines::word_in;
+use crate::printing::print_ending;
+use crate::printing::print_label;
+use crate::printing::print_line_end;
+use crate::printing::print_number;
+use crate::printing::print_records;
+use crate::printing::print_verdict;
+use engine::Progress;
+use engine::asking::log_of;
+use engine::asking::log_refusal;
+use engine::lending::step;
+use engine::running::run;
+use engine::starting::fresh_start;
+use machine::State;
+use plan::Plan;
+use reader::read_plan;
+
+fn with_plan(bench: Bench, plan: Plan) -> Bench {
+    let mut next = bench;
+    next.plan = plan;
+    next.text = 0;
+    next
+}
+
+fn with_state(bench: Bench, state: State) -> Bench {
+    let mut next = bench;
+    next.state = state;
+    next
+}
+
+// Reads the text; the next example's text begins anew.
+fn call_reading(bench: Bench, text: &[u8], scripts: &mut [u32]) -> Bench {
+    let first: usize = 0;
+    let length = at_most(bench.text, text.len());
+    let lent = at_most(bench.scripts, scripts.len());
+    let reading = read_plan(&text[first..length], &mut scripts[first..lent]);
+    let verdict = reading.verdict;
+    print_verdict(verdict);
+    let plan = reading.plan;
+    with_plan(bench, plan)
+}
+
+fn call_fresh_start(bench: Bench, cache: &mut [u16], boxes: &mut [u32]) -> Bench {
+    let first: usize = 0;
+    let lent_cache = at_most(bench.cache, cache.len());
+    let lent_boxes = at_most(bench.boxes, boxes.len());
+    let plan = bench.plan;
+    let state = bench.state;
+    let started = fresh_start(
+        plan,
+        state,
+        &mut cache[first..lent_cache],
+        &mut boxes[first..lent_boxes],
+    );
+    let verdict = started.verdict;
+    print_verdict(verdict);
+    let left = started.state;
+    with_state(bench, left)
+}
+
+// Number, companion, steps, ending, windows completed and clock.
+fn print_progress(progress: Progress) {
+    let verdict = progress.verdict;
+    let ending = progress.ending;
+    let state = progress.state;
+    print_verdict(verdict);
+    print_number(progress.steps);
+    print_ending(ending);
+    print_number(state.windows);
+    print_number(state.clock);
+}
+
+fn call_run(
+    bench: Bench,
+    limit: u64,
+    scripts: &[u32],
+    cache: &mut [u16],
+    boxes: &mut [u32],
+    log: &mut [u8],
+) -> Bench {
+    let first: usize = 0;
+    let lent_scripts = at_most(bench.scripts, scripts.len());
+    let lent_cache = at_most(bench.cache, cache.len());
+    let lent_boxes = at_most(bench.boxes, boxes.len());
+    let lent_log = at_most(bench.log, log.len());
+    let plan = bench.plan;
+    let state = bench.state;
+    let progress = run(
+        plan,
+        &scripts[first..lent_scripts],
+        state,
+        &mut cache[first..lent_cache],
+        &mut boxes[first..lent_boxes],
+        &mut log[first..lent_log],
+        limit,
+    );
+    print_progress(progress);
+    let left = progress.state;
+    with_state(bench, left)
+}
+
+fn call_step(
+    bench: Bench,
+    scripts: &[u32],
+    cache: &mut [u16],
+    boxes: &mut [u32],
+    log: &mut [u8],
+) -> Bench {
+    let first: usize = 0;
+    let lent_scripts = at_most(bench.scripts, scripts.len());
+    let lent_cache = at_most(bench.cache, cache.len());
+    let lent_boxes = at_most(bench.boxes, boxes.len());
+    let lent_log = at_most(bench.log, log.len());
+    let plan = bench.plan;
+    let state = bench.state;
+    let progress = step(
+        plan,
+        &scripts[first..lent_scripts],
+        state,
+        &mut cache[first..lent_cache],
+        &mut boxes[first..lent_boxes],
+        &mut log[first..lent_log],
+    );
+    print_progress(progress);
+    let left = progress.state;
+    with_state(bench, left)
+}
+
+// The answer to the second question, then the records that the asking hands back.
+fn call_asking(bench: Bench, domain: u32, log: &[u8]) -> Bench {
+    let first: usize = 0;
+    let lent_log = at_most(bench.log, log.len());
+    let plan = bench.plan;
+    let state = bench.state;
+    let lent = &log[first..lent_log];
+    let verdict = log_refusal(plan, state, lent, domain);
+    print_verdict(verdict);
+    print_records(log_of(plan, state, lent, domain));
+    bench
+}
+
+pub fn is_call(letter: u8) -> bool {
+    (letter == b'r') | (letter == b'f') | (letter == b'g') | (letter == b's') | (letter == b'a')
+}
+
+// The call that a letter names.
+fn call_by_letter(
+    bench: Bench,
+    letter: u8,
+    line: &[u8],
+    text: &[u8],
+    scripts: &mut [u32],
+    cache: &mut [u16],
+    boxes: &mut [u32],
+    log: &mut [u8],
+) -> Bench {
+    if letter == b'r' {
+        return call_reading(bench, text, scripts);
+    }
+    if letter == b'f' {
+        return call_fresh_start(bench, cache, boxes);
+    }
+    if letter == b'g' {
+        return call_run(bench, number_in(line, 2), scripts, cache, boxes, log);
+    }
+    if letter == b's' {
+        return call_step(bench, scripts, cache, boxes, log);
+    }
+    call_asking(bench, word_in(line, 2), log)
+}
+
+// r LABEL: read the text. f LABEL: a fresh start. g LABEL N: run with limit N. s LABEL: a single step. a LABEL D: ask for the log of
+// domain D.
+pub fn call_command(
+    bench: Bench,
+    letter: u8,
+    line: &[u8],
+    text: &[u8],
+    scripts: &mut [u32],
+    cache: &mut [u16],
+    boxes: &mut [u32],
+    log: &mut [u8],
+) -> Bench {
+    print_label(line);
+    let next = call_by_letter(bench, letter, line, text, scripts, cache, boxes, log);
+    print_line_end();
+    next
+}

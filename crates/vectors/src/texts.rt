@@ -1,0 +1,63 @@
+// The commands that write the text of an example. What lies past the buffer's end is left out.
+use crate::bench::Bench;
+use crate::lines::byte_in;
+use crate::lines::field_start;
+use crate::lines::number_in;
+
+// One byte more; answers the length of the text with it.
+fn put(out: &mut [u8], at: usize, byte: u8) -> usize {
+    if at < out.len() {
+        out[at] = byte;
+        return at + 1;
+    }
+    at
+}
+
+fn put_all(out: &mut [u8], at: usize, bytes: &[u8]) -> usize {
+    let mut next = at;
+    let mut i: usize = 0;
+    while i < bytes.len() {
+        next = put(out, next, bytes[i]);
+        i += 1;
+    }
+    next
+}
+
+// Some bytes and a line's end, so many times.
+fn put_lines(out: &mut [u8], at: usize, bytes: &[u8], times: u64) -> usize {
+    let mut next = at;
+    let mut left = times;
+    while 0 < left {
+        let end = put_all(out, next, bytes);
+        next = put(out, end, b'\n');
+        left -= 1;
+    }
+    next
+}
+
+fn with_text(bench: Bench, length: usize) -> Bench {
+    let mut next = bench;
+    next.text = length;
+    next
+}
+
+pub fn writes_text(letter: u8) -> bool {
+    (letter == b't') | (letter == b'u') | (letter == b'x') | (letter == b'm')
+}
+
+// t TEXT: a line. u TEXT: the same with no line's end. x N: the byte N. m N TEXT: a line N times.
+pub fn text_command(bench: Bench, letter: u8, line: &[u8], text: &mut [u8]) -> Bench {
+    let at = bench.text;
+    let first = field_start(line, 1);
+    let second = field_start(line, 2);
+    match letter {
+        b't' => with_text(bench, put_lines(text, at, &line[first..], 1)),
+        b'u' => with_text(bench, put_all(text, at, &line[first..])),
+        b'x' => with_text(bench, put(text, at, byte_in(line, 1))),
+        b'm' => with_text(
+            bench,
+            put_lines(text, at, &line[second..], number_in(line, 1)),
+        ),
+        _ => bench,
+    }
+}
