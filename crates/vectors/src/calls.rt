@@ -34,10 +34,7 @@ fn with_state(bench: Bench, state: State) -> Bench {
 
 // Reads the text; the next example's text begins anew.
 fn call_reading(bench: Bench, text: &[u8], scripts: &mut [u32]) -> Bench {
-    let first: usize = 0;
-    let length = at_most(bench.text, text.len());
-    let lent = at_most(bench.scripts, scripts.len());
-    let reading = read_plan(&text[first..length], &mut scripts[first..lent]);
+    let reading = read_plan(text, scripts);
     let verdict = reading.verdict;
     print_verdict(verdict);
     let plan = reading.plan;
@@ -45,25 +42,17 @@ fn call_reading(bench: Bench, text: &[u8], scripts: &mut [u32]) -> Bench {
 }
 
 fn call_fresh_start(bench: Bench, cache: &mut [u16], boxes: &mut [u32]) -> Bench {
-    let first: usize = 0;
-    let lent_cache = at_most(bench.cache, cache.len());
-    let lent_boxes = at_most(bench.boxes, boxes.len());
     let plan = bench.plan;
     let state = bench.state;
-    let started = fresh_start(
-        plan,
-        state,
-        &mut cache[first..lent_cache],
-        &mut boxes[first..lent_boxes],
-    );
+    let started = fresh_start(plan, state, cache, boxes);
     let verdict = started.verdict;
     print_verdict(verdict);
     let left = started.state;
     with_state(bench, left)
 }
 
-// Number, companion, steps, ending, windows completed and clock.
-fn print_progress(progress: Progress) {
+// Prints number, companion, steps, ending, windows completed and clock, and keeps the state.
+fn after_progress(bench: Bench, progress: Progress) -> Bench {
     let verdict = progress.verdict;
     let ending = progress.ending;
     let state = progress.state;
@@ -72,74 +61,16 @@ fn print_progress(progress: Progress) {
     print_ending(ending);
     print_number(state.windows);
     print_number(state.clock);
-}
-
-fn call_run(
-    bench: Bench,
-    limit: u64,
-    scripts: &[u32],
-    cache: &mut [u16],
-    boxes: &mut [u32],
-    log: &mut [u8],
-) -> Bench {
-    let first: usize = 0;
-    let lent_scripts = at_most(bench.scripts, scripts.len());
-    let lent_cache = at_most(bench.cache, cache.len());
-    let lent_boxes = at_most(bench.boxes, boxes.len());
-    let lent_log = at_most(bench.log, log.len());
-    let plan = bench.plan;
-    let state = bench.state;
-    let progress = run(
-        plan,
-        &scripts[first..lent_scripts],
-        state,
-        &mut cache[first..lent_cache],
-        &mut boxes[first..lent_boxes],
-        &mut log[first..lent_log],
-        limit,
-    );
-    print_progress(progress);
-    let left = progress.state;
-    with_state(bench, left)
-}
-
-fn call_step(
-    bench: Bench,
-    scripts: &[u32],
-    cache: &mut [u16],
-    boxes: &mut [u32],
-    log: &mut [u8],
-) -> Bench {
-    let first: usize = 0;
-    let lent_scripts = at_most(bench.scripts, scripts.len());
-    let lent_cache = at_most(bench.cache, cache.len());
-    let lent_boxes = at_most(bench.boxes, boxes.len());
-    let lent_log = at_most(bench.log, log.len());
-    let plan = bench.plan;
-    let state = bench.state;
-    let progress = step(
-        plan,
-        &scripts[first..lent_scripts],
-        state,
-        &mut cache[first..lent_cache],
-        &mut boxes[first..lent_boxes],
-        &mut log[first..lent_log],
-    );
-    print_progress(progress);
-    let left = progress.state;
-    with_state(bench, left)
+    with_state(bench, state)
 }
 
 // The answer to the second question, then the records that the asking hands back.
 fn call_asking(bench: Bench, domain: u32, log: &[u8]) -> Bench {
-    let first: usize = 0;
-    let lent_log = at_most(bench.log, log.len());
     let plan = bench.plan;
     let state = bench.state;
-    let lent = &log[first..lent_log];
-    let verdict = log_refusal(plan, state, lent, domain);
+    let verdict = log_refusal(plan, state, log, domain);
     print_verdict(verdict);
-    print_records(log_of(plan, state, lent, domain));
+    print_records(log_of(plan, state, log, domain));
     bench
 }
 
@@ -147,7 +78,7 @@ pub fn is_call(letter: u8) -> bool {
     (letter == b'r') | (letter == b'f') | (letter == b'g') | (letter == b's') | (letter == b'a')
 }
 
-// The call that a letter names.
+// The call that a letter names, on what is lent to it.
 fn call_by_letter(
     bench: Bench,
     letter: u8,
@@ -158,6 +89,8 @@ fn call_by_letter(
     boxes: &mut [u32],
     log: &mut [u8],
 ) -> Bench {
+    let plan = bench.plan;
+    let state = bench.state;
     if letter == b'r' {
         return call_reading(bench, text, scripts);
     }
@@ -165,16 +98,19 @@ fn call_by_letter(
         return call_fresh_start(bench, cache, boxes);
     }
     if letter == b'g' {
-        return call_run(bench, number_in(line, 2), scripts, cache, boxes, log);
+        let limit = number_in(line, 2);
+        let progress = run(plan, scripts, state, cache, boxes, log, limit);
+        return after_progress(bench, progress);
     }
     if letter == b's' {
-        return call_step(bench, scripts, cache, boxes, log);
+        let progress = step(plan, scripts, state, cache, boxes, log);
+        return after_progress(bench, progress);
     }
     call_asking(bench, word_in(line, 2), log)
 }
 
 // r LABEL: read the text. f LABEL: a fresh start. g LABEL N: run with limit N. s LABEL: a single step. a LABEL D: ask for the log of
-// domain D.
+// domain D. Of each table as much is lent as the example says.
 pub fn call_command(
     bench: Bench,
     letter: u8,
@@ -185,8 +121,23 @@ pub fn call_command(
     boxes: &mut [u32],
     log: &mut [u8],
 ) -> Bench {
+    let first: usize = 0;
+    let written = at_most(bench.text, text.len());
+    let lent_scripts = at_most(bench.scripts, scripts.len());
+    let lent_cache = at_most(bench.cache, cache.len());
+    let lent_boxes = at_most(bench.boxes, boxes.len());
+    let lent_log = at_most(bench.log, log.len());
     print_label(line);
-    let next = call_by_letter(bench, letter, line, text, scripts, cache, boxes, log);
+    let next = call_by_letter(
+        bench,
+        letter,
+        line,
+        &text[first..written],
+        &mut scripts[first..lent_scripts],
+        &mut cache[first..lent_cache],
+        &mut boxes[first..lent_boxes],
+        &mut log[first..lent_log],
+    );
     print_line_end();
     next
 }
