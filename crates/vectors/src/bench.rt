@@ -53,6 +53,18 @@ pub fn first_bench() -> Bench {
     }
 }
 
+pub fn with_plan(bench: Bench, plan: Plan) -> Bench {
+    let mut next = bench;
+    next.plan = plan;
+    next
+}
+
+pub fn with_state(bench: Bench, state: State) -> Bench {
+    let mut next = bench;
+    next.state = state;
+    next
+}
+
 // A number that is no more than `most`.
 pub fn at_most(number: usize, most: usize) -> usize
     ensures { λ r. ⌜ r ≤ most ⌝ }

@@ -1,6 +1,8 @@
 // The commands that call the reader and the entry points of a run, and print what they answer. Each prints its label first.
 use crate::bench::Bench;
 use crate::bench::at_most;
+use crate::bench::with_plan;
+use crate::bench::with_state;
 use crate::lines::number_in;
 use crate::lines::word_in;
 use crate::printing::print_ending;
@@ -15,22 +17,7 @@ use engine::asking::log_refusal;
 use engine::lending::step;
 use engine::running::run;
 use engine::starting::fresh_start;
-use machine::State;
-use plan::Plan;
 use reader::read_plan;
-
-fn with_plan(bench: Bench, plan: Plan) -> Bench {
-    let mut next = bench;
-    next.plan = plan;
-    next.text = 0;
-    next
-}
-
-fn with_state(bench: Bench, state: State) -> Bench {
-    let mut next = bench;
-    next.state = state;
-    next
-}
 
 // Reads the text; the next example's text begins anew.
 fn call_reading(bench: Bench, text: &[u8], scripts: &mut [u32]) -> Bench {
@@ -38,7 +25,9 @@ fn call_reading(bench: Bench, text: &[u8], scripts: &mut [u32]) -> Bench {
     let verdict = reading.verdict;
     print_verdict(verdict);
     let plan = reading.plan;
-    with_plan(bench, plan)
+    let mut next = bench;
+    next.text = 0;
+    with_plan(next, plan)
 }
 
 fn call_fresh_start(bench: Bench, cache: &mut [u16], boxes: &mut [u32]) -> Bench {

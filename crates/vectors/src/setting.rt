@@ -1,9 +1,12 @@
 // The commands that set what an example works on: how much of a table is lent, the state, the plan, and single numbers of the tables.
 use crate::bench::Bench;
+use crate::bench::with_plan;
+use crate::bench::with_state;
 use crate::lines::half_in;
 use crate::lines::number_in;
 use crate::lines::place_in;
 use crate::lines::word_in;
+use machine::State;
 use plan::Plan;
 
 // A log that nobody has written yet: every byte 238.
@@ -46,89 +49,43 @@ pub fn length_command(bench: Bench, letter: u8, line: &[u8], log: &mut [u8]) -> 
     }
 }
 
-fn with_windows(bench: Bench, windows: u64) -> Bench {
-    let mut state = bench.state;
-    state.windows = windows;
-    let mut next = bench;
-    next.state = state;
-    next
-}
-
-fn with_clock(bench: Bench, clock: u64) -> Bench {
-    let mut state = bench.state;
-    state.clock = clock;
-    let mut next = bench;
-    next.state = state;
-    next
-}
-
-fn with_number(numbers: [u64; 8], place: usize, number: u64) -> [u64; 8] {
-    let mut next = numbers;
-    if place < 8 {
-        next[place] = number;
+// The state with the number that a letter names: W the windows, C the clock, P and R a domain's position and record count.
+fn changed_state(state: State, letter: u8, first: u64, second: u64) -> State {
+    let mut next = state;
+    if letter == b'W' {
+        next.windows = first;
+        return next;
     }
-    next
-}
-
-fn with_position(bench: Bench, domain: usize, position: u64) -> Bench {
-    let mut state = bench.state;
-    let positions = state.positions;
-    let changed = with_number(positions, domain, position);
-    state.positions = changed;
-    let mut next = bench;
-    next.state = state;
-    next
-}
-
-fn with_count(bench: Bench, domain: usize, count: u64) -> Bench {
-    let mut state = bench.state;
-    let records = state.records;
-    let changed = with_number(records, domain, count);
-    state.records = changed;
-    let mut next = bench;
-    next.state = state;
+    if letter == b'C' {
+        next.clock = first;
+        return next;
+    }
+    if 8 <= first {
+        return next;
+    }
+    let domain = first as usize;
+    if letter == b'P' {
+        next.positions[domain] = second;
+        return next;
+    }
+    if letter == b'R' {
+        next.records[domain] = second;
+        return next;
+    }
     next
 }
 
 // W N, C N: the state's windows and clock. P D N, R D N: the script position and the record count of domain D.
 pub fn state_command(bench: Bench, letter: u8, line: &[u8]) -> Bench {
-    let first = number_in(line, 1);
-    let second = number_in(line, 2);
-    match letter {
-        b'W' => with_windows(bench, first),
-        b'C' => with_clock(bench, first),
-        b'P' => with_position(bench, first as usize, second),
-        b'R' => with_count(bench, first as usize, second),
-        _ => bench,
-    }
+    let state = bench.state;
+    with_state(
+        bench,
+        changed_state(state, letter, number_in(line, 1), number_in(line, 2)),
+    )
 }
 
-fn with_word(numbers: [u32; 8], place: usize, number: u32) -> [u32; 8] {
-    let mut next = numbers;
-    if place < 8 {
-        next[place] = number;
-    }
-    next
-}
-
-fn with_half(numbers: [u16; 8], place: usize, number: u16) -> [u16; 8] {
-    let mut next = numbers;
-    if place < 8 {
-        next[place] = number;
-    }
-    next
-}
-
-fn with_window(numbers: [u32; 32], place: usize, number: u32) -> [u32; 32] {
-    let mut next = numbers;
-    if place < 32 {
-        next[place] = number;
-    }
-    next
-}
-
-// The plan's four single numbers, by their place in the plan.
-fn with_single(plan: Plan, field: u64, number: u32) -> Plan {
+// The plan with one of its four single numbers, or of its two lists of windows, by their place in the plan.
+fn changed_timing(plan: Plan, field: u64, place: usize, number: u32) -> Plan {
     let mut next = plan;
     if field == 0 {
         next.pad = number;
@@ -142,61 +99,56 @@ fn with_single(plan: Plan, field: u64, number: u32) -> Plan {
         next.domains = number;
         return next;
     }
-    next.windows = number;
-    next
-}
-
-// The plan's five lists, by their place in the plan.
-fn with_listed(plan: Plan, field: u64, place: usize, number: u32) -> Plan {
-    let mut next = plan;
-    if field == 4 {
-        let shares = plan.shares;
-        let changed = with_word(shares, place, number);
-        next.shares = changed;
+    if field == 3 {
+        next.windows = number;
         return next;
     }
-    if field == 5 {
-        let rights = plan.rights;
-        let changed = with_word(rights, place, number);
-        next.rights = changed;
+    if 32 <= place {
         return next;
     }
     if field == 6 {
-        let owners = plan.owners;
-        let changed = with_window(owners, place, number);
-        next.owners = changed;
+        next.owners[place] = number;
         return next;
     }
     if field == 7 {
-        let lengths = plan.lengths;
-        let changed = with_window(lengths, place, number);
-        next.lengths = changed;
+        next.lengths[place] = number;
         return next;
     }
-    let masks = plan.masks;
-    let changed = with_half(masks, place, (number % 65_536) as u16);
-    next.masks = changed;
     next
 }
 
-fn with_plan(bench: Bench, plan: Plan) -> Bench {
-    let mut next = bench;
-    next.plan = plan;
+// The plan with a number of one of its three lists of domains, by their place in the plan.
+fn changed_domain(plan: Plan, field: u64, place: usize, number: u32) -> Plan {
+    let mut next = plan;
+    if 8 <= place {
+        return next;
+    }
+    if field == 4 {
+        next.shares[place] = number;
+        return next;
+    }
+    if field == 5 {
+        next.rights[place] = number;
+        return next;
+    }
+    if field == 8 {
+        next.masks[place] = (number % 65_536) as u16;
+        return next;
+    }
     next
 }
 
 // D FIELD PLACE N: a number of the plan. Fields are counted as the plan declares them: 0 is the pad, 8 the masks.
 pub fn plan_command(bench: Bench, letter: u8, line: &[u8]) -> Bench {
-    let field = number_in(line, 1);
-    let number = word_in(line, 3);
-    let plan = bench.plan;
     if letter != b'D' {
         return bench;
     }
-    if field < 4 {
-        return with_plan(bench, with_single(plan, field, number));
-    }
-    with_plan(bench, with_listed(plan, field, place_in(line, 2), number))
+    let field = number_in(line, 1);
+    let place = place_in(line, 2);
+    let number = word_in(line, 3);
+    let plan = bench.plan;
+    let timed = changed_timing(plan, field, place, number);
+    with_plan(bench, changed_domain(timed, field, place, number))
 }
 
 fn set_half(table: &mut [u16], place: usize, number: u16) {
