@@ -6,14 +6,14 @@ use Prim.Native.Nat.{ℕ}
 use lib.ListN.{length, replicate}
 use Rattle.plan.specs.declared.Plan.{Plan}
 use Rattle.plan.specs.Possible.{planPossible}
-use Rattle.machine.specs.declared.State.{State}
-use Rattle.machine.specs.Impossible.{statePossible}
-use Rattle.machine.specs.Records.{partRecords}
+use Rattle.records.specs.Records.{partRecords}
+use Rattle.state.specs.declared.State.{State}
+use Rattle.state.specs.Impossible.{statePossible}
+use Rattle.state.specs.World.{World}
 use Rattle.machine.specs.Steps.{runOf, steps}
 use Rattle.machine.specs.View.{worldWith}
-use Rattle.machine.specs.World.{World}
-use Rattle.machine.proofs.Reached.{log-length, state-possible}
 use Rattle.machine.proofs.Runs.{run-world}
+use Rattle.reached.proofs.Reached.{log-length, state-possible}
 use Rattle.refusal.specs.declared.Verdict.{Verdict}
 use Rattle.refusal.specs.declared.Verdict.the-variants.{Accepted, Refused}
 use Rattle.engine.specs.Answers.{freshWith}

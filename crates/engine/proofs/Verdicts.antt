@@ -11,16 +11,17 @@ use borrow.Author.Tests.{eqb-true, leb-true, lt-ltb, ltb-true}
 use Rattle.lists.specs.Part.{part}
 use Rattle.plan.specs.declared.Plan.{Plan}
 use Rattle.plan.specs.Possible.{planPossible}
-use Rattle.machine.specs.declared.State.{State}
-use Rattle.machine.specs.Damage.{tablesSound}
+use Rattle.state.specs.declared.State.{State}
+use Rattle.state.specs.Damage.{tablesSound}
 use Rattle.plan.proofs.Possible.{counts}
 use Rattle.plan.proofs.Sums.{all-below}
-use Rattle.machine.specs.Impossible.{clockPossible, countsPossible, statePossible}
-use Rattle.machine.proofs.Going.{part-room, parts-fit}
-use Rattle.machine.specs.Records.{logPart, partRecords}
+use Rattle.records.proofs.Parts.{parts-fit}
+use Rattle.records.specs.Records.{logPart, partRecords}
+use Rattle.state.specs.Impossible.{clockPossible, countsPossible, statePossible}
+use Rattle.state.specs.World.{World, endedOf, freshState, positionAt, recordsAt}
+use Rattle.machine.proofs.Going.{part-room}
 use Rattle.machine.specs.Steps.{runOf}
 use Rattle.machine.specs.View.{ranWith}
-use Rattle.machine.specs.World.{World, endedOf, freshState, positionAt, recordsAt}
 use Rattle.refusal.specs.declared.Refusal.{Refusal}
 use Rattle.refusal.specs.declared.Refusal.the-variants.{DamagedTable, ImpossiblePlan, ImpossibleState, WrongDomain, WrongLength}
 use Rattle.refusal.specs.declared.Verdict.{Verdict}

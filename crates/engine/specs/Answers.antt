@@ -1,12 +1,12 @@
 -- What the code of an entry point answers, with the lent things at exit, stands for one record of the definitions. Assumes nothing.
 use Prim.Native.Nat.{ℕ}
 use mathlib.Core.List.{List}
+use Rattle.state.specs.World.{World}
 use Rattle.machine.specs.View.{worldWith}
-use Rattle.machine.specs.World.{World}
 use Rattle.engine.specs.declared.Answer.{Answer}
 use Rattle.engine.specs.declared.Ending.{Ending}
 use Rattle.engine.specs.declared.Progress.{Progress}
-use Rattle.machine.specs.declared.State.{State}
+use Rattle.state.specs.declared.State.{State}
 use Rattle.refusal.specs.declared.Verdict.{Verdict}
 use Rattle.engine.specs.FreshStart.{Fresh}
 use Rattle.engine.specs.Running.{Run}

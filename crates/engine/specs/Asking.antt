@@ -3,9 +3,9 @@ use Prim.Native.Nat.{ℕ}
 use mathlib.Core.List.{List, []}
 use lib.ListN.{length}
 use Rattle.plan.specs.declared.Plan.{Plan}
-use Rattle.machine.specs.declared.State.{State}
-use Rattle.machine.specs.Records.{logPart, partRecords}
-use Rattle.machine.specs.World.{recordsAt}
+use Rattle.records.specs.Records.{logPart, partRecords}
+use Rattle.state.specs.declared.State.{State}
+use Rattle.state.specs.World.{recordsAt}
 use Rattle.refusal.specs.declared.Refusal.{Refusal}
 use Rattle.refusal.specs.declared.Verdict.{Verdict}
 use Rattle.refusal.specs.declared.Verdict.the-variants.{Accepted, Refused}

@@ -8,11 +8,12 @@ use lib.ListN.{length}
 use Rattle.plan.specs.declared.Plan.{Plan}
 use Rattle.plan.specs.Possible.{planPossible}
 use Rattle.cache.specs.Lines.{tableLength}
-use Rattle.machine.specs.declared.State.{State}
-use Rattle.machine.specs.Damage.{tablesSound}
-use Rattle.machine.specs.Impossible.{statePossible}
-use Rattle.machine.specs.Records.{partRecords}
-use Rattle.machine.specs.World.{World, boxesLength}
+use Rattle.records.specs.Records.{partRecords}
+use Rattle.ops.specs.Ops.{boxesLength}
+use Rattle.state.specs.declared.State.{State}
+use Rattle.state.specs.Damage.{tablesSound}
+use Rattle.state.specs.Impossible.{statePossible}
+use Rattle.state.specs.World.{World}
 use Rattle.refusal.specs.declared.Refusal.{Refusal}
 use Rattle.refusal.specs.declared.Refusal.the-variants.{DamagedTable, ImpossiblePlan, ImpossibleState, WrongDomain, WrongLength}
 use Rattle.refusal.specs.declared.Verdict.{Verdict}

@@ -4,8 +4,9 @@ use mathlib.Core.List.{List}
 use lib.ListN.{replicate}
 use Rattle.plan.specs.declared.Plan.{Plan}
 use Rattle.cache.specs.Lines.{tableLength}
-use Rattle.machine.specs.declared.State.{State}
-use Rattle.machine.specs.World.{World, boxesLength, freshState}
+use Rattle.ops.specs.Ops.{boxesLength}
+use Rattle.state.specs.declared.State.{State}
+use Rattle.state.specs.World.{World, freshState}
 use Rattle.refusal.specs.declared.Refusal.{Refusal}
 use Rattle.refusal.specs.declared.Verdict.{Verdict}
 use Rattle.refusal.specs.declared.Verdict.the-variants.{Accepted, Refused}

@@ -4,9 +4,9 @@ use mathlib.Core.Bool.{Bool, cond}
 use mathlib.Core.List.{List}
 use lib.ListN.{length}
 use Rattle.plan.specs.declared.Plan.{Plan}
-use Rattle.machine.specs.Records.{partRecords}
+use Rattle.records.specs.Records.{partRecords}
+use Rattle.state.specs.World.{World, endedOf}
 use Rattle.machine.specs.Steps.{Ran, runOf}
-use Rattle.machine.specs.World.{World, endedOf}
 use Rattle.refusal.specs.declared.Refusal.{Refusal}
 use Rattle.refusal.specs.declared.Verdict.{Verdict}
 use Rattle.refusal.specs.declared.Verdict.the-variants.{Accepted, Refused}

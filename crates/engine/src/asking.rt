@@ -1,9 +1,9 @@
 // Asking for one domain's log, and the second question about it.
 use crate::checks::check_log;
-use machine::State;
-use machine::logging::part_records;
 use plan::Plan;
+use records::part_records;
 use refusal::Verdict;
+use state::State;
 ghost use mathlib.Core.Path.{_≡_};
 ghost use Rattle.engine.specs.Asking.{logCallOf, logRefusalOf};
 

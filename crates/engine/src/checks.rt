@@ -1,12 +1,12 @@
 // The refusals of the entry points: 11, 12, 13, 14, in this order, each only where the call takes that thing.
-use machine::State;
-use machine::logging::part_records;
-use machine::states::state_possible;
-use machine::tables::tables_sound;
 use plan::Plan;
 use plan::checking::is_possible;
+use records::part_records;
 use refusal::Refusal;
 use refusal::Verdict;
+use state::State;
+use state::states::state_possible;
+use state::tables::tables_sound;
 ghost use mathlib.Core.Path.{_≡_};
 ghost use mathlib.Core.Bool.{true};
 ghost use Prim.Native.Nat.{ℕ};

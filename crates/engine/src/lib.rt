@@ -5,8 +5,8 @@ pub mod lending;
 pub mod running;
 pub mod starting;
 
-use machine::State;
 use refusal::Verdict;
+use state::State;
 
 // How a run came to its end: the limit was reached first, or the run is over.
 pub enum Ending {

@@ -2,15 +2,15 @@
 use crate::Ending;
 use crate::Progress;
 use crate::checks::check_run;
-use machine::State;
-use machine::logging::part_records;
 use machine::stepping::run_steps;
 use plan::Plan;
 use plan::timing::windows_total;
+use records::part_records;
 use refusal::Verdict;
+use state::State;
 ghost use mathlib.Core.Path.{_≡_};
 ghost use Prim.Native.Nat.{_≤_};
-ghost use Rattle.machine.specs.World.{endedOf};
+ghost use Rattle.state.specs.World.{endedOf};
 ghost use Rattle.machine.specs.View.{worldWith};
 ghost use Rattle.engine.specs.Running.{endingOf, runCallOf};
 ghost use Rattle.engine.specs.Answers.{runWith};

@@ -2,12 +2,12 @@
 use crate::Started;
 use crate::checks::check_fresh;
 use cache::empty;
-use machine::State;
 use plan::Plan;
 use refusal::Verdict;
+use state::State;
 ghost use mathlib.Core.Path.{_≡_};
 ghost use lib.ListN.{length, replicate};
-ghost use Rattle.machine.specs.World.{freshState};
+ghost use Rattle.state.specs.World.{freshState};
 ghost use Rattle.engine.specs.Answers.{freshWith};
 ghost use Rattle.engine.specs.FreshStart.{freshStartOf};
 

@@ -24,14 +24,14 @@ use Rattle.plan.specs.Windows.{ownerOf, lengthOf, startOf, endOf, windowsTotal,
 use Rattle.cache.specs.Access.{lookHit1, lookL2, lookOf, lookAt, accessOf}
 use Rattle.cache.specs.Flush.{countOf, dirtyLines, validLines, kernelFlushTicks, l1FlushTicks, kernelFlushed, l1Flushed}
 use Rattle.cache.specs.Sets.{has, behind, used}
-use Rattle.machine.specs.declared.State.{State}
-use Rattle.machine.specs.Damage.{lineAllowed, l1EntrySound, allEmpty, waysSound, setSound, boxSound, tablesSound}
-use Rattle.machine.specs.Impossible.{clockPossible, countsPossible as machineCountsPossible, statePossible}
-use Rattle.machine.specs.Ops.{boxPlace, ownsLine, touchOf, deniedOf, passedOf, sendOf, boxSeen, receiveOf, computeOf, effectOf}
-use Rattle.machine.specs.Records.{recordBytes, partRecords, stored, logPart}
+use Rattle.records.specs.Records.{recordBytes, partRecords, stored, logPart}
+use Rattle.ops.specs.Ops.{boxPlace, ownsLine, touchOf, deniedOf, passedOf, sendOf, boxSeen, receiveOf, computeOf, effectOf}
+use Rattle.state.specs.declared.State.{State}
+use Rattle.state.specs.Damage.{lineAllowed, l1EntrySound, allEmpty, waysSound, setSound, boxSound, tablesSound}
+use Rattle.state.specs.Impossible.{clockPossible, countsPossible as stateCountsPossible, statePossible}
+use Rattle.state.specs.World.{World, endedOf, freshState, positionAt}
 use Rattle.machine.specs.Steps.{opStepOf, closedOf, fetchedStep, activeStep, stepOf, steps, runOf}
 use Rattle.machine.specs.Switch.{flushedClock, paddedClock, switchOf}
-use Rattle.machine.specs.World.{World, endedOf, freshState, positionAt}
 use Rattle.engine.specs.Asking.{logCallOf, logRefusalOf}
 use Rattle.engine.specs.Checks.{stateVerdict, freshVerdict, runVerdict, logVerdict}
 use Rattle.engine.specs.FreshStart.{freshStartOf, freshWorld}
@@ -119,7 +119,7 @@ other =
 
 -- every definition that the examples compute with, named once
 computing : ℕ
-unfolding part splice opOf decodeOf fetchOf storedOf coloursOf sharesTotal firstColour maskFrom maskOf hasBit countsPossible declaredPossible undeclaredPossible domainPossible maskPossible windowPossible planPossible sumTo allBelow ownerOf lengthOf startOf endOf windowsTotal ticksTotal lookHit1 lookL2 lookOf lookAt accessOf countOf dirtyLines validLines kernelFlushTicks l1FlushTicks kernelFlushed l1Flushed has behind used lineAllowed l1EntrySound allEmpty waysSound setSound boxSound tablesSound clockPossible machineCountsPossible statePossible ownsLine touchOf deniedOf passedOf sendOf boxSeen receiveOf computeOf effectOf recordBytes partRecords stored logPart opStepOf closedOf fetchedStep activeStep stepOf steps runOf flushedClock paddedClock switchOf endedOf freshState logCallOf logRefusalOf stateVerdict freshVerdict runVerdict logVerdict freshStartOf freshWorld ranFrom runCallOf stepCallOf runAnswer stepAnswer logAnswer afterCall verdictOf stepsCounted afterCalls stepsOfCalls Proper worldAfter opsOf
+unfolding part splice opOf decodeOf fetchOf storedOf coloursOf sharesTotal firstColour maskFrom maskOf hasBit countsPossible declaredPossible undeclaredPossible domainPossible maskPossible windowPossible planPossible sumTo allBelow ownerOf lengthOf startOf endOf windowsTotal ticksTotal lookHit1 lookL2 lookOf lookAt accessOf countOf dirtyLines validLines kernelFlushTicks l1FlushTicks kernelFlushed l1Flushed has behind used lineAllowed l1EntrySound allEmpty waysSound setSound boxSound tablesSound clockPossible stateCountsPossible statePossible ownsLine touchOf deniedOf passedOf sendOf boxSeen receiveOf computeOf effectOf recordBytes partRecords stored logPart opStepOf closedOf fetchedStep activeStep stepOf steps runOf flushedClock paddedClock switchOf endedOf freshState logCallOf logRefusalOf stateVerdict freshVerdict runVerdict logVerdict freshStartOf freshWorld ranFrom runCallOf stepCallOf runAnswer stepAnswer logAnswer afterCall verdictOf stepsCounted afterCalls stepsOfCalls Proper worldAfter opsOf
 computing = 0
 
 one-is : IsList one

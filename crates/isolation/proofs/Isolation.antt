@@ -5,10 +5,10 @@ use mathlib.Core.List.{List}
 use mathlib.Core.Path.{_≡_, sym, ap, subst, subst₂, _∙_}
 use lib.ListN.{length}
 use Rattle.plan.specs.declared.Plan.{Plan}
-use Rattle.machine.specs.declared.State.{State}
-use Rattle.machine.specs.Records.{logPart, partRecords}
-use Rattle.machine.specs.World.{World, positionAt, recordsAt}
-use Rattle.machine.proofs.Reached.{log-length}
+use Rattle.records.specs.Records.{logPart, partRecords}
+use Rattle.state.specs.declared.State.{State}
+use Rattle.state.specs.World.{World, positionAt, recordsAt}
+use Rattle.reached.proofs.Reached.{log-length}
 use Rattle.refusal.specs.declared.Verdict.{Verdict}
 use Rattle.refusal.specs.declared.Verdict.the-variants.{Accepted}
 use Rattle.engine.specs.Asking.{logCallOf, logFrom, logRefusalOf}

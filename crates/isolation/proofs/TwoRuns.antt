@@ -24,11 +24,11 @@ use lib.ListN.{length}
 use Rattle.plan.specs.declared.Plan.{Plan}
 use Rattle.plan.specs.Possible.{planPossible}
 use Rattle.plan.specs.Windows.{ownerOf, windowsTotal}
-use Rattle.machine.specs.Ops.{boxPlace}
-use Rattle.machine.specs.Records.{logPart, partRecords}
-use Rattle.machine.specs.World.{positionAt, recordsAt}
-use Rattle.machine.proofs.Reached.{boxes-length}
-use Rattle.machine.proofs.Reached.Counts.{counted}
+use Rattle.records.specs.Records.{logPart, partRecords}
+use Rattle.ops.specs.Ops.{boxPlace}
+use Rattle.state.specs.World.{positionAt, recordsAt}
+use Rattle.reached.proofs.Reached.{boxes-length}
+use Rattle.reached.proofs.Counts.{counted}
 use Rattle.engine.specs.FreshStart.{freshWorld}
 use Rattle.isolation.specs.Points.{Run, Within, opsOf, windowsAfter, worldAfter}
 use Rattle.isolation.specs.Statement.{BoxesAgree, Correspond, Only, SamePlan, SameSets, ScriptsAgree}

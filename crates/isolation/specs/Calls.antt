@@ -7,8 +7,8 @@ use mathlib.Core.Logic.{_⊎_}
 use mathlib.Core.Path.{_≡_}
 use lib.Dec.{eqb}
 use Rattle.plan.specs.declared.Plan.{Plan}
-use Rattle.machine.specs.declared.State.{State}
-use Rattle.machine.specs.World.{World}
+use Rattle.state.specs.declared.State.{State}
+use Rattle.state.specs.World.{World}
 use Rattle.refusal.specs.declared.Verdict.{Verdict}
 use Rattle.refusal.specs.Code.{codeOf}
 use Rattle.engine.specs.Asking.{logRefusalOf}

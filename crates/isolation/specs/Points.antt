@@ -7,10 +7,10 @@ use lib.Dec.{eqb, ltb}
 use lib.ListN.{getD, length}
 use Rattle.plan.specs.declared.Plan.{Plan}
 use Rattle.plan.specs.Windows.{ownerOf, windowsTotal}
-use Rattle.machine.specs.Ops.{boxPlace}
-use Rattle.machine.specs.Records.{partRecords}
+use Rattle.records.specs.Records.{partRecords}
+use Rattle.ops.specs.Ops.{boxPlace}
+use Rattle.state.specs.World.{World}
 use Rattle.machine.specs.Steps.{steps}
-use Rattle.machine.specs.World.{World}
 use Rattle.engine.specs.FreshStart.{freshWorld}
 
 -- a run from a fresh start: a plan, a script store and a log

@@ -9,7 +9,7 @@ use Rattle.plan.specs.declared.Plan.{Plan}
 use Rattle.plan.specs.Colours.{ownsColour}
 use Rattle.plan.specs.Windows.{ownerOf, startOf, windowsTotal}
 use Rattle.cache.specs.Lines.{setColour, setPlace}
-use Rattle.machine.specs.World.{World, positionAt}
+use Rattle.state.specs.World.{World, positionAt}
 use Rattle.refusal.specs.declared.Verdict.the-variants.{Accepted}
 use Rattle.engine.specs.Asking.{logCallOf, logRefusalOf}
 use Rattle.isolation.specs.Calls.{CallList, IsList, leavesOf, pointOf}

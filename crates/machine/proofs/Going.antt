@@ -3,8 +3,8 @@ use mathlib.Core.Path.{_≡_, refl, subst, sym, ap, _∙_}
 use mathlib.Core.Bool.{Bool, cond, false, true}
 use mathlib.Core.List.{List}
 use mathlib.Core.Logic.{⊎-elim}
-use Prim.Native.Nat.{ℕ, suc, _+_, _*_, _-_, _/_, _^_, _≤_, _<_}
-use native.Mathlib.Nat.{add-zero, div-mul-le-self, mul-left-comm, mul-le-mul, mul-le-mul-left, mul-suc, sub-zero, zero-add}
+use Prim.Native.Nat.{ℕ, suc, _+_, _*_, _-_, _^_, _≤_, _<_}
+use native.Mathlib.Nat.{add-zero, mul-le-mul, mul-le-mul-left, mul-suc, sub-zero, zero-add}
 use native.Mathlib.Numerals.{add-one}
 use native.Mathlib.Omega.{arith}
 use lib.Dec.{ltb}
@@ -15,12 +15,11 @@ use Rattle.plan.specs.Possible.{planPossible}
 use Rattle.plan.specs.Windows.{endOf, lengthOf, ownerOf, slotOf, startOf, windowsTotal}
 use Rattle.plan.proofs.Possible.{counts}
 use Rattle.plan.proofs.Windows.{length-most as lengths, owner-declared, slot-below as slots, start-fits}
-use Rattle.machine.specs.Impossible.{statePossible}
-use Rattle.machine.specs.Records.{partRecords}
+use Rattle.state.specs.Impossible.{statePossible}
+use Rattle.state.specs.World.{World, endedOf}
 use Rattle.machine.specs.Steps.{Ran, activeStep, oneMore, runOf, stepOf}
 use Rattle.machine.specs.View.{ranWith}
-use Rattle.machine.specs.World.{World, endedOf}
-use Rattle.machine.proofs.Reached.Schedule.{NextWindow, Scheduled, possible-scheduled, next-start, step-scheduled, step-windows}
+use Rattle.machine.proofs.Schedule.{NextWindow, Scheduled, possible-scheduled, next-start, step-scheduled, step-windows}
 use Rattle.machine.proofs.Runs.{run-ended, run-more, step-active}
 
 -- so many steps done before
@@ -193,8 +192,3 @@ windows-small plan windows possible within =
     let count = counts plan possible in
     let most : plan .run * plan .windows ≤ 1_000 * 32 = mul-le-mul (count .run-most) (count .windows-most) in
     omega arith
-
--- the parts of all declared domains lie within the log
-pub parts-fit : (plan : Plan) (size : ℕ) → 8 * (partRecords plan size * plan .domains) ≤ size
-unfolding partRecords
-parts-fit plan size = rw (mul-left-comm 8 (size / (8 * plan .domains)) (plan .domains)) (div-mul-le-self size (8 * plan .domains))

@@ -1,9 +1,8 @@
 -- The laws of the machine that its own proofs and other crates cite.
+pub mod Fetched
 pub mod Going
-pub mod Operations
-pub mod Possibility
-pub mod Reached
+pub mod Invariant
 pub mod Runs
-pub mod Soundness
-pub mod Ticks
+pub mod Schedule
+pub mod Tests
 pub mod Turns

@@ -7,7 +7,7 @@ use mathlib.Core.Path.{_≡_, refl, sym, ap, subst, _∙_}
 use native.Mathlib.Nat.{add-suc, add-zero, suc-add, zero-add}
 use native.Mathlib.Omega.{arith}
 use Rattle.plan.specs.declared.Plan.{Plan}
-use Rattle.machine.specs.World.{World, endedOf}
+use Rattle.state.specs.World.{World, endedOf}
 use Rattle.machine.specs.Steps.{Ran, activeStep, oneMore, runOf, stepOf, steps}
 
 module _ (plan : Plan) (scripts : List ℕ) (quota : ℕ) where

@@ -17,17 +17,18 @@ use Rattle.script.specs.Fetch.{fetchOf}
 use Rattle.script.specs.Limits.{Within}
 use Rattle.cache.specs.Flush.{kernelFlushTicks, kernelFlushed, l1FlushTicks, l1Flushed}
 use Rattle.cache.proofs.Ticks.{flush-ticks}
-use Rattle.machine.specs.declared.Done.{Done}
-use Rattle.machine.specs.declared.Seen.{Seen}
-use Rattle.machine.specs.declared.State.{State}
-use Rattle.machine.specs.Ops.{Effect, effectOf, ownsLine, receiveOf, sendOf, touchOf}
-use Rattle.machine.specs.Records.{stored}
+use Rattle.records.specs.declared.Seen.{Seen}
+use Rattle.records.specs.Records.{stored}
+use Rattle.ops.specs.declared.Done.{Done}
+use Rattle.ops.specs.Ops.{Effect, effectOf, ownsLine, receiveOf, sendOf, touchOf}
+use Rattle.ops.specs.View.{effectWith, viewOf}
+use Rattle.ops.proofs.Ticks.{effect-ticks}
+use Rattle.state.specs.declared.State.{State}
+use Rattle.state.specs.World.{World, positionAt, recordsAt, runningOf}
 use Rattle.machine.specs.Steps.{activeStep, closedOf, fetchedStep, nextOf, opStepOf}
 use Rattle.machine.specs.Switch.{flushedClock, paddedClock, switchOf}
-use Rattle.machine.specs.View.{InWindow, effectWith, viewOf, worldWith}
-use Rattle.machine.specs.World.{World, positionAt, recordsAt, runningOf}
-use Rattle.machine.proofs.Reached.Tests.{neither}
-use Rattle.machine.proofs.Ticks.{effect-ticks}
+use Rattle.machine.specs.View.{InWindow, worldWith}
+use Rattle.machine.proofs.Tests.{neither}
 
 -- both flushes one after the other, with what each answers
 module _ (cache flushed : List ℕ) (kernel l1 : ℕ) (first : kernel ≡ kernelFlushTicks cache) (between : flushed ≡ kernelFlushed cache) (second : l1 ≡ l1FlushTicks flushed) where

@@ -10,10 +10,10 @@ use Rattle.script.specs.declared.Op.{Op}
 use Rattle.script.specs.declared.Fetched.{Fetched}
 use Rattle.script.specs.declared.Fetched.the-variants.{Op as Fetch, End}
 use Rattle.script.specs.Fetch.{fetchOf}
-use Rattle.machine.specs.declared.State.{State}
-use Rattle.machine.specs.World.{World, endedOf, positionAt, recordsAt, runningOf}
-use Rattle.machine.specs.Records.{stored}
-use Rattle.machine.specs.Ops.{Effect, effectOf}
+use Rattle.records.specs.Records.{stored}
+use Rattle.ops.specs.Ops.{Effect, effectOf}
+use Rattle.state.specs.declared.State.{State}
+use Rattle.state.specs.World.{World, endedOf, positionAt, recordsAt, runningOf}
 use Rattle.machine.specs.Switch.{switchOf}
 
 -- one op of a domain: the next position, one record more, the clock after the op, and what the op leaves

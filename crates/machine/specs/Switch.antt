@@ -4,8 +4,8 @@ use mathlib.Core.List.{List}
 use Rattle.plan.specs.declared.Plan.{Plan}
 use Rattle.plan.specs.Windows.{endOf}
 use Rattle.cache.specs.Flush.{kernelFlushTicks, kernelFlushed, l1FlushTicks, l1Flushed}
-use Rattle.machine.specs.declared.State.{State}
-use Rattle.machine.specs.World.{World}
+use Rattle.state.specs.declared.State.{State}
+use Rattle.state.specs.World.{World}
 
 -- the clock once both flushes are done: raised to the window's end if lower, then the kernel's sets are emptied, then L1
 unfoldable pub flushedClock : Plan → State → List ℕ → ℕ

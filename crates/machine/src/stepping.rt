@@ -1,16 +1,16 @@
 // One step, an op or a switch, and so many of them.
 use crate::Advance;
-use crate::State;
-use crate::logging::store_record;
-use crate::operating::operate;
 use cache::flush_kernel;
 use cache::flush_l1;
+use ops::operate;
 use plan::Plan;
 use plan::timing::start_of;
 use plan::timing::windows_total;
+use records::store_record;
 use script::Fetched;
 use script::Op;
 use script::fetch;
+use state::State;
 ghost use mathlib.Core.Path.{_≡_};
 ghost use mathlib.Core.Bool.{cond, true};
 ghost use mathlib.Core.List.{List};
@@ -20,10 +20,11 @@ ghost use Rattle.plan.specs.Possible.{planPossible};
 ghost use Rattle.plan.specs.Windows.{endOf, windowsTotal};
 ghost use Rattle.script.specs.Limits.{Within};
 ghost use Rattle.cache.specs.Flush.{kernelFlushTicks, kernelFlushed, l1FlushTicks, l1Flushed};
-ghost use Rattle.machine.specs.Impossible.{statePossible};
+ghost use Rattle.ops.specs.View.{viewOf};
+ghost use Rattle.state.specs.Impossible.{statePossible};
 ghost use Rattle.machine.specs.Steps.{activeStep, opStepOf, runOf};
 ghost use Rattle.machine.specs.Switch.{switchOf};
-ghost use Rattle.machine.specs.View.{InWindow, ranWith, viewOf, worldWith};
+ghost use Rattle.machine.specs.View.{InWindow, ranWith, worldWith};
 
 fn later(one: u64, other: u64) -> u64
     ensures { λ r. ⌜ r ≡ max one other ⌝ }

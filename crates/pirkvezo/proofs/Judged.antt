@@ -16,8 +16,8 @@ use Rattle.plan.proofs.Masks.{first-mono}
 use Rattle.plan.proofs.Possible.{declared, parts, undeclared}
 use Rattle.plan.proofs.Shares.{colours-at-most}
 use Rattle.plan.proofs.Sums.{below-all}
-use Rattle.machine.specs.declared.State.{State}
-use Rattle.machine.specs.World.{World}
+use Rattle.state.specs.declared.State.{State}
+use Rattle.state.specs.World.{World}
 use Rattle.reader.specs.Draft.{noPlan}
 use Rattle.engine.specs.FreshStart.{freshStartOf}
 use Rattle.engine.specs.Checks.{freshVerdict}

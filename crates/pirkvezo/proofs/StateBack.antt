@@ -8,12 +8,12 @@ use lib.ListN.{length, length-set}
 use Rattle.plan.specs.declared.Plan.{Plan}
 use Rattle.script.specs.declared.Fetched.{Fetched}
 use Rattle.script.specs.declared.Fetched.the-variants.{Op as Fetch, End}
-use Rattle.machine.specs.declared.State.{State}
-use Rattle.machine.specs.Records.{partRecords}
+use Rattle.records.specs.Records.{partRecords}
+use Rattle.state.specs.declared.State.{State}
+use Rattle.state.specs.World.{World, endedOf, freshState}
 use Rattle.machine.specs.Steps.{Ran, activeStep, closedOf, fetchedStep, nextOf, oneMore, opStepOf, runOf}
 use Rattle.machine.specs.Switch.{switchOf}
 use Rattle.machine.specs.View.{worldWith}
-use Rattle.machine.specs.World.{World, endedOf, freshState}
 use Rattle.refusal.specs.declared.Verdict.{Verdict}
 use Rattle.refusal.specs.declared.Verdict.the-variants.{Accepted, Refused}
 use Rattle.engine.specs.Checks.{freshVerdict, runVerdict}

@@ -8,7 +8,7 @@ use lib.Seq.{take-all}
 use Rattle.lists.specs.Part.{part}
 use Rattle.lists.proofs.Parts.{part-next}
 use Rattle.plan.specs.declared.Plan.{Plan}
-use Rattle.machine.specs.declared.State.{State}
+use Rattle.state.specs.declared.State.{State}
 use Rattle.pirkvezo.specs.Numbers.{numbersFrom, planNumbers, planOf, stateNumbers, stateOf}
 
 -- a run within a list is a part of it

@@ -6,7 +6,7 @@ use native.Mathlib.Omega.{arith}
 use lib.ListN.{length, take}
 use lib.Seq.{length-sets, sets, take-all}
 use Rattle.plan.specs.declared.Plan.{Plan}
-use Rattle.machine.specs.declared.State.{State}
+use Rattle.state.specs.declared.State.{State}
 use Rattle.pirkvezo.specs.Numbers.{numbersFrom}
 use Rattle.pirkvezo.proofs.Runs.{front-more, front-run}
 

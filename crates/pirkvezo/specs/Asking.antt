@@ -4,8 +4,8 @@ use mathlib.Core.Bool.{true, false}
 use mathlib.Core.List.{List}
 use lib.ListN.{length}
 use Rattle.plan.specs.declared.Plan.{Plan}
-use Rattle.machine.specs.declared.State.{State}
-use Rattle.machine.specs.Records.{partRecords, recordPlace}
+use Rattle.records.specs.Records.{partRecords, recordPlace}
+use Rattle.state.specs.declared.State.{State}
 use Rattle.refusal.specs.declared.Verdict.{Verdict}
 use Rattle.refusal.specs.declared.Verdict.the-variants.{Accepted, Refused}
 use Rattle.engine.specs.Asking.{logCallOf, logRefusalOf}

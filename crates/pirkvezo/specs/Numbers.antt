@@ -6,7 +6,7 @@ use lib.Dec.{leb}
 use lib.ListN.{getD}
 use Rattle.plan.specs.declared.Plan.{Plan}
 use Rattle.plan.specs.Sums.{allBelow}
-use Rattle.machine.specs.declared.State.{State}
+use Rattle.state.specs.declared.State.{State}
 use Rattle.reader.specs.Draft.{noPlan}
 
 -- the `count` numbers of a list from the place `first` on; past the list's end they are 0

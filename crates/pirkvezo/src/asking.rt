@@ -6,10 +6,10 @@ use crate::plans::load_plan;
 use crate::states::load_state;
 use engine::asking::log_of;
 use engine::asking::log_refusal;
-use machine::State;
-use machine::logging::part_records;
 use plan::Plan;
+use records::part_records;
 use refusal::Verdict;
+use state::State;
 ghost use mathlib.Core.Path.{_≡_};
 ghost use Rattle.pirkvezo.specs.Asking.{askedOf, hostLog, logWith};
 

@@ -1,5 +1,5 @@
 // The 18 numbers of a state: windows completed, clock, eight script positions, eight record counts.
-use machine::State;
+use state::State;
 ghost use mathlib.Core.Path.{_≡_};
 ghost use Prim.Native.Nat.{_+_, _≤_};
 ghost use lib.ListN.{length};

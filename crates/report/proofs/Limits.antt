@@ -10,9 +10,9 @@ use lib.ListN.{length, length-append}
 use Rattle.lists.specs.Ascii.{bytesOf}
 use Rattle.text.specs.Decimal.{decimalOf}
 use Rattle.text.proofs.Decimals.{decimal-most}
-use Rattle.machine.specs.declared.State.{State}
-use Rattle.machine.specs.Records.{recordPlace}
-use Rattle.machine.specs.World.{recordsAt}
+use Rattle.records.specs.Records.{recordPlace}
+use Rattle.state.specs.declared.State.{State}
+use Rattle.state.specs.World.{recordsAt}
 use Rattle.report.specs.Lines.{clockAt, domainLines, kindAt, kindWord, seenLine, seenLines, valueAt}
 
 -- a word and a number behind it

@@ -10,10 +10,10 @@ use Rattle.plan.specs.declared.Plan.{Plan}
 use Rattle.plan.specs.Sums.{allBelow}
 use Rattle.plan.proofs.Possible.{both}
 use Rattle.plan.proofs.Sums.{all-below}
-use Rattle.machine.specs.declared.State.{State}
-use Rattle.machine.specs.Impossible.{clockPossible, countsPossible, statePossible}
-use Rattle.machine.specs.Records.{partRecords, recordPlace}
-use Rattle.machine.specs.World.{positionAt, recordsAt}
+use Rattle.records.specs.Records.{partRecords, recordPlace}
+use Rattle.state.specs.declared.State.{State}
+use Rattle.state.specs.Impossible.{clockPossible, countsPossible, statePossible}
+use Rattle.state.specs.World.{positionAt, recordsAt}
 
 -- a part ends where the next begins, and that is at most the end of the last
 pub part-ends : (quota domain domains : ℕ) → domain < domains → quota * domain + quota ≤ quota * domains

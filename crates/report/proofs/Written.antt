@@ -10,9 +10,9 @@ use Rattle.lists.specs.Ascii.{bytesOf}
 use Rattle.lists.proofs.Stores.{Wrote, wrote-both, wrote-first, wrote-three}
 use Rattle.text.specs.Decimal.{decimalOf}
 use Rattle.plan.specs.declared.Plan.{Plan}
-use Rattle.machine.specs.declared.State.{State}
-use Rattle.machine.specs.Records.{partRecords, recordPlace}
-use Rattle.machine.specs.World.{recordsAt}
+use Rattle.records.specs.Records.{partRecords, recordPlace}
+use Rattle.state.specs.declared.State.{State}
+use Rattle.state.specs.World.{recordsAt}
 use Rattle.report.specs.Lines.{clockAt, domainLines, endLine, kindAt, kindWord, runLines, seenLine, seenLines, valueAt}
 
 -- a record's line: the domain, the clock, and from the kind on

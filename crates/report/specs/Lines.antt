@@ -8,9 +8,9 @@ use lib.ListN.{getD, length}
 use Rattle.lists.specs.Ascii.{bytesOf}
 use Rattle.plan.specs.declared.Plan.{Plan}
 use Rattle.text.specs.Decimal.{decimalOf}
-use Rattle.machine.specs.declared.State.{State}
-use Rattle.machine.specs.Records.{partRecords, recordPlace, recordSize}
-use Rattle.machine.specs.World.{recordsAt}
+use Rattle.records.specs.Records.{partRecords, recordPlace, recordSize}
+use Rattle.state.specs.declared.State.{State}
+use Rattle.state.specs.World.{recordsAt}
 use Rattle.refusal.specs.declared.Code.{Code}
 
 -- the words of the kinds 1 to 9; no record has another kind

@@ -6,19 +6,19 @@ pub mod program;
 use lines::write_end;
 use lines::write_pair;
 use lines::write_seen;
-use machine::State;
-use machine::logging::part_records;
 use plan::Plan;
+use records::part_records;
 use refusal::Code;
+use state::State;
 ghost use mathlib.Core.Path.{_≡_};
 ghost use mathlib.Core.Bool.{true};
 ghost use Prim.Native.Nat.{ℕ, _+_, _*_, _^_, _<_, _≤_};
 ghost use lib.ListN.{length};
 ghost use lib.Seq.{sets};
 ghost use Rattle.plan.specs.Possible.{planPossible};
-ghost use Rattle.machine.specs.Impossible.{statePossible};
-ghost use Rattle.machine.specs.Records.{partRecords, recordPlace};
-ghost use Rattle.machine.specs.World.{recordsAt};
+ghost use Rattle.records.specs.Records.{partRecords, recordPlace};
+ghost use Rattle.state.specs.Impossible.{statePossible};
+ghost use Rattle.state.specs.World.{recordsAt};
 ghost use Rattle.report.specs.Lines.{domainLines, refusedLine, runLines, seenLines};
 
 // Writes the lines of a domain's first records.

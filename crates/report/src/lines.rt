@@ -1,7 +1,7 @@
 // The lines, each written into a lent buffer from a place on. Each answers the place past what it wrote.
 use crate::fields::clock_at;
 use crate::fields::value_at;
-use machine::State;
+use state::State;
 use text::decimal::write_bytes;
 use text::decimal::write_decimal;
 ghost use mathlib.Core.Path.{_≡_};

@@ -22,13 +22,13 @@ use Rattle.reader.specs.Tokens.{sameBytes, isWord, passOpen, passClose, passLin
 use Rattle.cache.specs.Access.{lookHit1, lookL2, lookOf, lookAt, accessOf}
 use Rattle.cache.specs.Flush.{countOf, dirtyLines, validLines, kernelFlushTicks, l1FlushTicks, kernelFlushed, l1Flushed}
 use Rattle.cache.specs.Sets.{has, behind, used}
-use Rattle.machine.specs.Damage.{lineAllowed, l1EntrySound, allEmpty, waysSound, setSound, boxSound, tablesSound}
-use Rattle.machine.specs.Impossible.{clockPossible, countsPossible as machineCountsPossible, statePossible}
-use Rattle.machine.specs.Ops.{ownsLine, touchOf, deniedOf, passedOf, sendOf, boxSeen, receiveOf, computeOf, effectOf}
-use Rattle.machine.specs.Records.{recordBytes, partRecords, stored, logPart}
+use Rattle.records.specs.Records.{recordBytes, partRecords, stored, logPart}
+use Rattle.ops.specs.Ops.{ownsLine, touchOf, deniedOf, passedOf, sendOf, boxSeen, receiveOf, computeOf, effectOf}
+use Rattle.state.specs.Damage.{lineAllowed, l1EntrySound, allEmpty, waysSound, setSound, boxSound, tablesSound}
+use Rattle.state.specs.Impossible.{clockPossible, countsPossible as stateCountsPossible, statePossible}
+use Rattle.state.specs.World.{endedOf, freshState}
 use Rattle.machine.specs.Steps.{opStepOf, closedOf, fetchedStep, activeStep, stepOf, steps, runOf}
 use Rattle.machine.specs.Switch.{flushedClock, paddedClock, switchOf}
-use Rattle.machine.specs.World.{endedOf, freshState}
 use Rattle.engine.specs.Asking.{logCallOf, logRefusalOf}
 use Rattle.engine.specs.Checks.{stateVerdict, freshVerdict, runVerdict, logVerdict}
 use Rattle.engine.specs.FreshStart.{freshStartOf, freshWorld}
@@ -38,5 +38,5 @@ use Rattle.report.specs.Planrun.{ranLines, planrunOf}
 use Rattle.settled.specs.Table.{fullRun, shares, lineHundred, boxLines, leastPad, dirtyTo, flushes, tableAfter, allMiss, fiveReads, sixthRead, firstWindowAt, stepAt, beginsBeforeEnd, noneAtEnd, emptyText, entries, allHold}
 
 pub settled : allHold entries ≡ true
-unfolding bytesOf part splice opOf decodeOf fetchOf storedOf coloursOf sharesTotal firstColour maskFrom maskOf holdingOf hasBit countsPossible declaredPossible undeclaredPossible domainPossible maskPossible windowPossible planPossible sumTo allBelow ownerOf lengthOf startOf endOf windowsTotal ticksTotal digitsOf decimalOf scanFrom scanOf allBytes valueAfter valueOf digitsToken runToken longestRun tokenFrom tokenAt noPlan noDraft noOps planWithPad planWithRun planWithDomain planWithWindow takePad takeRun takeDomain takeWindow takeOp takeLine lacking firstUndeclared firstColourless finalVerdict masksFrom planWithMasks padInside runInside lengthInside windowInside opHeadAt opNumbers scriptInside opInside recipientAt mention recipientsFrom recipientsAt listedInside mayInside shareInside domainInside headAt insideOf closedLine insideLine tokenLine lineAt walkFrom refusedRead readOf sameBytes isWord passOpen passClose passLineEnd passWord takeNumber lookHit1 lookL2 lookOf lookAt accessOf countOf dirtyLines validLines kernelFlushTicks l1FlushTicks kernelFlushed l1Flushed has behind used lineAllowed l1EntrySound allEmpty waysSound setSound boxSound tablesSound clockPossible machineCountsPossible statePossible ownsLine touchOf deniedOf passedOf sendOf boxSeen receiveOf computeOf effectOf recordBytes partRecords stored logPart opStepOf closedOf fetchedStep activeStep stepOf steps runOf flushedClock paddedClock switchOf endedOf freshState logCallOf logRefusalOf stateVerdict freshVerdict runVerdict logVerdict freshStartOf freshWorld ranFrom runCallOf stepCallOf seenLine domainLines seenLines endLine runLines refusedLine ranLines planrunOf fullRun shares lineHundred boxLines leastPad dirtyTo flushes tableAfter allMiss fiveReads sixthRead firstWindowAt stepAt beginsBeforeEnd noneAtEnd emptyText entries allHold
+unfolding bytesOf part splice opOf decodeOf fetchOf storedOf coloursOf sharesTotal firstColour maskFrom maskOf holdingOf hasBit countsPossible declaredPossible undeclaredPossible domainPossible maskPossible windowPossible planPossible sumTo allBelow ownerOf lengthOf startOf endOf windowsTotal ticksTotal digitsOf decimalOf scanFrom scanOf allBytes valueAfter valueOf digitsToken runToken longestRun tokenFrom tokenAt noPlan noDraft noOps planWithPad planWithRun planWithDomain planWithWindow takePad takeRun takeDomain takeWindow takeOp takeLine lacking firstUndeclared firstColourless finalVerdict masksFrom planWithMasks padInside runInside lengthInside windowInside opHeadAt opNumbers scriptInside opInside recipientAt mention recipientsFrom recipientsAt listedInside mayInside shareInside domainInside headAt insideOf closedLine insideLine tokenLine lineAt walkFrom refusedRead readOf sameBytes isWord passOpen passClose passLineEnd passWord takeNumber lookHit1 lookL2 lookOf lookAt accessOf countOf dirtyLines validLines kernelFlushTicks l1FlushTicks kernelFlushed l1Flushed has behind used lineAllowed l1EntrySound allEmpty waysSound setSound boxSound tablesSound clockPossible stateCountsPossible statePossible ownsLine touchOf deniedOf passedOf sendOf boxSeen receiveOf computeOf effectOf recordBytes partRecords stored logPart opStepOf closedOf fetchedStep activeStep stepOf steps runOf flushedClock paddedClock switchOf endedOf freshState logCallOf logRefusalOf stateVerdict freshVerdict runVerdict logVerdict freshStartOf freshWorld ranFrom runCallOf stepCallOf seenLine domainLines seenLines endLine runLines refusedLine ranLines planrunOf fullRun shares lineHundred boxLines leastPad dirtyTo flushes tableAfter allMiss fiveReads sixthRead firstWindowAt stepAt beginsBeforeEnd noneAtEnd emptyText entries allHold
 settled = refl

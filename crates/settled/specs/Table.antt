@@ -15,10 +15,10 @@ use Rattle.cache.specs.declared.Found.the-variants.{Hit1, Hit2, Miss}
 use Rattle.cache.specs.Access.{accessOf}
 use Rattle.cache.specs.Flush.{l1FlushTicks}
 use Rattle.cache.specs.Lines.{cleanEntry, colourOf, dirtyEntry, indexOf, setOf, setPlace, tableLength, waysOfSet}
-use Rattle.machine.specs.declared.State.{State}
-use Rattle.machine.specs.Ops.{boxLine}
+use Rattle.ops.specs.Ops.{boxLine}
+use Rattle.state.specs.declared.State.{State}
+use Rattle.state.specs.World.{World, positionAt}
 use Rattle.machine.specs.Steps.{stepOf}
-use Rattle.machine.specs.World.{World, positionAt}
 use Rattle.refusal.specs.declared.Verdict.{Verdict}
 use Rattle.refusal.specs.Code.{codeOf}
 use Rattle.reader.specs.Draft.{noOps}

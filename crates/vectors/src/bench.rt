@@ -1,5 +1,5 @@
 // What the examples work on: the plan and the state of the example at hand, and how much of each table is lent.
-use machine::State;
+use state::State;
 ghost use Prim.Native.Nat.{_≤_};
 use plan::Plan;
 

@@ -6,8 +6,8 @@ use crate::lines::half_in;
 use crate::lines::number_in;
 use crate::lines::place_in;
 use crate::lines::word_in;
-use machine::State;
 use plan::Plan;
+use state::State;
 
 // A log that nobody has written yet: every byte 238.
 fn blank_log(log: &mut [u8]) {

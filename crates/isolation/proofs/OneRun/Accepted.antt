@@ -7,10 +7,10 @@ use mathlib.Core.Path.{_≡_, sym, ap, subst, _∙_}
 use lib.ListN.{length}
 use Rattle.plan.specs.declared.Plan.{Plan}
 use Rattle.plan.specs.Possible.{planPossible}
-use Rattle.machine.specs.Impossible.{statePossible}
-use Rattle.machine.specs.Records.{partRecords}
-use Rattle.machine.specs.World.{World}
-use Rattle.machine.proofs.Reached.{boxes-length, cache-length, log-length, state-possible, tables-sound}
+use Rattle.records.specs.Records.{partRecords}
+use Rattle.state.specs.Impossible.{statePossible}
+use Rattle.state.specs.World.{World}
+use Rattle.reached.proofs.Reached.{boxes-length, cache-length, log-length, state-possible, tables-sound}
 use Rattle.refusal.specs.declared.Refusal.the-variants.{WrongLength}
 use Rattle.refusal.specs.declared.Verdict.the-variants.{Accepted, Refused}
 use Rattle.engine.specs.Asking.{logRefusalOf}

@@ -6,9 +6,9 @@ use mathlib.Core.Logic.{_⊎_, inl, inr}
 use mathlib.Core.Path.{_≡_, refl, sym, ap, subst, _∙_}
 use lib.ListN.{length}
 use Rattle.plan.specs.declared.Plan.{Plan}
-use Rattle.machine.specs.Records.{partRecords}
+use Rattle.records.specs.Records.{partRecords}
+use Rattle.state.specs.World.{World}
 use Rattle.machine.specs.Steps.{steps}
-use Rattle.machine.specs.World.{World}
 use Rattle.engine.specs.Running.{stepCallOf}
 use Rattle.isolation.specs.Calls.{AllOwn, Call, Handed, IsOwn, LogThings, RunThings, afterCall, foreign, handed, handedWorld, isRefused, leftIn, leftWorld, logCall, logQuestion, own, runAnswer, runCall, stepAnswer, stepCall, stepsAsked, stepsCounted, verdictOf}
 use Rattle.isolation.proofs.OneRun.Verdicts.{run-accepted, run-refused}

@@ -7,11 +7,11 @@ use mathlib.Core.Path.{_≡_, refl, sym, ap, _∙_}
 use native.Mathlib.Nat.{add-assoc, add-zero, zero-add}
 use lib.ListN.{length}
 use Rattle.plan.specs.Possible.{planPossible}
-use Rattle.machine.specs.Records.{partRecords}
+use Rattle.records.specs.Records.{partRecords}
+use Rattle.state.specs.World.{World}
 use Rattle.machine.specs.Steps.{steps}
-use Rattle.machine.specs.World.{World}
-use Rattle.machine.proofs.Reached.{log-length}
 use Rattle.machine.proofs.Runs.{steps-add}
+use Rattle.reached.proofs.Reached.{log-length}
 use Rattle.engine.specs.FreshStart.{freshWorld}
 use Rattle.isolation.specs.Calls.{AllOwn, Call, CallList, IsList, Proper, afterCall, afterCalls, isRefused, leavesOf, pointOf, stepsCounted, stepsOfCalls, verdictOf}
 use Rattle.isolation.specs.Points.{Run, worldAfter}

@@ -11,10 +11,10 @@ use borrow.Author.Tests.{leb-false, leb-true}
 use Rattle.plan.specs.Possible.{planPossible}
 use Rattle.plan.specs.Windows.{startOf}
 use Rattle.plan.proofs.Sums.{last-or-earlier}
-use Rattle.machine.specs.Records.{partRecords}
+use Rattle.records.specs.Records.{partRecords}
+use Rattle.state.specs.World.{freshState}
 use Rattle.machine.specs.Steps.{steps}
-use Rattle.machine.specs.World.{freshState}
-use Rattle.machine.proofs.Reached.Schedule.{NextStarts, NextWindow, Scheduled, scheduled, step-windows}
+use Rattle.machine.proofs.Schedule.{NextStarts, NextWindow, Scheduled, scheduled, step-windows}
 use Rattle.engine.specs.FreshStart.{freshWorld}
 use Rattle.isolation.specs.Calls.{CallList, IsList, pointOf}
 use Rattle.isolation.specs.Points.{Run, windowsAfter, worldAfter}

@@ -7,7 +7,7 @@ use lib.ListN.{getD, length}
 use Rattle.cache.specs.Flush.{kernelFlushed, l1Flushed}
 use Rattle.cache.specs.Lines.{indexes, kernelPlace, tableLength}
 use Rattle.lists.proofs.Agree.{Agree}
-use Rattle.machine.proofs.Reached.Flushes.{flushed-kernel, flushed-l1, flushed-long, flushed-others}
+use Rattle.reached.proofs.Flushes.{flushed-kernel, flushed-l1, flushed-long, flushed-others}
 use Rattle.isolation.proofs.TwoRuns.Places.{FlushedPlace, kernel, l1}
 
 -- the table after both flushes

@@ -9,9 +9,9 @@ use native.Mathlib.Omega.{arith}
 use lib.ListN.{length}
 use Rattle.plan.specs.declared.Plan.{Plan}
 use Rattle.plan.specs.Windows.{ownerOf}
-use Rattle.machine.specs.Records.{partRecords}
+use Rattle.records.specs.Records.{partRecords}
+use Rattle.state.specs.World.{World}
 use Rattle.machine.specs.Switch.{switchOf}
-use Rattle.machine.specs.World.{World}
 use Rattle.isolation.specs.Points.{Run, windowsAfter, worldAfter}
 use Rattle.isolation.specs.Statement.{ScriptsAgree}
 use Rattle.isolation.proofs.TwoRuns.Near.{Locked, Paired, locked-step, switched, worked}

@@ -9,8 +9,8 @@ use native.Mathlib.Omega.{arith}
 use lib.ListN.{getD, length, set}
 use lib.Seq.{getD-set-same, set-out}
 use Rattle.lists.proofs.Agree.{Agree, Beside, Inside, agree-fewer, part-alike, sets-alike, sets-away}
-use Rattle.machine.specs.declared.Seen.{Seen}
-use Rattle.machine.specs.Records.{logPart, recordBytes, recordPlace, recordSize, stored}
+use Rattle.records.specs.declared.Seen.{Seen}
+use Rattle.records.specs.Records.{logPart, recordBytes, recordPlace, recordSize, stored}
 use Rattle.isolation.proofs.TwoRuns.Relations.{LogPlace}
 
 -- a count raised by one in a list is at most one more there: a place past the list's end keeps what it had

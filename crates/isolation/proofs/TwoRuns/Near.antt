@@ -8,10 +8,10 @@ use native.Mathlib.Decide.{ℕ-discrete}
 use Rattle.plan.specs.declared.Plan.{Plan}
 use Rattle.plan.specs.Possible.{planPossible}
 use Rattle.plan.specs.Windows.{ownerOf}
-use Rattle.machine.specs.Ops.{boxPlace}
+use Rattle.ops.specs.Ops.{boxPlace}
+use Rattle.state.specs.World.{World, runningOf}
 use Rattle.machine.specs.Steps.{stepOf}
 use Rattle.machine.specs.Switch.{switchOf}
-use Rattle.machine.specs.World.{World, runningOf}
 use Rattle.isolation.specs.Statement.{ScriptsAgree}
 use Rattle.isolation.proofs.TwoRuns.OpStep.{Whole, switch-away}
 use Rattle.isolation.proofs.TwoRuns.Relations.{Alike, Close, alike-refl, alike-sym, alike-trans}

@@ -11,10 +11,10 @@ use Rattle.plan.specs.Possible.{planPossible}
 use Rattle.script.specs.declared.Op.{Op}
 use Rattle.script.specs.Limits.{Within}
 use Rattle.cache.specs.Lines.{tableLength}
-use Rattle.machine.specs.Ops.{boxPlace}
+use Rattle.ops.specs.Ops.{boxPlace}
+use Rattle.state.specs.World.{World, recordsAt}
 use Rattle.machine.specs.Steps.{opStepOf}
 use Rattle.machine.specs.Switch.{switchOf}
-use Rattle.machine.specs.World.{World, recordsAt}
 use Rattle.isolation.specs.Statement.{Only}
 use Rattle.isolation.proofs.TwoRuns.Flush.{flush-alike, flush-away}
 use Rattle.isolation.proofs.TwoRuns.Log.{raised, stored-alike, stored-away}

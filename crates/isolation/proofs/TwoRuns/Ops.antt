@@ -16,8 +16,8 @@ use Rattle.cache.specs.declared.Found.{Found}
 use Rattle.cache.specs.Access.{accessOf}
 use Rattle.cache.specs.Lines.{tableLength}
 use Rattle.cache.proofs.Laws.{access-length}
-use Rattle.machine.specs.declared.Seen.{Seen}
-use Rattle.machine.specs.Ops.{Effect, boxLine, boxPlace, boxSeen, computeOf, deniedOf, effectOf, fullBox, gateLine, ownsLine, passedOf, receiveOf, seenOf, sendOf, touchOf}
+use Rattle.records.specs.declared.Seen.{Seen}
+use Rattle.ops.specs.Ops.{Effect, boxLine, boxPlace, boxSeen, computeOf, deniedOf, effectOf, fullBox, gateLine, ownsLine, passedOf, receiveOf, seenOf, sendOf, touchOf}
 use Rattle.isolation.proofs.TwoRuns.Access.{AccessAlike, access-alike, access-away}
 use Rattle.isolation.proofs.TwoRuns.Places.{WorkPlace, box-line, gate-line, own-line}
 

@@ -11,7 +11,7 @@ use Rattle.plan.specs.Possible.{planPossible}
 use Rattle.plan.proofs.Masks.{masks-disjoint, owned-below}
 use Rattle.lists.proofs.Agree.{Inside}
 use Rattle.cache.specs.Lines.{colourOf, indexes, kernelColour, kernelNumbers, kernelPlace, setColour, setOf, setPlace, waysOfSet}
-use Rattle.machine.specs.Ops.{boxLine, gateLine, ownsLine}
+use Rattle.ops.specs.Ops.{boxLine, gateLine, ownsLine}
 use Rattle.isolation.proofs.TwoRuns.Access.{Touched, atIndex, inSet}
 
 -- the L2 sets of a domain's colours, number by number

@@ -10,11 +10,11 @@ use lib.ListN.{length}
 use Rattle.plan.specs.declared.Plan.{Plan}
 use Rattle.plan.specs.Possible.{planPossible}
 use Rattle.plan.specs.Windows.{windowsTotal}
-use Rattle.machine.specs.Records.{partRecords}
+use Rattle.records.specs.Records.{partRecords}
+use Rattle.state.specs.World.{World, endedOf, freshState}
 use Rattle.machine.specs.Steps.{opStepOf, stepOf, steps}
 use Rattle.machine.specs.Switch.{switchOf}
-use Rattle.machine.specs.World.{World, endedOf, freshState}
-use Rattle.machine.proofs.Reached.Invariant.{step-cases}
+use Rattle.machine.proofs.Invariant.{step-cases}
 use Rattle.machine.proofs.Runs.{steps-add, steps-ended}
 use Rattle.engine.specs.FreshStart.{freshWorld}
 use Rattle.isolation.specs.Points.{Run, Starts, windowsAfter, worldAfter}

@@ -8,10 +8,10 @@ use lib.ListN.{length}
 use Rattle.lists.proofs.Agree.{Agree, agree-refl}
 use Rattle.plan.specs.declared.Plan.{Plan}
 use Rattle.plan.specs.Windows.{ownerOf, windowsTotal}
+use Rattle.state.specs.World.{World, freshState}
 use Rattle.machine.specs.Steps.{steps}
 use Rattle.machine.specs.Switch.{switchOf}
-use Rattle.machine.specs.World.{World, freshState}
-use Rattle.machine.proofs.Reached.Cells.{cell-zeros}
+use Rattle.reached.proofs.Cells.{cell-zeros}
 use Rattle.engine.specs.FreshStart.{freshWorld}
 use Rattle.isolation.specs.Points.{Starts, windowsAfter, worldAfter}
 use Rattle.isolation.proofs.TwoRuns.Lockstep.{Comparing, LockedAt, lockstep, one, other, quota, quota-other, same-end}

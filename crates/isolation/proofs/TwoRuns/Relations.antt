@@ -3,8 +3,8 @@
 use Prim.Native.Nat.{ℕ, _≤_, _<_}
 use mathlib.Core.Path.{_≡_, refl}
 use Rattle.plan.specs.declared.Plan.{Plan}
-use Rattle.machine.specs.Records.{recordPlace}
-use Rattle.machine.specs.World.{World, positionAt, recordsAt}
+use Rattle.records.specs.Records.{recordPlace}
+use Rattle.state.specs.World.{World, positionAt, recordsAt}
 use Rattle.lists.proofs.Agree.{Agree, agree-refl, agree-sym, agree-trans}
 use Rattle.isolation.specs.Statement.{Only}
 use Rattle.isolation.proofs.TwoRuns.Places.{FlushedPlace, OwnPlace}

@@ -14,12 +14,12 @@ use Rattle.plan.specs.Windows.{endOf, ownerOf, windowsTotal}
 use Rattle.script.specs.declared.Fetched.{Fetched}
 use Rattle.script.specs.declared.Fetched.the-variants.{Op as Fetch, End}
 use Rattle.script.specs.Fetch.{decodeOf, fetchOf}
-use Rattle.machine.specs.Ops.{boxPlace}
+use Rattle.ops.specs.Ops.{boxPlace}
+use Rattle.state.specs.World.{World, endedOf, positionAt, runningOf}
 use Rattle.machine.specs.Steps.{activeStep, closedOf, fetchedStep, nextOf, opStepOf, stepOf}
 use Rattle.machine.specs.Switch.{switchOf}
-use Rattle.machine.specs.World.{World, endedOf, positionAt, runningOf}
-use Rattle.machine.proofs.Reached.Fetched.{fetched-within}
-use Rattle.machine.proofs.Reached.Invariant.{step-cases}
+use Rattle.machine.proofs.Fetched.{fetched-within}
+use Rattle.machine.proofs.Invariant.{step-cases}
 use Rattle.isolation.proofs.TwoRuns.OpStep.{Whole, op-alike, op-away, switch-away}
 use Rattle.isolation.proofs.TwoRuns.Relations.{Alike, Close, alike-refl, same-position, same-records}
 

@@ -11,11 +11,11 @@ use lib.ListN.{length}
 use Rattle.plan.specs.declared.Plan.{Plan}
 use Rattle.plan.specs.Possible.{planPossible}
 use Rattle.plan.specs.Windows.{ownerOf, startOf, windowsTotal}
-use Rattle.machine.specs.Ops.{boxPlace}
-use Rattle.machine.specs.Records.{partRecords}
+use Rattle.records.specs.Records.{partRecords}
+use Rattle.ops.specs.Ops.{boxPlace}
 use Rattle.machine.specs.Steps.{stepOf}
 use Rattle.machine.specs.Switch.{switchOf}
-use Rattle.machine.proofs.Reached.{cache-length}
+use Rattle.reached.proofs.Reached.{cache-length}
 use Rattle.engine.specs.FreshStart.{freshWorld}
 use Rattle.isolation.specs.Points.{Run, Starts, windowsAfter, worldAfter}
 use Rattle.isolation.specs.Statement.{StartedOnTime}

@@ -3,7 +3,7 @@ use mathlib.Core.Path.{_∙_, ap, refl, sym}
 use Prim.Native.Nat.{ℕ}
 use borrow.Author.Needs.{needs}
 use Rattle.engine.specs.Checks.{stateVerdict}
-use Rattle.machine.specs.Impossible.{statePossible}
+use Rattle.state.specs.Impossible.{statePossible}
 use Rattle.plan.proofs.Possible.{counts}
 use Rattle.engine.proofs.checks.check_state.Statement.{statement}
 use Rattle.engine.proofs.checks.check_state.Tie as tie

@@ -42,15 +42,15 @@ use denote.Triple.Table.{entered, cited}
 use denote.Triple.Walked.{says, Stays, stay-ref, stay-none, stay-none-slice, gave-slice, walkOf, goes-ref, goes-none, goes-none-slice, goes-gave-slice, Walks, ends-at, walked, walk-meets}
 use denote.Exit.{yes}
 use denote.Signature.{plain}
-use Rattle.machine.specs.declared.State.{State}
+use Rattle.state.specs.declared.State.{State}
 use Rattle.plan.specs.declared.Plan.{Plan}
 use Rattle.engine.specs.declared.Answer.{Answer}
 use Rattle.engine.specs.declared.Stepped.{Stepped}
 use Rattle.machine.specs.View.{worldWith}
 use Rattle.engine.specs.Running.{stepCallOf}
 use Rattle.engine.specs.Answers.{stepWith}
-use Rattle.machine.proofs.State as State
-use Rattle.machine.proofs.State.Laws as State′
+use Rattle.state.proofs.State as State
+use Rattle.state.proofs.State.Laws as State′
 use Rattle.plan.proofs.Plan as Plan
 use Rattle.plan.proofs.Plan.Laws as Plan′
 use Rattle.engine.proofs.Answer as Answer

@@ -2,7 +2,7 @@
 use mathlib.Core.Path.{refl, sym}
 use borrow.Author.Needs.{needs}
 use borrow.Author.Tests.{le-leb, lt-leb}
-use Rattle.machine.specs.World.{endedOf}
+use Rattle.state.specs.World.{endedOf}
 use Rattle.engine.proofs.running.ending_of.Statement.{statement}
 use Rattle.engine.proofs.running.ending_of.Tie as tie
 

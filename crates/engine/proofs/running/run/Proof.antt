@@ -2,8 +2,8 @@
 use mathlib.Core.Path.{_∙_, ap, refl, sym}
 use Prim.Native.Nat.{ℕ}
 use borrow.Author.Needs.{needs}
-use Rattle.machine.proofs.Going.{parts-fit}
-use Rattle.machine.specs.Impossible.{statePossible}
+use Rattle.records.proofs.Parts.{parts-fit}
+use Rattle.state.specs.Impossible.{statePossible}
 use Rattle.machine.specs.View.{worldWith}
 use Rattle.plan.proofs.Possible.{counts}
 use Rattle.engine.proofs.Verdicts.{RunAccepted, ran, run-accepted, run-refused}

@@ -1,6 +1,6 @@
 -- `engine::starting::fresh_state` meets its contract. Assumes nothing.
 use mathlib.Core.Path.{refl}
-use Rattle.machine.specs.World.{freshState}
+use Rattle.state.specs.World.{freshState}
 use Rattle.engine.proofs.starting.fresh_state.Statement.{statement}
 use Rattle.engine.proofs.starting.fresh_state.Tie as tie
 

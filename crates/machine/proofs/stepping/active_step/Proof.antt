@@ -2,7 +2,7 @@
 use mathlib.Core.Path.{_∙_, sym}
 use lib.Dec.{leb}
 use borrow.Author.Needs.{needs}
-use Rattle.machine.proofs.Reached.Fetched.{fetched-below, fetched-within}
+use Rattle.machine.proofs.Fetched.{fetched-below, fetched-within}
 use Rattle.machine.proofs.Turns.{record-room, stepped-closed, stepped-end, stepped-op}
 use Rattle.machine.proofs.stepping.active_step.Statement.{statement}
 use Rattle.machine.proofs.stepping.active_step.Tie as tie

@@ -9,7 +9,7 @@ use Rattle.plan.proofs.Possible.{counts}
 use Rattle.plan.proofs.Windows.{owner-declared, slot-below}
 use Rattle.plan.specs.Windows.{lengthOf, ownerOf, windowsTotal}
 use Rattle.machine.proofs.Going.{Going, Small, going-ended, going-first, going-limit, going-more, part-room, small, windows-small}
-use Rattle.machine.proofs.Reached.Schedule.{possible-scheduled}
+use Rattle.machine.proofs.Schedule.{possible-scheduled}
 use Rattle.machine.proofs.stepping.run_steps.Statement.{statement}
 use Rattle.machine.proofs.stepping.run_steps.Tie as tie
 

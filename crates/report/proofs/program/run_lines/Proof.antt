@@ -8,10 +8,10 @@ use borrow.Author.Needs.{needs}
 use Rattle.engine.proofs.FreshRuns.{Left, run-left, started-fresh}
 use Rattle.engine.specs.FreshStart.{freshWorld}
 use Rattle.engine.specs.Running.{Run, runCallOf}
-use Rattle.machine.specs.Impossible.{statePossible}
-use Rattle.machine.specs.Records.{partRecords}
+use Rattle.records.specs.Records.{partRecords}
+use Rattle.state.specs.Impossible.{statePossible}
+use Rattle.state.specs.World.{World}
 use Rattle.machine.specs.View.{worldWith}
-use Rattle.machine.specs.World.{World}
 use Rattle.report.specs.Planrun.{largestLimit, lentLog, ranLines}
 use Rattle.report.proofs.program.run_lines.Statement.{statement}
 use denote.Ref.{now}

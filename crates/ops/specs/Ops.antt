@@ -1,0 +1,103 @@
+-- Document 01, "What an op costs": the five ops, with their ticks, records, caches and boxes. Assumes nothing.
+use Prim.Native.Nat.{ℕ, _+_, _*_, _-_}
+use mathlib.Core.Bool.{Bool, true, false, cond, not, _&&_, _||_}
+use mathlib.Core.List.{List}
+use lib.Dec.{eqb, leb, ltb}
+use lib.ListN.{getD, set}
+use Rattle.plan.specs.declared.Plan.{Plan}
+use Rattle.plan.specs.Colours.{ownsColour}
+use Rattle.plan.specs.Rights.{maySend}
+use Rattle.script.specs.declared.Op.{Op}
+use Rattle.script.specs.declared.Op.the-variants.{Read, Write, Send, Receive, Compute}
+use Rattle.cache.specs.declared.Found.{Found}
+use Rattle.cache.specs.declared.Found.the-variants.{Hit1 as AtL1, Hit2 as AtL2, Miss as Nowhere}
+use Rattle.cache.specs.Lines.{colourOf}
+use Rattle.cache.specs.Access.{Accessed, accessOf}
+use Rattle.records.specs.declared.Seen.{Seen}
+use Rattle.records.specs.declared.Seen.the-variants.{Hit1, Hit2, Miss, Sent, Got, Empty, Denied, Ran, Barred}
+
+-- what an op does: its ticks, what its domain sees, and the cache table and boxes that it leaves
+pub record Effect : Type 0 where
+  pub ticks : ℕ
+  pub seen : Seen
+  pub cache : List ℕ
+  pub boxes : List ℕ
+
+-- a line is a domain's own: a line number, 0 to 4,095, of one of its colours
+unfoldable pub ownsLine : Plan → ℕ → ℕ → Bool
+ownsLine plan domain line = cond (ltb 4_095 line) false (ownsColour plan domain (colourOf line))
+
+-- the line that every send and receive reads, and the line of the box from one domain to another
+abbrev pub gateLine : ℕ
+gateLine = 60
+
+abbrev pub boxPlace : ℕ → ℕ → ℕ
+boxPlace sender recipient = 8 * sender + recipient
+
+abbrev pub boxLine : ℕ → ℕ → ℕ
+boxLine sender recipient = 61 + 64 * boxPlace sender recipient
+
+-- the number of numbers of the boxes: from a to b at 8a + b
+abbrev pub boxesLength : ℕ
+boxesLength = 64
+
+-- a box holds 0 for empty, else word + 1
+abbrev pub fullBox : ℕ → ℕ
+fullBox word = word + 1
+
+-- hit1, hit2 or miss
+abbrev pub seenOf : Found → ℕ → Seen
+seenOf AtL1 line = Hit1 line
+seenOf AtL2 line = Hit2 line
+seenOf Nowhere line = Miss line
+
+-- read n, write n: barred, 5 ticks, caches unchanged, where the line is not the domain's; else an access
+unfoldable pub touchOf : Plan → ℕ → Bool → ℕ → List ℕ → List ℕ → Effect
+touchOf plan domain writes line cache boxes =
+    let access = accessOf writes line cache in
+    cond (ownsLine plan domain line)
+    (record { ticks = access .ticks; seen = seenOf (access .found) line; cache = access .table; boxes = boxes })
+    (record { ticks = 5; seen = Barred line; cache = cache; boxes = boxes })
+
+-- a send or a receive that the rights do not allow: 5 ticks and a read access to line 60
+unfoldable pub deniedOf : ℕ → Accessed → List ℕ → Effect
+deniedOf other gate boxes = record { ticks = 5 + gate .ticks; seen = Denied other; cache = gate .table; boxes = boxes }
+
+-- one that they allow: a write access to the box's line besides
+unfoldable pub passedOf : Seen → ℕ → Accessed → List ℕ → Effect
+passedOf seen line gate boxes =
+    let access = accessOf true line (gate .table) in
+    record { ticks = 5 + gate .ticks + access .ticks; seen = seen; cache = access .table; boxes = boxes }
+
+-- send b w: denied where the sender's list lacks b; else the box holds w, overwriting. A full box is never reported.
+unfoldable pub sendOf : Plan → ℕ → ℕ → ℕ → List ℕ → List ℕ → Effect
+sendOf plan sender recipient word cache boxes =
+    let gate = accessOf false gateLine cache in
+    cond (maySend plan sender recipient)
+    (passedOf (Sent recipient) (boxLine sender recipient) gate (set boxes (boxPlace sender recipient) (fullBox word)))
+    (deniedOf recipient gate boxes)
+
+-- what a receive finds in a box
+unfoldable pub boxSeen : ℕ → ℕ → Seen
+boxSeen sender box = cond (eqb box 0) (Empty sender) (Got (box - 1))
+
+-- receive a: denied where a's list lacks the receiver; else the box is emptied: got or empty
+unfoldable pub receiveOf : Plan → ℕ → ℕ → List ℕ → List ℕ → Effect
+receiveOf plan receiver sender cache boxes =
+    let gate = accessOf false gateLine cache in
+    let place = boxPlace sender receiver in
+    cond (maySend plan sender receiver)
+    (passedOf (boxSeen sender (getD boxes place 0)) (boxLine sender receiver) gate (set boxes place 0))
+    (deniedOf sender gate boxes)
+
+-- compute t: t ticks
+unfoldable pub computeOf : ℕ → List ℕ → List ℕ → Effect
+computeOf ticks cache boxes = record { ticks = ticks; seen = Ran ticks; cache = cache; boxes = boxes }
+
+-- an op of a domain
+unfoldable pub effectOf : Plan → ℕ → Op → List ℕ → List ℕ → Effect
+effectOf plan domain (Read line) cache boxes = touchOf plan domain false line cache boxes
+effectOf plan domain (Write line) cache boxes = touchOf plan domain true line cache boxes
+effectOf plan domain (Send recipient word) cache boxes = sendOf plan domain recipient word cache boxes
+effectOf plan domain (Receive sender) cache boxes = receiveOf plan domain sender cache boxes
+effectOf plan domain (Compute ticks) cache boxes = computeOf ticks cache boxes

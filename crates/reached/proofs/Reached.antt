@@ -1,0 +1,52 @@
+-- Every world that a run reaches from a fresh start under a possible plan, beside a log of any length: its tables have their lengths, and it passes
+-- the checks for 13 and 14. Assumes nothing.
+use mathlib.Core.Bool.{true}
+use mathlib.Core.List.{List}
+use mathlib.Core.Path.{_≡_, refl}
+use Prim.Native.Nat.{ℕ}
+use lib.ListN.{length}
+use Rattle.plan.specs.declared.Plan.{Plan}
+use Rattle.plan.specs.Possible.{planPossible}
+use Rattle.cache.specs.Lines.{tableLength}
+use Rattle.records.specs.Records.{partRecords}
+use Rattle.ops.specs.Ops.{boxesLength}
+use Rattle.state.specs.Damage.{tablesSound}
+use Rattle.state.specs.Impossible.{statePossible}
+use Rattle.state.specs.World.{World}
+use Rattle.machine.specs.Steps.{steps}
+use Rattle.machine.proofs.Invariant.{freshBeside}
+use Rattle.machine.proofs.Schedule.{scheduled}
+use Rattle.reached.proofs.Counts.{counted}
+use Rattle.reached.proofs.Possible.{passes-state}
+use Rattle.reached.proofs.Tables.{Sound, passes-tables, sound}
+
+-- the world after so many steps from a fresh start beside a log, which is divided into the domains' parts
+abbrev pub reachedWorld : Plan → List ℕ → List ℕ → ℕ → World
+reachedWorld plan scripts log count = steps plan scripts (partRecords plan (length log)) count (freshBeside log)
+
+module _ (plan : Plan) (scripts log : List ℕ) (count : ℕ) (possible : planPossible plan ≡ true) where
+  reached-sound : Sound plan (length log) (reachedWorld plan scripts log count)
+  reached-sound = sound plan scripts (partRecords plan (length log)) (length log) possible count log refl
+
+  -- the tables have their lengths
+  pub cache-length : length (reachedWorld plan scripts log count .cache) ≡ tableLength
+  cache-length = reached-sound .cache .long
+
+  pub boxes-length : length (reachedWorld plan scripts log count .boxes) ≡ boxesLength
+  boxes-length = reached-sound .boxes .long
+
+  pub log-length : length (reachedWorld plan scripts log count .log) ≡ length log
+  log-length = reached-sound .log
+
+  -- the checks for 13 and 14 pass
+  pub tables-sound :
+      tablesSound plan (reachedWorld plan scripts log count .state) (reachedWorld plan scripts log count .cache)
+      (reachedWorld plan scripts log count .boxes)
+      ≡ true
+  tables-sound = passes-tables plan (length log) (reachedWorld plan scripts log count) reached-sound
+
+  pub state-possible : statePossible plan (partRecords plan (length log)) (reachedWorld plan scripts log count .state) ≡ true
+  state-possible =
+      passes-state plan (partRecords plan (length log)) (reachedWorld plan scripts log count) possible
+      (scheduled plan scripts (partRecords plan (length log)) count log possible)
+      (counted plan scripts (partRecords plan (length log)) possible count log)

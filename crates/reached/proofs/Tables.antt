@@ -1,0 +1,87 @@
+-- Every reached world has tables of the right lengths that pass the check for 13. Assumes nothing.
+use Prim.Native.Nat.{ℕ, _<_}
+use mathlib.Core.Bool.{true}
+use mathlib.Core.List.{List}
+use mathlib.Core.Path.{_≡_, _∙_}
+use native.Mathlib.Omega.{arith}
+use lib.ListN.{length}
+use lib.Seq.{length-sets}
+use borrow.Author.Tests.{eq-eqb, lt-leb}
+use Rattle.plan.specs.declared.Plan.{Plan}
+use Rattle.plan.specs.Possible.{planPossible}
+use Rattle.plan.specs.Windows.{windowsTotal}
+use Rattle.plan.proofs.Sums.{below-all}
+use Rattle.plan.proofs.Windows.{domains-most, owner-declared}
+use Rattle.script.specs.declared.Op.{Op}
+use Rattle.records.specs.declared.Seen.{Seen}
+use Rattle.records.specs.Records.{recordBytes, recordPlace, stored}
+use Rattle.ops.specs.Ops.{boxesLength}
+use Rattle.state.specs.Damage.{boxSound, l1EntrySound, tablesSound}
+use Rattle.state.specs.World.{World, endedOf, positionAt, recordsAt, runningOf}
+use Rattle.machine.specs.Steps.{opStepOf, steps}
+use Rattle.machine.specs.Switch.{switchOf}
+use Rattle.machine.proofs.Fetched.{fetched-within}
+use Rattle.machine.proofs.Invariant.{Begins, freshBeside, steps-hold}
+use Rattle.machine.proofs.Tests.{both-pass, first-passes}
+use Rattle.reached.proofs.Cells.{cell-zeros, zeros-length}
+use Rattle.reached.proofs.Effects.{BoxesSound, effect-sound}
+use Rattle.reached.proofs.Flushes.{flush-sound}
+use Rattle.reached.proofs.Lines.{CacheSound, zeros-sound}
+
+-- a world beside a log of a length
+pub record Sound (plan : Plan) (logLength : ℕ) (world : World) : Type 0 where
+  pub cache : CacheSound plan (world .state) (world .cache)
+  pub boxes : BoxesSound plan (world .boxes)
+  pub log : length (world .log) ≡ logLength
+
+-- a stored record leaves the log's length
+stored-length : (quota domain number : ℕ) (seen : Seen) (clock : ℕ) (log : List ℕ) → length (stored quota domain number seen clock log) ≡ length log
+unfolding stored
+stored-length quota domain number seen clock log = length-sets log (recordPlace quota domain number) (recordBytes seen clock)
+
+module _ (plan : Plan) (scripts : List ℕ) (quota logLength : ℕ) (possible : planPossible plan ≡ true) where
+  after-switch : (world : World) → Sound plan logLength world → world .state .windows < windowsTotal plan → Sound plan logLength (switchOf plan world)
+  unfolding switchOf
+  after-switch world sound inWindow =
+      record { cache = flush-sound plan (world .state) _ (world .cache) (sound .cache); boxes = sound .boxes; log = sound .log }
+
+  -- an op leaves the number of windows, on which alone it depends which lines L1 may hold
+  after-op : (world : World) (op : Op) → Sound plan logLength world → Begins plan scripts quota world op
+      → Sound plan logLength (opStepOf plan quota (runningOf plan (world .state)) op world)
+  unfolding opStepOf endedOf
+  after-op world op sound begins =
+      let running = runningOf plan (world .state) in
+      let declared = owner-declared plan (world .state .windows) possible in
+      let most = domains-most plan possible in
+      let effect =
+      effect-sound plan (world .state) (lt-leb (windowsTotal plan) (world .state .windows) (begins .inWindow)) (world .cache) (world .boxes)
+      (sound .cache)
+      (sound .boxes)
+      (omega arith)
+      op
+      (fetched-within scripts running (positionAt (world .state) running) op (begins .next))
+      in
+      record {
+        cache = record { long = effect .cache .long; lines = effect .cache .lines; sets = effect .cache .sets };
+        boxes = effect .boxes;
+        log = stored-length quota running (recordsAt (world .state) running) _ _ (world .log) ∙ sound .log;
+      }
+
+  at-start : (log : List ℕ) → length log ≡ logLength → Sound plan logLength (freshBeside log)
+  at-start log long =
+      record {
+        cache = zeros-sound plan _;
+        boxes = record { long = zeros-length boxesLength; full = λ place. first-passes _ _ (eq-eqb _ 0 (cell-zeros boxesLength place)) };
+        log = long;
+      }
+
+  -- every world that a run reaches from a fresh start is sound
+  pub sound : (count : ℕ) (log : List ℕ) → length log ≡ logLength → Sound plan logLength (steps plan scripts quota count (freshBeside log))
+  sound count log long = steps-hold plan scripts quota (Sound plan logLength) after-switch after-op (freshBeside log) (at-start log long) count
+
+-- a sound world passes the check
+pub passes-tables : (plan : Plan) (logLength : ℕ) (world : World) → Sound plan logLength world
+    → tablesSound plan (world .state) (world .cache) (world .boxes) ≡ true
+unfolding tablesSound l1EntrySound boxSound
+passes-tables plan logLength world sound =
+    both-pass _ _ (both-pass _ _ (below-all _ 16 (sound .cache .lines)) (below-all _ 64 (sound .cache .sets))) (below-all _ 64 (λ place below. sound .boxes .full place))

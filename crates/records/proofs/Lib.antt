@@ -1,0 +1,2 @@
+-- The laws of the log that other crates cite.
+pub mod Parts

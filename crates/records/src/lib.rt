@@ -1,0 +1,88 @@
+// What a domain sees: the records of it, and the log that holds them.
+ghost use mathlib.Core.Path.{_≡_};
+ghost use Prim.Native.Nat.{_+_, _*_, _≤_, _<_};
+ghost use lib.ListN.{length};
+ghost use lib.Seq.{sets};
+ghost use Rattle.plan.specs.declared.Plan.{Plan};
+ghost use Rattle.records.specs.Records.{kindOf, partRecords, recordBytes, stored, valueOf};
+
+// What an op shows the domain that runs it, with the value that its record keeps.
+pub enum Seen {
+    Hit1(u16),
+    Hit2(u16),
+    Miss(u16),
+    Sent(u8),
+    Got(u32),
+    Empty(u8),
+    Denied(u8),
+    Ran(u8),
+    Barred(u16),
+}
+
+// A record's kind.
+pub fn kind_of(seen: Seen) -> u8
+    ensures { λ r. ⌜ r ≡ kindOf seen ⌝ }
+{
+    match seen {
+        Seen::Hit1(_) => 1,
+        Seen::Hit2(_) => 2,
+        Seen::Miss(_) => 3,
+        Seen::Sent(_) => 4,
+        Seen::Got(_) => 5,
+        Seen::Empty(_) => 6,
+        Seen::Denied(_) => 7,
+        Seen::Ran(_) => 8,
+        Seen::Barred(_) => 9,
+    }
+}
+
+// A record's value.
+pub fn value_of(seen: Seen) -> u32
+    ensures { λ r. ⌜ r ≡ valueOf seen ⌝ }
+{
+    match seen {
+        Seen::Hit1(line) => line as u32,
+        Seen::Hit2(line) => line as u32,
+        Seen::Miss(line) => line as u32,
+        Seen::Sent(recipient) => recipient as u32,
+        Seen::Got(word) => word,
+        Seen::Empty(sender) => sender as u32,
+        Seen::Denied(other) => other as u32,
+        Seen::Ran(ticks) => ticks as u32,
+        Seen::Barred(line) => line as u32,
+    }
+}
+
+// Writes a record's eight bytes at a place of the log.
+fn write_record(log: &mut [u8], at: usize, seen: Seen, clock: u64)
+    requires { ⌜ at + 8 ≤ length (now log) ⌝ }
+    ensures { λ _. ⌜ now (log .exit) ≡ sets (now (log .entry)) at (recordBytes seen clock) ⌝ }
+{
+    let value = value_of(seen);
+    log[at] = kind_of(seen);
+    log[at + 1] = 0;
+    log[at + 2] = (value % 256) as u8;
+    log[at + 3] = (value / 256 % 256) as u8;
+    log[at + 4] = (clock % 256) as u8;
+    log[at + 5] = (clock / 256 % 256) as u8;
+    log[at + 6] = (clock / 65_536 % 256) as u8;
+    log[at + 7] = (clock / 16_777_216 % 256) as u8;
+}
+
+// Stores a domain's record, by its number in the domain's part.
+pub fn store_record(log: &mut [u8], quota: u64, domain: u64, number: u64, seen: Seen, clock: u64)
+    requires { ⌜ 8 * (quota * domain + number) + 8 ≤ length (now log) ⌝ }
+    ensures { λ _. ⌜ now (log .exit) ≡ stored quota domain number seen clock (now (log .entry)) ⌝ }
+{
+    let at = 8 * (quota * domain + number);
+    write_record(log, at as usize, seen, clock);
+}
+
+// The number of records that each domain's part of a log holds.
+pub fn part_records(domains: u32, log_length: usize) -> u64
+    requires { ⌜ (0 < domains) × (domains ≤ 8) ⌝ }
+    ensures { λ r. ⌜ ((plan : Plan) → plan .domains ≡ domains → r ≡ partRecords plan «log_length») ⌝ }
+{
+    let size = 8 * (domains as u64);
+    (log_length as u64) / size
+}

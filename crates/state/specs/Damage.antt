@@ -1,0 +1,67 @@
+-- Document 01, "The plan text", 13: a damaged cache table or box. Assumes nothing.
+use Prim.Native.Nat.{ℕ, _+_, _*_, _-_, _/_, _%_}
+use mathlib.Core.Bool.{Bool, true, false, cond, not, _&&_, _||_}
+use mathlib.Core.List.{List, [], _∷_}
+use lib.Dec.{eqb, leb, ltb}
+use lib.ListN.{getD}
+use Rattle.lists.specs.Part.{part}
+use Rattle.plan.specs.declared.Plan.{Plan}
+use Rattle.plan.specs.Colours.{ownsColour}
+use Rattle.plan.specs.Rights.{maySend}
+use Rattle.plan.specs.Sums.{allBelow}
+use Rattle.cache.specs.Lines.{colourOf, indexOf, kernelColour, setOf, setPlace, waysOfSet}
+use Rattle.cache.specs.Sets.{has}
+use Rattle.state.specs.declared.State.{State}
+use Rattle.state.specs.World.{endedOf, runningOf}
+
+-- a number from 1 to 4,096 stands for a line, the number less one
+abbrev pub standsForLine : ℕ → Bool
+standsForLine entry = leb 1 entry && leb entry 4_096
+
+abbrev pub lineOf : ℕ → ℕ
+lineOf entry = entry - 1
+
+-- an L1 number without its dirty mark
+abbrev pub unmarked : ℕ → ℕ
+unmarked entry = cond (leb 32_768 entry) (entry - 32_768) entry
+
+-- a line that L1 may hold while a domain runs: of its colours or the kernel's
+unfoldable pub lineAllowed : Plan → ℕ → ℕ → Bool
+lineAllowed plan domain line = ownsColour plan domain (colourOf line) || eqb (colourOf line) kernelColour
+
+-- an L1 number is empty, or a line of this index that the running domain may have there; after the end it is empty
+unfoldable pub l1EntrySound : Plan → State → List ℕ → ℕ → Bool
+l1EntrySound plan state cache index =
+    let entry = getD cache index 0 in
+    let line = lineOf (unmarked entry) in
+    eqb entry 0
+    || standsForLine (unmarked entry)
+    && eqb (indexOf line) index
+    && not (endedOf plan state)
+    && lineAllowed plan (runningOf plan state) line
+
+-- the numbers of a set behind an empty one are empty
+unfoldable pub allEmpty : List ℕ → Bool
+allEmpty [] = true
+allEmpty (way ∷ ways) = eqb way 0 && allEmpty ways
+
+-- the ways of a set: lines of this set, none twice, and no empty before a line
+unfoldable pub waysSound : ℕ → List ℕ → Bool
+waysSound set [] = true
+waysSound set (way ∷ ways) =
+    cond (eqb way 0) (allEmpty ways)
+    (standsForLine way && eqb (setOf (lineOf way)) set && not (has way ways) && waysSound set ways)
+
+unfoldable pub setSound : List ℕ → ℕ → Bool
+setSound cache set = waysSound set (part (setPlace set) waysOfSet cache)
+
+-- a box, from a to b at 8a + b, is empty, or holds a word of at most 65,535 where a has the right to send to b
+unfoldable pub boxSound : Plan → List ℕ → ℕ → Bool
+boxSound plan boxes place =
+    let box = getD boxes place 0 in
+    eqb box 0 || leb box 65_536 && maySend plan (place / 8) (place % 8)
+
+-- the check for 13: nothing but these clauses counts
+unfoldable pub tablesSound : Plan → State → List ℕ → List ℕ → Bool
+tablesSound plan state cache boxes =
+    allBelow (l1EntrySound plan state cache) 16 && allBelow (setSound cache) 64 && allBelow (boxSound plan boxes) 64

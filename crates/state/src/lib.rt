@@ -1,0 +1,14 @@
+// The small state of a run, and the checks of what is lent beside a plan: a state that is possible (14), a cache table and boxes that are sound (13).
+pub mod states;
+pub mod tables;
+
+// Document 01's small state. Every field is wide enough for any number that a caller may lend.
+pub struct State {
+    // windows completed
+    pub windows: u64,
+    pub clock: u64,
+    // each domain's place in its script
+    pub positions: [u64; 8],
+    // each domain's number of records
+    pub records: [u64; 8],
+}
