@@ -3,5 +3,6 @@ pub mod Counts
 pub mod Emptied
 pub mod Laws
 pub mod Outcome
+mod Taken
 pub mod Ticks
 pub mod Ways

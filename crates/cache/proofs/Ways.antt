@@ -163,7 +163,7 @@ pub shifted-next :
 shifted-next entry place ways within = rw (add-one place) (shifted-suc entry place ways within)
 
 -- what a turn carries on
-shifted-here :
+pub shifted-here :
     (entry place : ℕ) (ways : List ℕ)
     → place < length ways
     → getD (shifted entry place ways) place 0 ≡ getD ways place 0

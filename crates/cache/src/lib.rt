@@ -73,27 +73,42 @@ pub fn access(table: &mut [u16], line: u16, writes: bool) -> Touched
     }
 }
 
+// Sixteen numbers of the table from a place on. The counts below take them as an array: it is lent by its address alone, so that their
+// recursion costs no more than a loop.
+fn sixteen(table: &[u16], first: usize) -> [u16; 16]
+    requires { ⌜ first + 16 ≤ length (now table) ⌝ }
+    ensures { λ r. ⌜ r ≡ part first 16 (now (table .entry)) ⌝ }
+{
+    let mut taken = [0u16; 16];
+    let mut i: usize = 0;
+    while i < 16 {
+        taken[i] = table[first + i];
+        i += 1;
+    }
+    taken
+}
+
 // The dirty lines among the numbers from a place on, of which `left` are left.
-fn count_dirty(table: &[u16], at: usize, left: usize) -> u64
-    requires { ⌜ at + left ≤ length (now table) ⌝ }
-    ensures { λ r. ⌜ r ≡ countOf isDirty (part at left (now (table .entry))) ⌝ }
+fn count_dirty(numbers: &[u16; 16], at: usize, left: usize) -> u64
+    requires { ⌜ (length (now numbers) ≡ 16) × (at + left ≤ 16) ⌝ }
+    ensures { λ r. ⌜ r ≡ countOf isDirty (part at left (now (numbers .entry))) ⌝ }
 {
     if left == 0 {
         0
     } else {
-        choose_ticks(32_768 < table[at], 1, 0) + count_dirty(table, at + 1, left - 1)
+        choose_ticks(32_768 < numbers[at], 1, 0) + count_dirty(numbers, at + 1, left - 1)
     }
 }
 
 // The valid lines among the numbers from a place on, of which `left` are left.
-fn count_valid(table: &[u16], at: usize, left: usize) -> u64
-    requires { ⌜ at + left ≤ length (now table) ⌝ }
-    ensures { λ r. ⌜ r ≡ countOf isValid (part at left (now (table .entry))) ⌝ }
+fn count_valid(numbers: &[u16; 16], at: usize, left: usize) -> u64
+    requires { ⌜ (length (now numbers) ≡ 16) × (at + left ≤ 16) ⌝ }
+    ensures { λ r. ⌜ r ≡ countOf isValid (part at left (now (numbers .entry))) ⌝ }
 {
     if left == 0 {
         0
     } else {
-        choose_ticks(0 < table[at], 1, 0) + count_valid(table, at + 1, left - 1)
+        choose_ticks(0 < numbers[at], 1, 0) + count_valid(numbers, at + 1, left - 1)
     }
 }
 
@@ -115,7 +130,8 @@ pub fn flush_kernel(table: &mut [u16]) -> u64
 {
     let from = 256;
     let to = 272;
-    let valid = count_valid(table, 256, 16);
+    let held = sixteen(table, 256);
+    let valid = count_valid(&held, 0, 16);
     empty(&mut table[from..to]);
     8 + valid
 }
@@ -127,7 +143,8 @@ pub fn flush_l1(table: &mut [u16]) -> u64
 {
     let from = 0;
     let to = 16;
-    let dirty = count_dirty(table, 0, 16);
+    let held = sixteen(table, 0);
+    let dirty = count_dirty(&held, 0, 16);
     empty(&mut table[from..to]);
     8 + 2 * dirty
 }

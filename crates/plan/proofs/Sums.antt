@@ -115,3 +115,12 @@ all-below-fails test count place below fails = go (allBelow test count) refl
 pub all-below-more : (test : ℕ → Bool) (count : ℕ) → allBelow test count ≡ true → test count ≡ true → allBelow test (count + 1) ≡ true
 unfolding allBelow
 all-below-more test count before here = rw add-one (and-eq-true-iff (allBelow test count) (test count) .1 (before, here))
+
+-- the test at one place more, whatever it says
+pub all-below-next :
+    (test : ℕ → Bool) (count : ℕ) (so-far here : Bool)
+    → so-far ≡ allBelow test count
+    → here ≡ test count
+    → so-far && here ≡ allBelow test (count + 1)
+unfolding allBelow
+all-below-next test count so-far here before is = rw (before, is, add-one)

@@ -8,6 +8,7 @@ use crate::timing::ticks_total;
 ghost use mathlib.Core.Path.{_≡_};
 ghost use mathlib.Core.Bool.{true};
 ghost use Prim.Native.Nat.{ℕ, _≤_, _<_};
+ghost use lib.Dec.{ltb};
 ghost use lib.ListN.{getD};
 ghost use Rattle.plan.specs.Colours.{firstColour};
 ghost use Rattle.plan.specs.Possible.{countsPossible, declaredPossible, domainPossible, maskPossible, planPossible, undeclaredPossible, windowPossible, within};
@@ -94,36 +95,32 @@ fn masks_possible(plan: Plan) -> bool
     true
 }
 
-// Whether a place for a window is possible.
-fn window_possible(plan: Plan, slot: usize) -> bool
-    requires { ⌜ slot < 32 ⌝ }
-    ensures { λ r. ⌜ r ≡ windowPossible plan slot ⌝ }
+// Whether a place for a window is possible, by its numbers and by whether a window is declared there.
+fn window_possible(owner: u32, length: u32, domains: u32, declared: bool) -> bool
+    ensures { λ r. ⌜ ((plan : Plan) (slot : ℕ) → getD (plan .owners) slot 0 ≡ owner → getD (plan .lengths) slot 0 ≡ length → plan .domains ≡ domains
+        → ltb slot (plan .windows) ≡ declared → r ≡ windowPossible plan slot) ⌝ }
 {
-    let owners = plan.owners;
-    let lengths = plan.lengths;
-    let owner = owners[slot];
-    let length = lengths[slot];
-    let windows = plan.windows as usize;
-    if slot < windows {
-        let within = is_within(1, 1_000_000, length);
-        (owner < plan.domains) & within
-    } else {
-        (owner == 0) & (length == 0)
-    }
+    let within = is_within(1, 1_000_000, length);
+    let used = (owner < domains) & within;
+    let unused = (owner == 0) & (length == 0);
+    if declared { used } else { unused }
 }
 
-// Whether every place for a window is possible.
+// Whether every place for a window is possible. All 32 are looked at, with no way out before, which the compiler turns into few instructions.
 fn windows_possible(plan: Plan) -> bool
     ensures { λ r. ⌜ r ≡ allBelow (windowPossible plan) 32 ⌝ }
 {
+    let windows = plan.windows as usize;
+    let mut possible = true;
     let mut slot: usize = 0;
     while slot < 32 {
-        if !window_possible(plan, slot) {
-            return false;
-        }
+        let owner = plan.owners[slot];
+        let length = plan.lengths[slot];
+        let here = window_possible(owner, length, plan.domains, slot < windows);
+        possible = possible & here;
         slot += 1;
     }
-    true
+    possible
 }
 
 // Whether the reader could give this plan.

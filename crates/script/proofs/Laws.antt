@@ -14,8 +14,8 @@ use Rattle.script.specs.Limits.{Within}
 use Rattle.script.specs.Fetch.{decodeOf, kindPart, opOf, otherPart, valuePart}
 
 -- a compute's ticks fit a byte
-pub compute-fits : (kind other value : ℕ) → eqb kind 5 && eqb other 0 && leb 1 value && leb value 200 ≡ true → value ≤ 200
-compute-fits kind other value tests = leb-true value 200 (and-eq-true-iff (eqb kind 5 && eqb other 0 && leb 1 value) (leb value 200) .0 tests .1)
+pub compute-fits : (other value : ℕ) → eqb other 0 && leb 1 value && leb value 200 ≡ true → value ≤ 200
+compute-fits other value tests = leb-true value 200 (and-eq-true-iff (eqb other 0 && leb 1 value) (leb value 200) .0 tests .1)
 
 -- the three parts of a number made of three parts are those
 decode-packed : (kind other value : ℕ) → other < 16 → value < 65_536 → decodeOf (packed kind other value) ≡ opOf kind other value

@@ -29,8 +29,8 @@ claims t = (choose-ticks-reads.Asked, choose-ticks-reads.Learnt, below t, reads.
 mul-choose-ticks : (t : ℕ) → lts.Need-mul-choose-ticks (claims t) (at t) reads.Post
 mul-choose-ticks t c = omega arith
 
-shared-slice-read-choose-ticks : (t : ℕ) → lts.Need-shared-slice-read-choose-ticks (claims t) (at t) reads.Post
-shared-slice-read-choose-ticks t c = omega (arith, above-zero (c .before .if1 .left))
+element-copy-out-choose-ticks : (t : ℕ) → lts.Need-element-copy-out-choose-ticks (claims t) (at t) reads.Post
+element-copy-out-choose-ticks t c = omega (arith, above-zero (c .if1 .left))
 
 choose-ticks-requires : (t : ℕ) → lts.Need-choose-ticks-requires (claims t) (at t) reads.Post
 choose-ticks-requires t c κs = tt
@@ -46,29 +46,29 @@ count-dirty-requires t c κs = omega (arith, above-zero (c .before .before .if1 
 
 add-result : (t : ℕ) → lts.Need-add-result (claims t) (at t) reads.Post
 add-result t c =
-    let args = c .before .before .before .before .before .args in
+    let args = c .before .before .before .before .args in
     let some = above-zero (c .before .before .before .if1 .left) in
     let one = c .before .choose-ticks in
     let rest = c .count-dirty in
     omega (
       arith,
-      count-turn-limit isDirty (args .at) (args .table .now) (args .left) (one .result) (rest .result) some (one .ensures) (rest .ensures),
+      count-turn-limit isDirty (args .at) (args .numbers .now) (args .left) (one .result) (rest .result) some (one .ensures) (rest .ensures),
     )
 
 returns : (t : ℕ) → lts.Need-returns (claims t) (at t) reads.Post
 returns t c =
-    rw (c .if1 .taken) (sym (count-none isDirty (c .before .before .args .at) (c .before .before .args .table .now)))
+    rw (c .if1 .taken) (sym (count-none isDirty (c .before .args .at) (c .before .args .numbers .now)))
 
 returns-2 : (t : ℕ) → lts.Need-returns-2 (claims t) (at t) reads.Post
 returns-2 t c =
-    let start = c .before .before .before .before .before in
+    let start = c .before .before .before .before in
     let some = above-zero (c .before .before .before .if1 .left) in
     rw (c .before .choose-ticks .ensures, c .count-dirty .ensures)
-    (count-next isDirty (start .args .at) (start .args .table .now) (start .args .left) some (start .pre .1))
+    (count-next isDirty (start .args .at) (start .args .numbers .now) (start .args .left) some (omega (arith, start .pre .1)))
 
 pub +count-dirty-spec : {M : Type 1} → statement M
 +count-dirty-spec =
     close μ λ t. lts.spec (claims t) (at t) reads.Post
-    (mul-choose-ticks t) (shared-slice-read-choose-ticks t) (choose-ticks-requires t)
+    (mul-choose-ticks t) (element-copy-out-choose-ticks t) (choose-ticks-requires t)
     (add-count-dirty t) (sub-count-dirty t) (count-dirty-requires t)
     (add-result t) (returns t) (returns-2 t)

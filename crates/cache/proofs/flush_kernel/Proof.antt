@@ -2,10 +2,14 @@
 use native.Mathlib.Omega.{arith}
 use Rattle.cache.specs.Lines.{isValid}
 use Rattle.cache.proofs.Emptied.{kernel-outcome}
+use Rattle.cache.proofs.Taken.{counted-there}
 use Rattle.cache.proofs.Ticks.{count-part-limit}
 use borrow.Author.Needs.{needs}
 use Rattle.cache.proofs.flush_kernel.Statement.{statement}
 use Rattle.cache.proofs.flush_kernel.Tie as tie
+
+sixteen-requires : tie.Need-sixteen-requires
+sixteen-requires c κs = search needs
 
 count-valid-requires : tie.Need-count-valid-requires
 count-valid-requires c κs = search needs
@@ -26,25 +30,25 @@ empty-requires : tie.Need-empty-requires
 empty-requires c κs = search needs
 
 add-result : tie.Need-add-result
-add-result c =
-    let start = c .before .before .before .before .before .before .before in
-    let counted = c .before .before .before .before .count-valid in
-    omega (arith, count-part-limit isValid 256 16 (start .args .table .now), counted .ensures)
+add-result c = omega (arith, count-part-limit isValid 0 16 (c .before .before .before .before .before .before .sixteen .result), c .before .before .before .before .count-valid .ensures)
 
 same-length : tie.Need-same-length
 same-length c = search needs
 
 returns : tie.Need-returns
 returns c =
-    let start = c .before .before .before .before .before .before .before in
+    let start = c .before .before .before .before .before .before .before .before .before in
+    let held = c .before .before .before .before .before .before .sixteen in
     let counted = c .before .before .before .before .count-valid in
     let emptied = c .before .before .empty in
-    kernel-outcome (counted .result) (emptied .last .0) (start .args .table .now) (start .pre) (counted .ensures) (emptied .ensures)
+    let there = counted-there isValid 256 16 (counted .result) (start .args .table .now) (held .result) (held .ensures) (counted .ensures) in
+    kernel-outcome (counted .result) (emptied .last .0) (start .args .table .now) (start .pre) there (emptied .ensures)
 
 pub flush-kernel-spec : {M : Type 1} → statement M
 flush-kernel-spec =
     tie.close
     (tie.spec
+    sixteen-requires
     count-valid-requires
     mul-empty
     sub-empty

@@ -2,10 +2,14 @@
 use native.Mathlib.Omega.{arith}
 use Rattle.cache.specs.Lines.{isDirty}
 use Rattle.cache.proofs.Emptied.{l1-outcome}
+use Rattle.cache.proofs.Taken.{counted-there}
 use Rattle.cache.proofs.Ticks.{count-part-limit}
 use borrow.Author.Needs.{needs}
 use Rattle.cache.proofs.flush_l1.Statement.{statement}
 use Rattle.cache.proofs.flush_l1.Tie as tie
+
+sixteen-requires : tie.Need-sixteen-requires
+sixteen-requires c κs = search needs
 
 count-dirty-requires : tie.Need-count-dirty-requires
 count-dirty-requires c κs = search needs
@@ -26,31 +30,28 @@ empty-requires : tie.Need-empty-requires
 empty-requires c κs = search needs
 
 mul-result : tie.Need-mul-result
-mul-result c =
-    let start = c .before .before .before .before .before .before .before in
-    let counted = c .before .before .before .before .count-dirty in
-    omega (arith, count-part-limit isDirty 0 16 (start .args .table .now), counted .ensures)
+mul-result c = omega (arith, count-part-limit isDirty 0 16 (c .before .before .before .before .before .before .sixteen .result), c .before .before .before .before .count-dirty .ensures)
 
 add-result : tie.Need-add-result
-add-result c =
-    let start = c .before .before .before .before .before .before .before in
-    let counted = c .before .before .before .before .count-dirty in
-    omega (arith, count-part-limit isDirty 0 16 (start .args .table .now), counted .ensures)
+add-result c = omega (arith, count-part-limit isDirty 0 16 (c .before .before .before .before .before .before .sixteen .result), c .before .before .before .before .count-dirty .ensures)
 
 same-length : tie.Need-same-length
 same-length c = search needs
 
 returns : tie.Need-returns
 returns c =
-    let start = c .before .before .before .before .before .before .before in
+    let start = c .before .before .before .before .before .before .before .before .before in
+    let held = c .before .before .before .before .before .before .sixteen in
     let counted = c .before .before .before .before .count-dirty in
     let emptied = c .before .before .empty in
-    l1-outcome (counted .result) (emptied .last .0) (start .args .table .now) (start .pre) (counted .ensures) (emptied .ensures)
+    let there = counted-there isDirty 0 16 (counted .result) (start .args .table .now) (held .result) (held .ensures) (counted .ensures) in
+    l1-outcome (counted .result) (emptied .last .0) (start .args .table .now) (start .pre) there (emptied .ensures)
 
 pub flush-l1-spec : {M : Type 1} → statement M
 flush-l1-spec =
     tie.close
     (tie.spec
+    sixteen-requires
     count-dirty-requires
     mul-empty
     sub-empty

@@ -1,30 +1,42 @@
--- `plan::checking::windows_possible` meets its contract. Assumes nothing.
-use mathlib.Core.Bool.{true}
-use mathlib.Core.Path.{_∙_, _≡_, ap, refl, sym}
+-- `plan::checking::windows_possible` meets its contract. The loop's invariant: what was found so far is the test over the places passed.
+-- Assumes nothing.
+use mathlib.Core.Path.{_∙_, _≡_, ap, refl}
 use Prim.Native.Nat.{_-_, _≤_}
 use native.Mathlib.Omega.{arith}
-use borrow.Author.Tests.{not-false, not-true}
+use borrow.Author.Needs.{needs}
 use Rattle.plan.specs.Possible.{windowPossible}
 use Rattle.plan.specs.Sums.{allBelow}
-use Rattle.plan.proofs.Sums.{all-below-fails, all-below-more}
+use Rattle.plan.proofs.Sums.{all-below-next}
 use Rattle.plan.proofs.checking.windows_possible.Statement.{statement}
 use Rattle.plan.proofs.checking.windows_possible.Tie as tie
 
 abbrev Inv-loop : tie.InvT-loop
-Inv-loop plan slot₀ slot = (slot ≤ 32) × (allBelow (windowPossible plan) slot ≡ true)
+Inv-loop plan windows possible₀ slot₀ possible slot = (slot ≤ 32) × (possible ≡ allBelow (windowPossible plan) slot)
 
 abbrev μ-loop : tie.MeasureT-loop
-μ-loop plan slot₀ slot = 32 - slot
+μ-loop plan windows possible₀ slot₀ possible slot = 32 - slot
+
+cast-windows : tie.Need-cast-windows Inv-loop μ-loop
+cast-windows c = search needs
 
 loop-holds : tie.Need-loop-holds Inv-loop μ-loop
 unfolding allBelow
 loop-holds c = (omega arith, refl)
 
-window-possible-requires : tie.Need-window-possible-requires Inv-loop μ-loop
-window-possible-requires c κs = c .loop-test .taken
+mul-owner : tie.Need-mul-owner Inv-loop μ-loop
+mul-owner c = omega arith
 
-returns : tie.Need-returns Inv-loop μ-loop
-returns c = all-below-fails _ 32 (c .before .before .before .loop .slot) (c .before .before .loop-test .taken) (sym (c .before .window-possible .ensures) ∙ not-true _ (c .if1 .taken))
+element-copy-out-owner : tie.Need-element-copy-out-owner Inv-loop μ-loop
+element-copy-out-owner c = omega arith
+
+mul-length : tie.Need-mul-length Inv-loop μ-loop
+mul-length c = omega arith
+
+element-copy-out-length : tie.Need-element-copy-out-length Inv-loop μ-loop
+element-copy-out-length c = omega arith
+
+window-possible-requires : tie.Need-window-possible-requires Inv-loop μ-loop
+window-possible-requires c κs = search needs
 
 add-slot : tie.Need-add-slot Inv-loop μ-loop
 add-slot c = omega arith
@@ -33,10 +45,12 @@ loop-less : tie.Need-loop-less Inv-loop μ-loop
 loop-less c = omega arith
 
 loop-again : tie.Need-loop-again Inv-loop μ-loop
-loop-again c = (omega (arith, c .before .before .loop-test), all-below-more _ (c .before .before .before .loop .slot) (c .before .before .before .loop .inv .1) (sym (c .before .window-possible .ensures) ∙ not-false _ (c .if1 .left)))
+loop-again c =
+    let l = c .before .before .before .before .loop in
+    (omega (arith, c .before .before .before .loop-test), all-below-next (windowPossible _) (l .slot) _ _ (l .inv .1) (c .window-possible .ensures _ (l .slot) refl refl refl refl))
 
-returns-2 : tie.Need-returns-2 Inv-loop μ-loop
-returns-2 c = let ended : c .before .loop .slot ≡ 32 = omega arith in sym (c .before .loop .inv .1) ∙ ap (allBelow _) ended
+returns : tie.Need-returns Inv-loop μ-loop
+returns c = let ended : c .before .loop .slot ≡ 32 = omega arith in c .before .loop .inv .1 ∙ ap (allBelow _) ended
 
 pub windows-possible-spec : {M : Type 1} → statement M
 windows-possible-spec =
@@ -44,10 +58,14 @@ windows-possible-spec =
     (tie.spec
     Inv-loop
     μ-loop
+    cast-windows
     loop-holds
+    mul-owner
+    element-copy-out-owner
+    mul-length
+    element-copy-out-length
     window-possible-requires
-    returns
     add-slot
     loop-less
     loop-again
-    returns-2)
+    returns)
