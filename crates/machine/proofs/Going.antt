@@ -1,26 +1,26 @@
 -- A run under way: what holds each time its loop comes round, and what follows when it stops. Assumes nothing.
 use mathlib.Core.Path.{_≡_, refl, subst, sym, ap, _∙_}
-use mathlib.Core.Bool.{Bool, cond, false, true}
+use mathlib.Core.Bool.{false, true}
 use mathlib.Core.List.{List}
-use mathlib.Core.Logic.{⊎-elim}
 use Prim.Native.Nat.{ℕ, suc, _+_, _*_, _-_, _^_, _≤_, _<_}
 use native.Mathlib.Nat.{add-zero, mul-le-mul, mul-le-mul-left, mul-suc, sub-zero, zero-add}
 use native.Mathlib.Numerals.{add-one}
 use native.Mathlib.Omega.{arith}
-use lib.Dec.{ltb}
-use lib.ListN.{getD, length}
-use borrow.Author.Tests.{le-leb, le-ltb, lt-leb, lt-ltb}
+use lib.ListN.{length, length-set}
+use borrow.Author.Tests.{le-leb, lt-leb}
 use Rattle.plan.specs.declared.Plan.{Plan}
 use Rattle.plan.specs.Possible.{planPossible}
 use Rattle.plan.specs.Windows.{endOf, lengthOf, ownerOf, slotOf, startOf, windowsTotal}
 use Rattle.plan.proofs.Possible.{counts}
 use Rattle.plan.proofs.Windows.{length-most as lengths, owner-declared, slot-below as slots, start-fits}
+use Rattle.state.specs.declared.State.{State}
 use Rattle.state.specs.Impossible.{statePossible}
 use Rattle.state.specs.World.{World, endedOf}
-use Rattle.machine.specs.Steps.{Ran, activeStep, oneMore, runOf, stepOf}
-use Rattle.machine.specs.View.{ranWith}
-use Rattle.machine.proofs.Schedule.{NextWindow, Scheduled, possible-scheduled, next-start, step-scheduled, step-windows}
-use Rattle.machine.proofs.Runs.{run-ended, run-more, step-active}
+use Rattle.machine.specs.Steps.{Ran, activeStep, oneMore, runOf, stepOf, steps as steps-of}
+use Rattle.machine.specs.Switch.{switchOf}
+use Rattle.machine.specs.View.{ranWith, turned, worldWith}
+use Rattle.machine.proofs.Schedule.{Scheduled, possible-scheduled, next-start, step-scheduled, steps-scheduled}
+use Rattle.machine.proofs.Runs.{run-add, run-ended, run-more, run-world, step-active, thenRun}
 
 -- so many steps done before
 abbrev pub after : ℕ → Ran → Ran
@@ -32,6 +32,8 @@ pub record Going (plan : Plan) (scripts : List ℕ) (quota limit : ℕ) (first p
   pub on-schedule : Scheduled plan present
   pub starts : start ≡ startOf plan (present .state .windows)
   pub rest : after steps (runOf plan scripts quota (limit - steps) present) ≡ runOf plan scripts quota limit first
+  pub positions-long : length (present .state .positions) ≡ 8
+  pub records-long : length (present .state .records) ≡ 8
   pub cache-long : length (present .cache) ≡ 272
   pub boxes-long : length (present .boxes) ≡ 64
   pub log-long : length (present .log) ≡ length (first .log)
@@ -42,10 +44,12 @@ module _ (plan : Plan) (scripts : List ℕ) (quota limit : ℕ) (first : World) 
       (start : ℕ)
       → statePossible plan quota (first .state) ≡ true
       → start ≡ startOf plan (first .state .windows)
+      → length (first .state .positions) ≡ 8
+      → length (first .state .records) ≡ 8
       → length (first .cache) ≡ 272
       → length (first .boxes) ≡ 64
       → Going plan scripts quota limit first first 0 start
-  going-first start passes starts cache boxes =
+  going-first start passes starts positions records cache boxes =
       record {
         within = omega arith;
         on-schedule = possible-scheduled plan quota first possible passes;
@@ -53,58 +57,101 @@ module _ (plan : Plan) (scripts : List ℕ) (quota limit : ℕ) (first : World) 
         rest =
             ap (λ (left : ℕ). after 0 (runOf plan scripts quota left first)) (sub-zero limit)
             ∙ λ i. record { done = add-zero (runOf plan scripts quota limit first .done) i; world = runOf plan scripts quota limit first .world };
+        positions-long = positions;
+        records-long = records;
         cache-long = cache;
         boxes-long = boxes;
         log-long = refl;
       }
 
-  -- one step more, a switch or an op
-  pub going-more :
-      (present next : World) (steps start end start′ : ℕ)
+  -- the ops of a window, so many of them
+  pub going-window :
+      (state : State) (owner clock position records : ℕ) (cache boxes log cache′ boxes′ log′ : List ℕ) (steps start count : ℕ)
+      → Going plan scripts quota limit first (worldWith state cache boxes log) steps start
+      → count ≤ limit - steps
+      → ranWith count (worldWith (turned state owner clock position records) cache′ boxes′ log′)
+      ≡ runOf plan scripts quota count (worldWith state cache boxes log)
+      → length cache′ ≡ length cache
+      → length boxes′ ≡ length boxes
+      → length log′ ≡ length log
+      → Going plan scripts quota limit first (worldWith (turned state owner clock position records) cache′ boxes′ log′) (steps + count) start
+  going-window state owner clock position records cache boxes log cache′ boxes′ log′ steps start count going fewer ran same-cache same-boxes same-log =
+      record {
+        within = omega (arith, going .within);
+        on-schedule = subst (Scheduled plan) reached (steps-scheduled plan scripts quota present possible (going .on-schedule) count);
+        starts = going .starts;
+        rest = rest-next;
+        positions-long = length-set (state .positions) owner position ∙ going .positions-long;
+        records-long = length-set (state .records) owner records ∙ going .records-long;
+        cache-long = same-cache ∙ going .cache-long;
+        boxes-long = same-boxes ∙ going .boxes-long;
+        log-long = same-log ∙ going .log-long;
+      }
+    where
+      present : World
+      present = worldWith state cache boxes log
+
+      next : World
+      next = worldWith (turned state owner clock position records) cache′ boxes′ log′
+
+      reached : steps-of plan scripts quota count present ≡ next
+      reached = sym (run-world plan scripts quota count present) ∙ ap (λ (r : Ran). r .world) (sym ran)
+
+      left : ℕ
+      left = limit - (steps + count)
+
+      whole : count + left ≡ limit - steps
+      whole = omega (arith, going .within)
+
+      added : (rest : Ran) → after (steps + count) rest ≡ after steps (record { done = count + rest .done; world = rest .world })
+      added rest =
+          let same : rest .done + (steps + count) ≡ count + rest .done + steps = omega arith in
+          λ i. record { done = same i; world = rest .world }
+
+      rest-next : after (steps + count) (runOf plan scripts quota left next) ≡ runOf plan scripts quota limit first
+      rest-next =
+          added (runOf plan scripts quota left next)
+          ∙ ap (λ (r : Ran). after steps (thenRun plan scripts quota r left)) ran
+          ∙ ap (after steps) (sym (run-add plan scripts quota count left present))
+          ∙ ap (λ (n : ℕ). after steps (runOf plan scripts quota n present)) whole
+          ∙ going .rest
+
+  -- a switch
+  pub going-switch :
+      (present next : World) (steps start end : ℕ)
       → Going plan scripts quota limit first present steps start
       → steps < limit
       → present .state .windows < windowsTotal plan
       → end ≡ endOf plan (present .state .windows)
-      → next ≡ activeStep plan scripts quota present
-      → start′ ≡ cond (ltb (present .state .windows) (next .state .windows)) (end + plan .pad) start
+      → activeStep plan scripts quota present ≡ switchOf plan present
+      → next ≡ switchOf plan present
       → length (next .cache) ≡ length (present .cache)
-      → length (next .boxes) ≡ length (present .boxes)
-      → length (next .log) ≡ length (present .log)
-      → Going plan scripts quota limit first next (steps + 1) start′
-  unfolding endedOf
-  going-more present next steps start end start′ going more inWindow ends stepped starts cache boxes log =
+      → Going plan scripts quota limit first next (steps + 1) (end + plan .pad)
+  unfolding endedOf switchOf
+  going-switch present next steps start end going more inWindow ends due switched cache =
       record {
         within = omega arith;
-        on-schedule = scheduled-next;
-        starts = starts-next (step-windows plan scripts quota present possible (going .on-schedule));
+        on-schedule = subst (Scheduled plan) is-step (step-scheduled plan scripts quota present possible (going .on-schedule));
+        starts =
+            ap (λ (n : ℕ). n + plan .pad) ends
+            ∙ sym (next-start plan (present .state .windows))
+            ∙ ap (startOf plan) (sym (ap (λ (w : World). w .state .windows) switched ∙ add-one (present .state .windows)));
         rest = rest-next;
+        positions-long = ap (λ (w : World). length (w .state .positions)) switched ∙ going .positions-long;
+        records-long = ap (λ (w : World). length (w .state .records)) switched ∙ going .records-long;
         cache-long = cache ∙ going .cache-long;
-        boxes-long = boxes ∙ going .boxes-long;
-        log-long = log ∙ going .log-long;
+        boxes-long = ap (λ (w : World). length (w .boxes)) switched ∙ going .boxes-long;
+        log-long = ap (λ (w : World). length (w .log)) switched ∙ going .log-long;
       }
     where
       running : endedOf plan (present .state) ≡ false
       running = lt-leb _ _ inWindow
 
+      stepped : next ≡ activeStep plan scripts quota present
+      stepped = switched ∙ sym due
+
       is-step : stepOf plan scripts quota present ≡ next
       is-step = step-active plan scripts quota present running ∙ sym stepped
-
-      scheduled-next : Scheduled plan next
-      scheduled-next = subst (Scheduled plan) is-step (step-scheduled plan scripts quota present possible (going .on-schedule))
-
-      starts-next : NextWindow plan present (stepOf plan scripts quota present) → start′ ≡ startOf plan (next .state .windows)
-      starts-next =
-          ⊎-elim
-          (λ stays.
-          let same : next .state .windows ≡ present .state .windows = ap (λ (w : World). w .state .windows) (sym is-step) ∙ stays in
-          starts ∙ ap (λ (b : Bool). cond b (end + plan .pad) start) (le-ltb (present .state .windows) (next .state .windows) (omega arith)) ∙ going .starts ∙ ap (startOf plan) (sym same))
-          (λ switched.
-          let moved : next .state .windows ≡ present .state .windows + 1 = ap (λ (w : World). w .state .windows) (sym is-step) ∙ switched .windows in
-          starts
-          ∙ ap (λ (b : Bool). cond b (end + plan .pad) start) (lt-ltb (present .state .windows) (next .state .windows) (omega arith))
-          ∙ ap (λ (n : ℕ). n + plan .pad) ends
-          ∙ sym (next-start plan (present .state .windows))
-          ∙ ap (startOf plan) (sym (moved ∙ add-one (present .state .windows))))
 
       left : limit - steps ≡ suc (limit - (steps + 1))
       left = omega arith

@@ -6,3 +6,4 @@ pub mod Runs
 pub mod Schedule
 pub mod Tests
 pub mod Turns
+pub mod Windows

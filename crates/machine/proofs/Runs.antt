@@ -115,3 +115,16 @@ module _ (plan : Plan) (scripts : List ℕ) (quota : ℕ) where
           let rest = runOf plan scripts quota limit (ran .world) in
           let count : ran .done + rest .done + 1 ≡ ran .done + 1 + rest .done = omega arith in
           λ i. record { done = count i; world = rest .world }
+
+  -- a run of one step more, where the run has not ended
+  pub run-next : (count : ℕ) (world present next : World)
+      → record { done = count; world = present } ≡ runOf plan scripts quota count world
+      → endedOf plan (present .state) ≡ false
+      → next ≡ activeStep plan scripts quota present
+      → record { done = count + 1; world = next } ≡ runOf plan scripts quota (count + 1) world
+  unfolding runOf
+  run-next count world present next so-far running stepped =
+      (λ i. record { done = count + 1; world = stepped i })
+      ∙ ap (λ (one : Ran). record { done = count + one .done; world = one .world }) (sym (run-more 0 present running))
+      ∙ ap (λ (ran : Ran). thenRun ran 1) so-far
+      ∙ sym (run-add count 1 world)

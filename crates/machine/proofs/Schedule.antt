@@ -103,12 +103,17 @@ step-windows plan scripts quota world possible scheduled =
     (λ inWindow. inr (record { windows = refl; exact = switch-clock plan world possible scheduled inWindow }))
     (λ op begins. inl refl)
 
--- a step keeps to the schedule
+-- steps keep to the schedule
+pub steps-scheduled : (plan : Plan) (scripts : List ℕ) (quota : ℕ) (world : World) → planPossible plan ≡ true → Scheduled plan world
+    → (count : ℕ)
+    → Scheduled plan (steps plan scripts quota count world)
+steps-scheduled plan scripts quota world possible on-schedule =
+    steps-hold plan scripts quota (Scheduled plan) (after-switch plan possible) (after-op plan possible scripts quota) world on-schedule
+
 pub step-scheduled : (plan : Plan) (scripts : List ℕ) (quota : ℕ) (world : World) → planPossible plan ≡ true → Scheduled plan world
     → Scheduled plan (stepOf plan scripts quota world)
 unfolding steps
-step-scheduled plan scripts quota world possible on-schedule =
-    steps-hold plan scripts quota (Scheduled plan) (after-switch plan possible) (after-op plan possible scripts quota) world on-schedule 1
+step-scheduled plan scripts quota world possible on-schedule = steps-scheduled plan scripts quota world possible on-schedule 1
 
 -- a state that passes the check for 14 is on schedule
 pub possible-scheduled : (plan : Plan) (quota : ℕ) (world : World) → planPossible plan ≡ true → statePossible plan quota (world .state) ≡ true

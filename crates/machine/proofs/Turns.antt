@@ -27,7 +27,7 @@ use Rattle.state.specs.declared.State.{State}
 use Rattle.state.specs.World.{World, positionAt, recordsAt, runningOf}
 use Rattle.machine.specs.Steps.{activeStep, closedOf, fetchedStep, nextOf, opStepOf}
 use Rattle.machine.specs.Switch.{flushedClock, paddedClock, switchOf}
-use Rattle.machine.specs.View.{InWindow, worldWith}
+use Rattle.machine.specs.View.{InWindow, turned, worldWith}
 use Rattle.machine.proofs.Tests.{neither}
 
 -- both flushes one after the other, with what each answers
@@ -54,20 +54,17 @@ operated-ticks plan domain op cache boxes done cache′ boxes′ within did =
 
 -- one op, with its record stored
 pub op-stepped :
-    (plan : Plan) (quota domain : ℕ) (op : Op) (state : State) (cache boxes log : List ℕ) (done : Done) (cache′ boxes′ log′ : List ℕ)
+    (plan : Plan) (quota domain : ℕ) (op : Op) (clock number : ℕ) (cache boxes log : List ℕ) (done : Done) (cache′ boxes′ log′ : List ℕ)
     → effectWith done cache′ boxes′ ≡ effectOf plan domain op cache boxes
-    → log′ ≡ stored quota domain (recordsAt state domain) (done .seen) (state .clock + done .ticks) log
-    → worldWith
-    (record {
-      windows = state .windows;
-      clock = state .clock + done .ticks;
-      positions = set (state .positions) domain (positionAt state domain + 1);
-      records = set (state .records) domain (recordsAt state domain + 1);
-    })
-    cache′ boxes′ log′
+    → log′ ≡ stored quota domain number (done .seen) (clock + done .ticks) log
+    → (state : State)
+    → state .clock ≡ clock
+    → recordsAt state domain ≡ number
+    → worldWith (turned state domain (clock + done .ticks) (positionAt state domain + 1) (number + 1)) cache′ boxes′ log′
     ≡ opStepOf plan quota domain op (worldWith state cache boxes log)
 unfolding opStepOf
-op-stepped plan quota domain op state cache boxes log done cache′ boxes′ log′ did kept = rw (← did, kept) refl
+op-stepped plan quota domain op clock number cache boxes log done cache′ boxes′ log′ did kept state clocked counted =
+    rw (← did, kept, clocked, counted) refl
 
 -- a switch, with the clock that it answers
 pub switch-stepped :
@@ -130,39 +127,39 @@ pub closed-test :
 unfolding closedOf
 closed-test plan quota state owner end owns ends = rw (owns, ends) refl
 
--- what the code of a step answers, in a window whose numbers it was handed
+-- what follows from the tests of the code, in a window whose numbers it was handed
 module _
-    (plan : Plan) (scripts : List ℕ) (quota : ℕ) (state : State) (cache boxes log : List ℕ) (owner end pad : ℕ) (rights masks : List ℕ)
-    (handed : InWindow plan (state .windows) owner end pad rights masks) (after : World) where
-  pub stepped-closed :
+    (plan : Plan) (scripts : List ℕ) (quota : ℕ) (state : State) (cache boxes log : List ℕ) (owner end : ℕ) (rights masks : List ℕ)
+    (handed : InWindow plan (state .windows) owner end rights masks) where
+  -- a switch is due: the clock has reached the end, or the domain's log is full
+  pub due-closed :
       (leb end (state .clock) || leb quota (recordsAt state owner)) ≡ true
-      → after ≡ switchOf plan (worldWith state cache boxes log)
-      → after ≡ activeStep plan scripts quota (worldWith state cache boxes log)
-  stepped-closed test switched =
-      switched
-      ∙ sym (active-closed plan scripts quota (worldWith state cache boxes log) (closed-test plan quota state owner end (handed .owner-is) (handed .end-is) ∙ test))
+      → activeStep plan scripts quota (worldWith state cache boxes log) ≡ switchOf plan (worldWith state cache boxes log)
+  due-closed test =
+      active-closed plan scripts quota (worldWith state cache boxes log)
+      (closed-test plan quota state owner end (handed .owner-is) (handed .end-is) ∙ test)
 
-  pub stepped-end :
+  -- a switch is due: the script has ended
+  pub due-end :
       (fetched : Fetched)
       → (leb end (state .clock) || leb quota (recordsAt state owner)) ≡ false
       → fetched ≡ fetchOf scripts owner (positionAt state owner)
       → fetched ≡ End
-      → after ≡ switchOf plan (worldWith state cache boxes log)
-      → after ≡ activeStep plan scripts quota (worldWith state cache boxes log)
-  stepped-end fetched test got ends switched =
-      switched
-      ∙ sym (active-end plan scripts quota (worldWith state cache boxes log)
+      → activeStep plan scripts quota (worldWith state cache boxes log) ≡ switchOf plan (worldWith state cache boxes log)
+  due-end fetched test got ends =
+      active-end plan scripts quota (worldWith state cache boxes log)
       (closed-test plan quota state owner end (handed .owner-is) (handed .end-is) ∙ test)
-      (ap (λ (d : ℕ). fetchOf scripts d (positionAt state d)) (handed .owner-is) ∙ sym got ∙ ends))
+      (ap (λ (d : ℕ). fetchOf scripts d (positionAt state d)) (handed .owner-is) ∙ sym got ∙ ends)
 
+  -- the step is an op
   pub stepped-op :
-      (fetched : Fetched) (op : Op)
+      (fetched : Fetched) (op : Op) (after : World)
       → (leb end (state .clock) || leb quota (recordsAt state owner)) ≡ false
       → fetched ≡ fetchOf scripts owner (positionAt state owner)
       → fetched ≡ Fetch op
       → after ≡ opStepOf (viewOf rights masks) quota owner op (worldWith state cache boxes log)
       → after ≡ activeStep plan scripts quota (worldWith state cache boxes log)
-  stepped-op fetched op test got is-op stepped =
+  stepped-op fetched op after test got is-op stepped =
       stepped
       ∙ ap₂ (λ (r m : List ℕ). opStepOf (viewOf r m) quota owner op (worldWith state cache boxes log)) (sym (handed .rights-are)) (sym (handed .masks-are))
       ∙ op-step-view plan quota owner op (worldWith state cache boxes log)
@@ -170,6 +167,15 @@ module _
       ∙ sym (active-op plan scripts quota (worldWith state cache boxes log) op
       (closed-test plan quota state owner end (handed .owner-is) (handed .end-is) ∙ test)
       (ap (λ (d : ℕ). fetchOf scripts d (positionAt state d)) (handed .owner-is) ∙ sym got ∙ is-op))
+
+-- while no switch is due, the clock is before the end and the part has room
+pub before-end : (end clock quota number : ℕ) → (leb end clock || leb quota number) ≡ false → end ≤ 2 ^ 62 → clock ≤ 2 ^ 62
+before-end end clock quota number still fits =
+    let below : clock < end = leb-false end clock (neither (leb end clock) (leb quota number) still .0) in
+    omega arith
+
+pub records-below : (end clock quota number : ℕ) → (leb end clock || leb quota number) ≡ false → number < quota
+records-below end clock quota number still = leb-false quota number (neither (leb end clock) (leb quota number) still .1)
 
 -- a record that a part has room for lies within the log
 pub record-room :

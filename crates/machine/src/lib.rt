@@ -9,3 +9,13 @@ pub struct Advance {
     pub steps: u64,
     pub state: State,
 }
+
+// What the ops of one window answer, beside the cache table, the boxes and the log.
+pub struct Spent {
+    // the number of ops done
+    pub steps: u64,
+    pub clock: u64,
+    // the running domain's place in its script, and its number of records
+    pub position: u64,
+    pub records: u64,
+}
