@@ -92,10 +92,10 @@ fn run_window(
         → InWindow plan (state .windows) owner end (now (rights .entry)) (now (masks .entry))
         → InTurn plan state owner begun place count
         → (ranWith (r .steps) (worldWith (turned state owner (r .clock) (r .position) (r .records)) (now (cache .exit)) (now (boxes .exit)) (now (log .exit)))
-            ≡ runOf plan (now (scripts .entry)) quota (r .steps) (worldWith state (now (cache .entry)) (now (boxes .entry)) (now (log .entry))))
+        ≡ runOf plan (now (scripts .entry)) quota (r .steps) (worldWith state (now (cache .entry)) (now (boxes .entry)) (now (log .entry))))
         × (r .steps < limit
-            → activeStep plan (now (scripts .entry)) quota (worldWith (turned state owner (r .clock) (r .position) (r .records)) (now (cache .exit)) (now (boxes .exit)) (now (log .exit)))
-            ≡ switchOf plan (worldWith (turned state owner (r .clock) (r .position) (r .records)) (now (cache .exit)) (now (boxes .exit)) (now (log .exit))))) ⌝ }
+        → activeStep plan (now (scripts .entry)) quota (worldWith (turned state owner (r .clock) (r .position) (r .records)) (now (cache .exit)) (now (boxes .exit)) (now (log .exit)))
+        ≡ switchOf plan (worldWith (turned state owner (r .clock) (r .position) (r .records)) (now (cache .exit)) (now (boxes .exit)) (now (log .exit))))) ⌝ }
 {
     let mut steps: u64 = 0;
     let mut clock = begun;
@@ -109,7 +109,18 @@ fn run_window(
         let Fetched::Op(op) = fetched else {
             break;
         };
-        clock = op_step(rights, masks, owner, op, quota, clock, records, cache, boxes, log);
+        clock = op_step(
+            rights,
+            masks,
+            owner,
+            op,
+            quota,
+            clock,
+            records,
+            cache,
+            boxes,
+            log,
+        );
         position += 1;
         records += 1;
         steps += 1;

@@ -130,12 +130,19 @@ fn ways_sound(ways: &[u16], set: u16) -> bool
     true
 }
 
-// Whether a set is sound.
+// Whether a set is sound. Most sets are empty: that is seen in one test, before the ways are walked.
 fn set_sound(cache: &[u16], set: u16) -> bool
     requires { ⌜ (length (now cache) ≡ 272) × (set < 64) ⌝ }
     ensures { λ r. ⌜ r ≡ setSound (now (cache .entry)) set ⌝ }
 {
     let from = 16 + 4 * (set as usize);
+    if (cache[from] == 0)
+        & (cache[from + 1] == 0)
+        & (cache[from + 2] == 0)
+        & (cache[from + 3] == 0)
+    {
+        return true;
+    }
     let to = from + 4;
     ways_sound(&cache[from..to], set)
 }

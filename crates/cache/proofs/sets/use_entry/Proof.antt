@@ -52,7 +52,7 @@ returns c =
     let l = c .before .before .before .loop in
     let within : l .place < length (args .set .now) = omega (arith, here-length (c .before .before .before)) in
     let here : getD (l .set) (l .place) 0 ≡ getD (args .set .now) (l .place) 0 =
-        ap (λ (ways : List ℕ). getD ways (l .place) 0) (l .inv .1) ∙ shifted-here (args .entry) (l .place) (args .set .now) within in
+    ap (λ (ways : List ℕ). getD ways (l .place) 0) (l .inv .1) ∙ shifted-here (args .entry) (l .place) (args .set .now) within in
     let found = use-found (args .entry) (l .place) (args .set .now) within (l .inv .3) (sym here ∙ c .if1 .taken) in
     (found .0, rw (l .inv .1, l .inv .2) (shifted-next (args .entry) (l .place) (args .set .now) within) ∙ found .1)
 
@@ -68,7 +68,7 @@ loop-again c =
     let l = c .before .before .before .loop in
     let within : l .place < length (args .set .now) = omega (arith, here-length (c .before .before .before)) in
     let here : getD (l .set) (l .place) 0 ≡ getD (args .set .now) (l .place) 0 =
-        ap (λ (ways : List ℕ). getD ways (l .place) 0) (l .inv .1) ∙ shifted-here (args .entry) (l .place) (args .set .now) within in (
+    ap (λ (ways : List ℕ). getD ways (l .place) 0) (l .inv .1) ∙ shifted-here (args .entry) (l .place) (args .set .now) within in (
       omega arith,
       rw (l .inv .1, l .inv .2) (shifted-next (args .entry) (l .place) (args .set .now) within),
       rw (l .inv .1) (shifted-read (args .entry) (l .place) (args .set .now) within),

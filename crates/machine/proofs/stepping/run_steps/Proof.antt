@@ -75,12 +75,12 @@ windows-total-requires : tie.Need-windows-total-requires Inv-loop μ-loop
 windows-total-requires c κs = let count = counts _ (c .before .before .before .before .before .before .before .before .before .pre .0) in (count .run-most, count .windows-most)
 
 start-of-requires : tie.Need-start-of-requires Inv-loop μ-loop
-start-of-requires c κs = 
+start-of-requires c κs =
     let pre = c .before .before .before .before .before .before .before .before .before .before .before .before .pre in
     (pre .0, possible-scheduled _ _ (worldWith (c .before .before .before .before .before .before .before .before .before .before .before .before .args .state) [] [] []) (pre .0) (pre .1) .windows)
 
 loop-holds : tie.Need-loop-holds Inv-loop μ-loop
-loop-holds c = 
+loop-holds c =
     let pre = c .before .before .before .before .before .before .before .before .before .before .before .before .before .pre in
     going-first _ _ _ _ _ (pre .0) _ (pre .1) (c .start-of .ensures) (search (needs, c .before .before .before .before .before .before .before .before .before .before .before .before .before .good .1 .1 .1 .1 .0)) (search (needs, c .before .before .before .before .before .before .before .before .before .before .before .before .before .good .1 .1 .1 .1 .0)) (pre .3) (pre .4)
 
@@ -135,7 +135,7 @@ sub-run-window c = omega (arith, c .before .before .before .before .loop-test)
 
 run-window-requires : tie.Need-run-window-requires Inv-loop μ-loop
 unfolding ownerOf lengthOf
-run-window-requires c κs = 
+run-window-requires c κs =
     let s = smalls (c .before .before .before .before .before .before) in
     let pre = c .before .before .before .before .before .before .before .before .before .before .before .before .before .before .before .before .before .before .before .before .before .before .pre in
     let loop = c .before .before .before .before .before .before .before .before .loop in (
@@ -169,7 +169,7 @@ add-steps c = omega (arith, c .before .before .before .before .before .before .b
 
 switch-requires : tie.Need-switch-requires Inv-loop μ-loop
 unfolding ownerOf lengthOf
-switch-requires c κs = 
+switch-requires c κs =
     let pre = c .before .before .before .before .before .before .before .before .before .before .before .before .before .before .before .before .before .before .before .before .before .before .before .before .before .before .before .before .before .before .before .before .pre in
     let loop = c .before .before .before .before .before .before .before .before .before .before .before .before .before .before .before .before .before .before .loop in
     let spent = c .before .before .before .before .before .before .before .before .before .run-window in
@@ -194,7 +194,7 @@ loop-less c = omega (arith, c .before .before .before .before .before .before .b
 
 loop-again : tie.Need-loop-again Inv-loop μ-loop
 unfolding ownerOf lengthOf
-loop-again c = 
+loop-again c =
     let pre = c .before .before .before .before .before .before .before .before .before .before .before .before .before .before .before .before .before .before .before .before .before .before .before .before .before .before .before .before .before .before .before .before .before .before .before .pre in
     let loop = c .before .before .before .before .before .before .before .before .before .before .before .before .before .before .before .before .before .before .before .before .before .loop in
     let spent = c .before .before .before .before .before .before .before .before .before .before .before .before .run-window in
@@ -242,7 +242,7 @@ same-length-9 c = c .before .before .before .before .before .before .before .bef
 
 returns-3 : tie.Need-returns-3 Inv-loop μ-loop
 unfolding ownerOf lengthOf
-returns-3 c = 
+returns-3 c =
     let pre = c .before .before .before .before .before .before .before .before .before .before .before .before .before .before .before .before .before .before .before .before .before .before .before .before .before .before .before .before .before .before .before .pre in
     let loop = c .before .before .before .before .before .before .before .before .before .before .before .before .before .before .before .before .before .loop in
     let spent = c .before .before .before .before .before .before .before .before .run-window in

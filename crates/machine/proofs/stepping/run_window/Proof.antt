@@ -19,7 +19,7 @@ abbrev μ-loop : tie.MeasureT-loop
     limit - steps
 
 loop-holds : tie.Need-loop-holds Inv-loop μ-loop
-loop-holds c = 
+loop-holds c =
     let args = c .before .before .before .before .args in
     let pre = c .before .before .before .before .pre in
     record {
@@ -44,7 +44,7 @@ enum-told : tie.Need-enum-told Inv-loop μ-loop
 enum-told c = search needs
 
 op-step-requires : tie.Need-op-step-requires Inv-loop μ-loop
-op-step-requires c κs = 
+op-step-requires c κs =
     let pre = c .before .before .before .before .before .before .before .before .before .before .before .before .before .before .pre in
     let args = c .before .before .before .before .before .before .before .before .before .before .before .before .before .before .args in
     let loop = c .before .before .before .before .before .before .before .before .before .loop in
@@ -59,12 +59,12 @@ op-step-requires c κs =
     )
 
 add-position : tie.Need-add-position Inv-loop μ-loop
-add-position c = 
+add-position c =
     let fetched = sym (c .before .before .before .before .before .before .before .before .before .before .before .before .before .fetch .ensures) ∙ c .before .before .before .before .before .before .before .before .before .before .before .fetched .given .1 in
     omega (arith, fetched-below _ _ _ _ fetched)
 
 add-records : tie.Need-add-records Inv-loop μ-loop
-add-records c = 
+add-records c =
     omega (arith, records-below (c .before .before .before .before .before .before .before .before .before .before .before .before .before .before .before .before .before .before .before .before .before .args .end) (c .before .before .before .before .before .before .before .before .before .before .before .before .before .before .before .before .loop .clock) (c .before .before .before .before .before .before .before .before .before .before .before .before .before .before .before .before .before .before .before .before .before .args .quota) (c .before .before .before .before .before .before .before .before .before .before .before .before .before .before .before .before .loop .records) (c .before .before .before .before .before .before .before .before .before .before .before .before .before .before .if1 .left), c .before .before .before .before .before .before .before .before .before .before .before .before .before .before .before .before .before .before .before .before .before .fits)
 
 add-steps : tie.Need-add-steps Inv-loop μ-loop
@@ -74,7 +74,7 @@ loop-less : tie.Need-loop-less Inv-loop μ-loop
 loop-less c = omega (arith, c .before .before .before .before .before .before .before .before .before .before .before .before .before .before .before .loop-test)
 
 loop-again : tie.Need-loop-again Inv-loop μ-loop
-loop-again c = 
+loop-again c =
     let loop = c .before .before .before .before .before .before .before .before .before .before .before .before .before .before .before .before .loop in
     let pre = c .before .before .before .before .before .before .before .before .before .before .before .before .before .before .before .before .before .before .before .before .before .pre in
     let did = c .before .before .before .before .before .before .op-step in
