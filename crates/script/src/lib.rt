@@ -1,9 +1,7 @@
 // The five operations of a script, and the number that a script store holds for each.
 ghost use mathlib.Core.Path.{_≡_};
-ghost use mathlib.Core.Bool.{cond};
 ghost use Prim.Native.Nat.{_<_, _≤_};
 ghost use lib.ListN.{length};
-ghost use Rattle.script.specs.declared.Fetched.the-variants.{Op as Fetch, End};
 ghost use Rattle.script.specs.Stored.{packed, storedOf};
 ghost use Rattle.script.specs.Fetch.{decodeOf, fetchOf, opOf};
 
@@ -44,33 +42,39 @@ pub fn stored(op: Op) -> u32
     }
 }
 
-// An operation where its test passes, else the end of the script.
-fn op_where(test: bool, op: Op) -> Fetched
-    ensures { λ r. ⌜ r ≡ cond test (Fetch op) End ⌝ }
-{
-    if test { Fetched::Op(op) } else { Fetched::End }
-}
-
 // The operation that three parts give, or the end of the script where they are outside an operation's limits.
 fn op_of(kind: u32, other: u8, value: u16) -> Fetched
     ensures { λ r. ⌜ r ≡ opOf kind other value ⌝ }
 {
     if kind == 1 {
-        return op_where(other == 0, Op::Read(value));
+        if other == 0 {
+            return Fetched::Op(Op::Read(value));
+        }
+        return Fetched::End;
     }
     if kind == 2 {
-        return op_where(other == 0, Op::Write(value));
+        if other == 0 {
+            return Fetched::Op(Op::Write(value));
+        }
+        return Fetched::End;
     }
     if kind == 3 {
-        return op_where(other <= 7, Op::Send(other, value));
+        if other <= 7 {
+            return Fetched::Op(Op::Send(other, value));
+        }
+        return Fetched::End;
     }
     if kind == 4 {
-        return op_where((other <= 7) & (value == 0), Op::Receive(other));
+        if (other <= 7) & (value == 0) {
+            return Fetched::Op(Op::Receive(other));
+        }
+        return Fetched::End;
     }
     if kind == 5 {
         if (other == 0) & (1 <= value) & (value <= 200) {
             return Fetched::Op(Op::Compute(value as u8));
         }
+        return Fetched::End;
     }
     Fetched::End
 }

@@ -53,7 +53,7 @@ fn trials(test: &str, count: u64, mut each: impl FnMut(&mut Trial, &mut Rng)) ->
 
 #[test]
 fn lists_of_calls() {
-    let tally = trials("lists of calls", 2_000, |trial, rng| {
+    let tally = trials("lists of calls", 6_000, |trial, rng| {
         trial.accept(&Call::FreshStart);
         for _ in 0..rng.below(30) {
             match random_call(rng, trial.pair.world()) {
@@ -74,7 +74,7 @@ fn lists_of_calls() {
 
 #[test]
 fn runs_to_the_end() {
-    trials("runs to the end", 1_000, |trial, _| {
+    trials("runs to the end", 2_000, |trial, _| {
         trial.accept(&Call::FreshStart);
         trial.accept(&Call::Run(u64::MAX));
         assert_eq!(trial.pair.world().answer[3], 1);
@@ -87,7 +87,7 @@ fn runs_to_the_end() {
 
 #[test]
 fn pieces_add_up() {
-    trials("pieces add up", 300, |trial, rng| {
+    trials("pieces add up", 600, |trial, rng| {
         trial.accept(&Call::FreshStart);
         let fresh = trial.pair.world().clone();
         let limit = rng.below(400);
@@ -119,7 +119,7 @@ fn pieces_add_up() {
 
 #[test]
 fn scattered_worlds() {
-    let tally = trials("scattered worlds", 5_000, |trial, rng| {
+    let tally = trials("scattered worlds", 8_000, |trial, rng| {
         scatter(rng, trial.pair.world_mut());
         for _ in 0..1 + rng.below(6) {
             let limit = rng.pick(&[0, 1, 2, 30, 700, u64::MAX]);
@@ -139,7 +139,7 @@ fn scattered_worlds() {
 
 #[test]
 fn disturbed_worlds() {
-    let tally = trials("disturbed worlds", 3_000, |trial, rng| {
+    let tally = trials("disturbed worlds", 6_000, |trial, rng| {
         match rng.one_in(2) {
             true => scatter(rng, trial.pair.world_mut()),
             false => trial.accept(&Call::FreshStart),

@@ -29,7 +29,7 @@ fn try_pair(engine: &dyn Engine, rng: &mut Rng) -> Result<Compared, String> {
 fn nothing_shows_of_the_others() {
     let engines: [Box<dyn Engine>; 2] = [Box::new(Reference), under_test()];
     let mut sums = [(0, 0, 0, 0); 2];
-    for (case, rng) in cases("isolation", 600) {
+    for (case, rng) in cases("isolation", 2_000) {
         for (engine, sum) in engines.iter().zip(&mut sums) {
             let compared = try_pair(&**engine, &mut rng.clone());
             let compared = compared.unwrap_or_else(|what| {

@@ -40,7 +40,7 @@ fn read(text: &[u8], tally: &mut Tally, context: &dyn std::fmt::Display) -> (u32
 #[test]
 fn good_texts_give_what_they_say() {
     let mut tally = Tally::default();
-    for (case, mut rng) in cases("good texts", 3_000) {
+    for (case, mut rng) in cases("good texts", 12_000) {
         let mut sketch = match rng.one_in(10) {
             true => Sketch::at_the_limit(&mut rng),
             false => Sketch::random(&mut rng),
@@ -57,7 +57,7 @@ fn good_texts_give_what_they_say() {
 #[test]
 fn each_fault_has_its_number() {
     let mut tally = Tally::default();
-    for (case, mut rng) in cases("faulty texts", 3_000) {
+    for (case, mut rng) in cases("faulty texts", 12_000) {
         let (text, expected) = faulty_text(&mut rng);
         let (number, _) = read(&text, &mut tally, &case);
         assert_eq!(
@@ -73,7 +73,7 @@ fn each_fault_has_its_number() {
 #[test]
 fn mutated_texts() {
     let mut tally = Tally::default();
-    for (case, mut rng) in cases("mutated texts", 20_000) {
+    for (case, mut rng) in cases("mutated texts", 60_000) {
         let mut text = mutated(&mut rng);
         let (number, _) = read(&text, &mut tally, &case);
         if number == 0 && rng.one_in(4) {
@@ -103,7 +103,7 @@ fn mutated(rng: &mut Rng) -> Vec<u8> {
 #[test]
 fn random_bytes() {
     let mut tally = Tally::default();
-    for (case, mut rng) in cases("random bytes", 10_000) {
+    for (case, mut rng) in cases("random bytes", 30_000) {
         read(&random_text(&mut rng), &mut tally, &case);
     }
 }

@@ -83,7 +83,7 @@ extern "C" {
 // the library keeps none of them and writes only to those that are not const.
 impl Engine for Linked {
     fn name(&self) -> &'static str {
-        "linked"
+        "library"
     }
 
     fn read_plan(

@@ -5,7 +5,7 @@ mod linked;
 mod reference;
 
 #[cfg(linked)]
-pub use linked::Linked;
+use linked::Linked;
 pub use reference::Reference;
 
 /// Numbers in a script store, a cache table and a table of boxes.
@@ -62,11 +62,16 @@ pub trait Engine {
     fn log(&self, plan: &[u32], state: &[u64], log: &[u8], domain: u32, answer: &mut [u64]) -> u32;
 }
 
+/// The linked library, if there is one.
+pub fn linked() -> Option<Box<dyn Engine>> {
+    #[cfg(linked)]
+    return Some(Box::new(Linked));
+    #[cfg(not(linked))]
+    return None;
+}
+
 /// The engine to hold against the reference: the linked library, or without one
 /// the reference once more.
 pub fn under_test() -> Box<dyn Engine> {
-    #[cfg(linked)]
-    return Box::new(Linked);
-    #[cfg(not(linked))]
-    return Box::new(Reference);
+    linked().unwrap_or_else(|| Box::new(Reference))
 }

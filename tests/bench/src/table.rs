@@ -8,29 +8,22 @@ pub struct Table {
 }
 
 impl Table {
-    /// A table with a column of names, one of units, and two or three for each
-    /// engine.
+    /// A table with a column of names, one of units, one for each engine, and
+    /// the second engine's ratio to the first with its spread.
     pub fn new(title: &str, units: &str, subjects: &[Box<dyn Subject>]) -> Self {
         let mut head = vec![title.to_string(), units.to_string()];
-        for (place, subject) in subjects.iter().enumerate() {
-            head.push(subject.name());
-            head.push("least..greatest".into());
-            if place > 0 {
-                head.push("ratio".into());
-            }
-        }
+        head.extend(subjects.iter().map(|subject| subject.name()));
+        head.extend(["ratio".into(), "tenths".into()]);
         Table { rows: vec![head] }
     }
 
     pub fn row(&mut self, name: &str, units: u64, figures: &[Figure]) {
         let mut row = vec![name.to_string(), units.to_string()];
-        for (place, figure) in figures.iter().enumerate() {
-            row.push(format!("{:.2}", figure.median));
-            row.push(format!("{:.2}..{:.2}", figure.least, figure.greatest));
-            if place > 0 {
-                row.push(format!("{:.2}", figure.ratio));
-            }
-        }
+        row.extend(figures.iter().map(|figure| format!("{:.2}", figure.median)));
+        let Figure {
+            ratio, low, high, ..
+        } = figures[1];
+        row.extend([format!("{ratio:.2}"), format!("{low:.2}..{high:.2}")]);
         self.rows.push(row);
     }
 

@@ -33,10 +33,11 @@ impl fmt::Display for Settings {
 #[derive(Clone, Copy, Debug)]
 pub struct Figure {
     pub median: f64,
-    pub least: f64,
-    pub greatest: f64,
-    /// The median of each round's ratio to the first engine.
+    /// Each round's own ratio to the first engine: the median, and where the
+    /// lowest and the highest tenth of the rounds end.
     pub ratio: f64,
+    pub low: f64,
+    pub high: f64,
 }
 
 /// Times a piece of work with every engine, each time after something that is
@@ -81,11 +82,12 @@ impl Figure {
     fn of(times: &[f64], first: &[f64]) -> Self {
         let ratios = times.iter().zip(first).map(|(own, first)| own / first);
         let (ratios, times) = (sorted(ratios), sorted(times.iter().copied()));
+        let tenth = ratios.len() / 10;
         Figure {
             median: times[times.len() / 2],
-            least: times[0],
-            greatest: times[times.len() - 1],
             ratio: ratios[ratios.len() / 2],
+            low: ratios[tenth],
+            high: ratios[ratios.len() - 1 - tenth],
         }
     }
 }

@@ -1,11 +1,12 @@
-//! Times the engines in one process: runs, readings, and single steps.
+//! Times the library beside the reference in one process: runs, readings, and
+//! single steps.
 //!
 //! Each figure is the median over several rounds, in which the engines take
-//! short turns, with the least and the greatest beside it. The first engine is
-//! the reference with its own types; the others go through the plain interface.
-//! A ratio is the median of the rounds' own ratios to the first engine, so that
-//! a busy machine tells on both sides alike. PIRKVEZO_BENCH_ROUNDS sets the
-//! rounds.
+//! short turns. The first two go through the plain interface; the third is the
+//! reference with its own types. A ratio is the median of the rounds' own ratios
+//! of the library to the reference, so that a busy machine tells on both sides
+//! alike; beside it stand the ratios at which the lowest and the highest tenth
+//! of the rounds end. PIRKVEZO_BENCH_ROUNDS sets the rounds.
 
 mod subjects;
 mod table;
@@ -21,15 +22,27 @@ fn main() {
     let settings = Settings::from_environment();
     let mut subjects = subjects::all();
     println!("{settings}");
-    runs(&settings, &mut subjects);
+    runs(
+        &settings,
+        &mut subjects,
+        "run to the end",
+        workloads::runs(),
+    );
+    runs(&settings, &mut subjects, "growth", workloads::growth());
     readings(&settings, &mut subjects);
     steps(&settings, &mut subjects);
 }
 
 /// Whole runs from a fresh start to the end.
-fn runs(settings: &Settings, subjects: &mut [Box<dyn Subject>]) {
-    let mut table = Table::new("run to the end: nanoseconds a step", "steps", subjects);
-    for workload in workloads::runs() {
+fn runs(
+    settings: &Settings,
+    subjects: &mut [Box<dyn Subject>],
+    title: &str,
+    workloads: Vec<Workload>,
+) {
+    let title = format!("{title}: nanoseconds a step");
+    let mut table = Table::new(&title, "steps", subjects);
+    for workload in workloads {
         let steps = load(subjects, &workload);
         let figures = measure(
             settings,

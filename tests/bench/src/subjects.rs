@@ -1,7 +1,7 @@
-//! What is timed: the reference with its own types, and every engine behind the
-//! plain interface.
+//! What is timed: the reference and the library behind the plain interface, and
+//! the reference with its own types.
 
-use pirkvezo_differential::engine::{Engine, Reference, BOXES, CACHE, SCRIPTS};
+use pirkvezo_differential::engine::{under_test, Engine, Reference, BOXES, CACHE, SCRIPTS};
 use pirkvezo_differential::generate::sketch::Sketch;
 use pirkvezo_differential::world::{Call, World};
 use pirkvezo_reference::flat::plan_from_flat;
@@ -23,25 +23,15 @@ pub trait Subject {
     fn steps(&mut self, most: u64) -> u64;
 }
 
-/// The reference's own types, the reference behind the plain interface, and the
-/// linked library if there is one.
+/// The reference and the linked library behind the same plain interface, and
+/// the reference with its own types. Without a library the reference stands in
+/// for it.
 pub fn all() -> Vec<Box<dyn Subject>> {
-    let mut subjects: Vec<Box<dyn Subject>> =
-        vec![Box::new(Native::new()), Box::new(Plain::new(Reference))];
-    if let Some(linked) = linked() {
-        subjects.push(linked);
-    }
-    subjects
-}
-
-#[cfg(linked)]
-fn linked() -> Option<Box<dyn Subject>> {
-    Some(Box::new(Plain::new(pirkvezo_differential::engine::Linked)))
-}
-
-#[cfg(not(linked))]
-fn linked() -> Option<Box<dyn Subject>> {
-    None
+    vec![
+        Box::new(Plain::new(Box::new(Reference))),
+        Box::new(Plain::new(under_test())),
+        Box::new(Native::new()),
+    ]
 }
 
 struct Native {
@@ -71,7 +61,7 @@ impl Native {
 
 impl Subject for Native {
     fn name(&self) -> String {
-        "reference".into()
+        "own types".into()
     }
 
     fn read(&mut self, text: &[u8]) -> u32 {
@@ -115,14 +105,14 @@ impl Subject for Native {
     }
 }
 
-struct Plain<E> {
-    engine: E,
+struct Plain {
+    engine: Box<dyn Engine>,
     world: World,
     spare: World,
 }
 
-impl<E: Engine> Plain<E> {
-    fn new(engine: E) -> Self {
+impl Plain {
+    fn new(engine: Box<dyn Engine>) -> Self {
         Plain {
             engine,
             world: World::blank(LOG),
@@ -131,14 +121,14 @@ impl<E: Engine> Plain<E> {
     }
 
     fn accept(&mut self, call: &Call) {
-        let number = self.world.call(&self.engine, call);
+        let number = self.world.call(&*self.engine, call);
         assert_eq!(number, 0, "a good world");
     }
 }
 
-impl<E: Engine> Subject for Plain<E> {
+impl Subject for Plain {
     fn name(&self) -> String {
-        format!("{}, plain", self.engine.name())
+        self.engine.name().into()
     }
 
     fn read(&mut self, text: &[u8]) -> u32 {

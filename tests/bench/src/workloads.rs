@@ -60,9 +60,23 @@ pub fn runs() -> Vec<Workload> {
                 _ => Act::Compute(20),
             }),
         ),
-        workload("32,000 windows, no ops", empty(32, 1_000)),
         workload("one window, no ops", empty(1, 1)),
     ]
+}
+
+/// Whole runs of switches alone, by windows and repeats: what a step takes as
+/// both grow.
+pub fn growth() -> Vec<Workload> {
+    let windows = [1, 2, 4, 8, 16, 32].map(|windows| (windows, 1_000));
+    let repeats = [10, 100].map(|run| (32, run));
+    repeats
+        .into_iter()
+        .chain(windows)
+        .map(|(windows, run)| {
+            let name = format!("{windows} windows, run {run}");
+            workload(&name, empty(windows, run))
+        })
+        .collect()
 }
 
 /// Texts from about 200 bytes to the longest.
