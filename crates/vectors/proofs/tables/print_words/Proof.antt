@@ -1,9 +1,9 @@
--- `vectors::showing::print_words` meets its contract. The loop's invariant: the place lies within the numbers. Assumes nothing.
+-- `vectors::tables::print_words` meets its contract. The loop's invariant: the place lies within the numbers. Assumes nothing.
 use Prim.Native.Nat.{_-_, _≤_}
 use lib.ListN.{length}
 use borrow.Author.Needs.{needs}
-use Rattle.vectors.proofs.showing.print_words.Statement.{statement}
-use Rattle.vectors.proofs.showing.print_words.Tie as tie
+use Rattle.vectors.proofs.tables.print_words.Statement.{statement}
+use Rattle.vectors.proofs.tables.print_words.Tie as tie
 
 abbrev Inv-loop : tie.InvT-loop
 Inv-loop numbers at₀ at = at ≤ length numbers

@@ -2,12 +2,12 @@
 use crate::bench::Bench;
 use crate::bench::with_plan;
 use crate::bench::with_state;
-use crate::lines::half_in;
-use crate::lines::number_in;
-use crate::lines::place_in;
-use crate::lines::word_in;
 use machine::State;
 use plan::Plan;
+use vectors::lines::half_in;
+use vectors::lines::number_in;
+use vectors::lines::place_in;
+use vectors::lines::word_in;
 
 // A log that nobody has written yet: every byte 238.
 fn blank_log(log: &mut [u8]) {

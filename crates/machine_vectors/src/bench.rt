@@ -1,7 +1,7 @@
 // What the examples work on: the plan and the state of the example at hand, and how much of each table is lent.
 use machine::State;
-ghost use Prim.Native.Nat.{_≤_};
 use plan::Plan;
+use vectors::reading::no_plan;
 
 pub struct Bench {
     pub plan: Plan,
@@ -13,20 +13,6 @@ pub struct Bench {
     pub cache: usize,
     pub boxes: usize,
     pub log: usize,
-}
-
-fn no_plan() -> Plan {
-    Plan {
-        pad: 0,
-        run: 0,
-        domains: 0,
-        windows: 0,
-        shares: [0; 8],
-        rights: [0; 8],
-        owners: [0; 32],
-        lengths: [0; 32],
-        masks: [0; 8],
-    }
 }
 
 fn no_state() -> State {
@@ -65,9 +51,8 @@ pub fn with_state(bench: Bench, state: State) -> Bench {
     next
 }
 
-// A number that is no more than `most`.
-pub fn at_most(number: usize, most: usize) -> usize
-    ensures { λ r. ⌜ r ≤ most ⌝ }
-{
-    if number < most { number } else { most }
+pub fn with_text(bench: Bench, length: usize) -> Bench {
+    let mut next = bench;
+    next.text = length;
+    next
 }

@@ -1,24 +1,27 @@
--- `vectors::showing::print_bytes` meets its contract. The loop's invariant: the place lies within the bytes. Assumes nothing.
+-- `vectors::tables::print_halves` meets its contract. The loop's invariant: the place lies within the numbers. Assumes nothing.
 use Prim.Native.Nat.{_-_, _≤_}
 use lib.ListN.{length}
 use borrow.Author.Needs.{needs}
-use Rattle.vectors.proofs.showing.print_bytes.Statement.{statement}
-use Rattle.vectors.proofs.showing.print_bytes.Tie as tie
+use Rattle.vectors.proofs.tables.print_halves.Statement.{statement}
+use Rattle.vectors.proofs.tables.print_halves.Tie as tie
 
 abbrev Inv-loop : tie.InvT-loop
-Inv-loop bytes at₀ at = at ≤ length bytes
+Inv-loop numbers at₀ at = at ≤ length numbers
 
 abbrev μ-loop : tie.MeasureT-loop
-μ-loop bytes at₀ at = length bytes - at
+μ-loop numbers at₀ at = length numbers - at
 
 loop-holds : tie.Need-loop-holds Inv-loop μ-loop
 loop-holds c = search needs
 
-shared-slice-read-byte : tie.Need-shared-slice-read-byte Inv-loop μ-loop
-shared-slice-read-byte c = search needs
+mul-half : tie.Need-mul-half Inv-loop μ-loop
+mul-half c = search needs
 
-byte-requires : tie.Need-byte-requires Inv-loop μ-loop
-byte-requires c κs = search needs
+shared-slice-read-half : tie.Need-shared-slice-read-half Inv-loop μ-loop
+shared-slice-read-half c = search needs
+
+half-requires : tie.Need-half-requires Inv-loop μ-loop
+half-requires c κs = search needs
 
 print-number-requires : tie.Need-print-number-requires Inv-loop μ-loop
 print-number-requires c κs = search needs
@@ -35,15 +38,16 @@ loop-again c = search needs
 returns : tie.Need-returns Inv-loop μ-loop
 returns c = search needs
 
-pub print-bytes-spec : {M : Type 1} → statement M
-print-bytes-spec =
+pub print-halves-spec : {M : Type 1} → statement M
+print-halves-spec =
     tie.close
     (tie.spec
     Inv-loop
     μ-loop
     loop-holds
-    shared-slice-read-byte
-    byte-requires
+    mul-half
+    shared-slice-read-half
+    half-requires
     print-number-requires
     add-at
     loop-less

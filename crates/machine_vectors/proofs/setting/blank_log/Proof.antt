@@ -1,10 +1,10 @@
--- `vectors::setting::blank_log` meets its contract. The loop's invariant: the log keeps its length. Assumes nothing.
+-- `machine_vectors::setting::blank_log` meets its contract. The loop's invariant: the log keeps its length. Assumes nothing.
 use Prim.Native.Nat.{_-_, _≤_}
 use mathlib.Core.Path.{_≡_}
 use lib.ListN.{length}
 use borrow.Author.Needs.{needs}
-use Rattle.vectors.proofs.setting.blank_log.Statement.{statement}
-use Rattle.vectors.proofs.setting.blank_log.Tie as tie
+use Rattle.machine_vectors.proofs.setting.blank_log.Statement.{statement}
+use Rattle.machine_vectors.proofs.setting.blank_log.Tie as tie
 
 abbrev Inv-loop : tie.InvT-loop
 Inv-loop log₀ at₀ log at = (at ≤ length log₀) × (length log ≡ length log₀)

@@ -1,10 +1,10 @@
--- `vectors::obey_all` meets its contract. The loop's invariant: every table keeps its length. Assumes nothing.
+-- `machine_vectors::obey_all` meets its contract. The loop's invariant: every table keeps its length. Assumes nothing.
 use Prim.Native.Nat.{_-_}
 use mathlib.Core.Path.{_≡_}
 use lib.ListN.{length}
 use borrow.Author.Needs.{needs}
-use Rattle.vectors.proofs.obey_all.Statement.{statement}
-use Rattle.vectors.proofs.obey_all.Tie as tie
+use Rattle.machine_vectors.proofs.obey_all.Statement.{statement}
+use Rattle.machine_vectors.proofs.obey_all.Tie as tie
 
 abbrev Inv-loop : tie.InvT-loop
 Inv-loop input text₀ scripts₀ cache₀ boxes₀ log₀ bench₀ at₀ text scripts cache boxes log bench at =

@@ -1,31 +1,46 @@
-// vectors: runs outside examples of the reader and the machine, written as lines of commands on standard input, and prints what each gives.
+// machine_vectors: runs outside examples of the machine, written as lines of commands on standard input, and prints what each gives.
 mod bench;
 mod calls;
-mod lines;
 mod printing;
 mod setting;
 mod showing;
-mod texts;
 
 use bench::Bench;
 use bench::first_bench;
+use bench::with_plan;
+use bench::with_text;
 use calls::call_command;
 use calls::is_call;
 use libc::STDIN_FILENO;
-use lines::letter_of;
-use lines::line_end;
-use lines::past_line;
 use setting::length_command;
 use setting::plan_command;
 use setting::sets_length;
 use setting::sets_table;
 use setting::state_command;
 use setting::table_command;
-use showing::plan_show_command;
 use showing::shows_table;
 use showing::table_show_command;
-use texts::text_command;
-use texts::writes_text;
+use vectors::lines::letter_of;
+use vectors::lines::line_end;
+use vectors::lines::past_line;
+use vectors::reading::read_command;
+use vectors::texts::text_command;
+use vectors::texts::writes_text;
+
+// The text of an example's plan: a command writes some of it, or reads it, and the next text begins anew.
+fn text_or_reading(
+    bench: Bench,
+    letter: u8,
+    line: &[u8],
+    text: &mut [u8],
+    scripts: &mut [u32],
+) -> Bench {
+    if letter == b'r' {
+        let plan = read_command(line, text, bench.text, scripts, bench.scripts);
+        return with_plan(with_text(bench, 0), plan);
+    }
+    with_text(bench, text_command(letter, line, text, bench.text))
+}
 
 // Does what one line says; its letter tells what kind of command it is. A letter of no kind is a comment's.
 fn obey(
@@ -39,10 +54,10 @@ fn obey(
 ) -> Bench {
     let letter = letter_of(line);
     if is_call(letter) {
-        return call_command(bench, letter, line, text, scripts, cache, boxes, log);
+        return call_command(bench, letter, line, scripts, cache, boxes, log);
     }
-    if writes_text(letter) {
-        return text_command(bench, letter, line, text);
+    if (letter == b'r') | writes_text(letter) {
+        return text_or_reading(bench, letter, line, text, scripts);
     }
     if sets_length(letter) {
         return length_command(bench, letter, line, log);
@@ -52,10 +67,9 @@ fn obey(
         return bench;
     }
     if shows_table(letter) {
-        table_show_command(letter, line, scripts, cache, boxes, log);
+        table_show_command(letter, line, cache, boxes, log);
         return bench;
     }
-    plan_show_command(bench, letter, line);
     plan_command(state_command(bench, letter, line), letter, line)
 }
 
