@@ -18,8 +18,8 @@ use Rattle.refusal.specs.declared.Refusal.{Refusal}
 use Rattle.refusal.specs.declared.Refusal.the-variants.{TextTooLong, WrongLength}
 use Rattle.refusal.specs.declared.Verdict.{Verdict}
 use Rattle.refusal.specs.declared.Verdict.the-variants.{Accepted, Refused}
+use Rattle.taking.proofs.Choices.{neither}
 use Rattle.text.proofs.Reached.{cond-holds}
-use Rattle.reader.proofs.Choices.{neither}
 use Rattle.reader.proofs.GoodDraft.{GoodDraft, GoodOutcome, draft-first}
 use Rattle.reader.proofs.HighBits.{high-off}
 use Rattle.reader.proofs.LastChecks.{Passes, coloured-each, mask-at, maskAfter, passes, undeclared-none}

@@ -9,21 +9,21 @@ use lib.Dec.{eqb, leb, ltb}
 use lib.ListN.{length, getD, length-set, replicate, set, getD-replicate, length-replicate, List·getD-eq-default}
 use lib.Seq.{getD-set-other, getD-set-same}
 use borrow.Author.Tests.{leb-false, ltb-false, ltb-true}
+use Rattle.forms.proofs.GoodForm.{GoodForm}
+use Rattle.forms.specs.declared.DomainLine.{DomainLine}
+use Rattle.forms.specs.declared.Form.{Form}
+use Rattle.forms.specs.declared.Form.the-variants.{Blank, Pad, Run, Domain, Window, Op as Script, Refused as Broken}
+use Rattle.forms.specs.declared.OpLine.{OpLine}
+use Rattle.forms.specs.declared.WindowLine.{WindowLine}
+use Rattle.line.proofs.GoodLine.{GoodLine}
+use Rattle.line.specs.declared.Line.{Line}
 use Rattle.plan.specs.Colours.{hasBit}
 use Rattle.refusal.specs.declared.Refusal.the-variants.{RepeatedOrMissing, TooMany}
 use Rattle.script.specs.Stored.{storedOf}
+use Rattle.taking.proofs.Choices.{same-or-not}
+use Rattle.taking.proofs.GoodList.{Noted, Recorded}
 use Rattle.text.proofs.Reached.{cond-holds}
-use Rattle.reader.proofs.GoodForm.{GoodForm}
-use Rattle.reader.proofs.GoodLine.{GoodLine}
-use Rattle.reader.proofs.Choices.{same-or-not}
-use Rattle.reader.proofs.GoodList.{Noted, Recorded}
-use Rattle.reader.specs.declared.DomainLine.{DomainLine}
 use Rattle.reader.specs.declared.Draft.{Draft}
-use Rattle.reader.specs.declared.Form.{Form}
-use Rattle.reader.specs.declared.Form.the-variants.{Blank, Pad, Run, Domain, Window, Op as Script, Refused as Broken}
-use Rattle.reader.specs.declared.Line.{Line}
-use Rattle.reader.specs.declared.OpLine.{OpLine}
-use Rattle.reader.specs.declared.WindowLine.{WindowLine}
 use Rattle.reader.specs.Draft.{Outcome, kept, noDraft, noPlan, planWithDomain, planWithPad, planWithRun, planWithWindow, refused, takeDomain, takeForm, takeLine, takeOp, takePad, takeRun, takeWindow, withPlan}
 
 -- ---- domains

@@ -17,8 +17,8 @@ use Rattle.plan.specs.Windows.{ticksTotal}
 use Rattle.refusal.specs.declared.Refusal.{Refusal}
 use Rattle.refusal.specs.declared.Verdict.{Verdict}
 use Rattle.refusal.specs.declared.Verdict.the-variants.{Accepted, Refused}
+use Rattle.taking.proofs.Choices.{same-or-not}
 use Rattle.reader.specs.declared.Draft.{Draft}
-use Rattle.reader.proofs.Choices.{same-or-not}
 use Rattle.reader.specs.Final.{finalVerdict, firstColourless, firstPlace, firstUndeclared, lacking, masksFrom, planWithMasks}
 
 -- ---- the first undeclared recipient

@@ -1,16 +1,7 @@
 pub mod Accepted
-pub mod Advance
-pub mod Choices
 pub mod Filling
 pub mod GoodDraft
-pub mod GoodForm
-pub mod GoodLine
-pub mod GoodList
 pub mod HighBits
 pub mod LastChecks
-pub mod Listing
-pub mod NewBit
-pub mod OtherKinds
 pub mod Walking
 pub mod WholeText
-pub mod Words

@@ -7,24 +7,20 @@ use mathlib.Core.Path.{_≡_, refl, sym, subst, ap, _∙_}
 use lib.Dec.{ltb}
 use lib.ListN.{length}
 use borrow.Author.Tests.{le-ltb, lt-ltb, ltb-true}
+use Rattle.forms.proofs.GoodForm.{GoodForm}
+use Rattle.forms.specs.declared.Form.{Form}
+use Rattle.forms.specs.declared.Form.the-variants.{Blank, Pad, Run, Domain, Window, Op as Script, Refused as Broken}
+use Rattle.forms.specs.declared.DomainLine.{DomainLine}
+use Rattle.forms.specs.declared.OpLine.{OpLine}
+use Rattle.line.proofs.GoodLine.{GoodLine, line-good}
+use Rattle.line.specs.declared.Line.{Line}
 use Rattle.refusal.specs.declared.Refusal.{Refusal}
 use Rattle.refusal.specs.declared.Verdict.{Verdict}
 use Rattle.refusal.specs.declared.Verdict.the-variants.{Accepted, Refused}
 use Rattle.reader.proofs.GoodDraft.{GoodDraft, GoodOutcome, line-taken}
-use Rattle.reader.proofs.GoodForm.{GoodForm}
-use Rattle.reader.proofs.GoodLine.{GoodLine, line-good}
 use Rattle.reader.specs.declared.Draft.{Draft}
-use Rattle.reader.specs.declared.Form.{Form}
-use Rattle.reader.specs.declared.Form.the-variants.{Blank, Pad, Run, Domain, Window, Op as Script, Refused as Broken}
-use Rattle.reader.specs.declared.DomainLine.{DomainLine}
-use Rattle.reader.specs.declared.Line.{Line}
-use Rattle.reader.specs.declared.OpLine.{OpLine}
-use Rattle.reader.specs.Draft.{Outcome, kept, refused, takeForm, takeLine}
+use Rattle.reader.specs.Draft.{Outcome, kept, outcomeWith, refused, takeForm, takeLine}
 use Rattle.reader.specs.Read.{lineOf, walkFrom}
-
--- the outcome of a verdict, a draft and a store
-abbrev pub outcomeWith : Verdict → Draft → List ℕ → Outcome
-outcomeWith verdict draft store = elim verdict as (λ _. Outcome) [ Accepted ↦ kept draft store | Refused why ↦ refused why ]
 
 -- ---- a line that is taken up
 

@@ -10,9 +10,9 @@ use Rattle.refusal.specs.declared.Refusal.the-variants.{TextTooLong, WrongLengt
 use Rattle.refusal.specs.declared.Verdict.{Verdict}
 use Rattle.refusal.specs.declared.Verdict.the-variants.{Accepted, Refused}
 use Rattle.reader.proofs.GoodDraft.{GoodDraft, GoodOutcome, draft-first}
-use Rattle.reader.proofs.Walking.{outcomeWith, walk-good}
+use Rattle.reader.proofs.Walking.{walk-good}
 use Rattle.reader.specs.declared.Draft.{Draft}
-use Rattle.reader.specs.Draft.{kept, noDraft, noOps, noPlan}
+use Rattle.reader.specs.Draft.{kept, noDraft, noOps, noPlan, outcomeWith}
 use Rattle.reader.specs.Final.{finalVerdict, planWithMasks}
 use Rattle.reader.specs.Read.{Read, finished, judged, readOf, refusedRead, walkFrom}
 

@@ -4,17 +4,19 @@ use mathlib.Core.Bool.{Bool, true, false, cond}
 use mathlib.Core.List.{List}
 use lib.Dec.{eqb, leb}
 use lib.ListN.{getD, replicate, set}
+use Rattle.forms.specs.declared.DomainLine.{DomainLine}
+use Rattle.forms.specs.declared.Form.{Form}
+use Rattle.forms.specs.declared.Form.the-variants.{Blank, Pad, Run, Domain, Window, Op, Refused as Broken}
+use Rattle.forms.specs.declared.OpLine.{OpLine}
+use Rattle.forms.specs.declared.WindowLine.{WindowLine}
+use Rattle.line.specs.declared.Line.{Line}
 use Rattle.plan.specs.declared.Plan.{Plan}
 use Rattle.refusal.specs.declared.Refusal.{Refusal}
 use Rattle.refusal.specs.declared.Refusal.the-variants.{RepeatedOrMissing, TooMany}
+use Rattle.refusal.specs.declared.Verdict.{Verdict}
+use Rattle.refusal.specs.declared.Verdict.the-variants.{Accepted, Refused}
 use Rattle.script.specs.Stored.{storedOf}
-use Rattle.reader.specs.declared.DomainLine.{DomainLine}
 use Rattle.reader.specs.declared.Draft.{Draft}
-use Rattle.reader.specs.declared.Form.{Form}
-use Rattle.reader.specs.declared.Form.the-variants.{Blank, Pad, Run, Domain, Window, Op, Refused}
-use Rattle.reader.specs.declared.Line.{Line}
-use Rattle.reader.specs.declared.OpLine.{OpLine}
-use Rattle.reader.specs.declared.WindowLine.{WindowLine}
 
 -- the plan beside a refused reading, and before the first line: all zeros
 unfoldable pub noPlan : Plan
@@ -45,6 +47,11 @@ noOps = replicate storeLength 0
 pub data Outcome : Type 0 where
   refused : Refusal → Outcome
   kept : Draft → List ℕ → Outcome
+
+-- the outcome of a verdict, with the draft and the store beside it
+abbrev pub outcomeWith : Verdict → Draft → List ℕ → Outcome
+outcomeWith Accepted draft store = kept draft store
+outcomeWith (Refused refusal) draft store = refused refusal
 
 abbrev pub withPlan : Draft → Plan → Draft
 withPlan draft plan = record { plan = plan; ops = draft .ops; named = draft .named }
@@ -142,7 +149,7 @@ takeForm (Run times) bracket named draft store = takeRun times bracket draft sto
 takeForm (Domain line) bracket named draft store = takeDomain line named draft store
 takeForm (Window line) bracket named draft store = takeWindow line bracket draft store
 takeForm (Op line) bracket named draft store = takeOp line bracket draft store
-takeForm (Refused refusal) bracket named draft store = refused refusal
+takeForm (Broken refusal) bracket named draft store = refused refusal
 
 unfoldable pub takeLine : Line → Draft → List ℕ → Outcome
 takeLine line draft store = takeForm (line .form) (line .bracket) (line .named) draft store

@@ -4,16 +4,16 @@ use mathlib.Core.Bool.{Bool, true, false, cond}
 use mathlib.Core.List.{List}
 use lib.Dec.{eqb, ltb}
 use lib.ListN.{length}
+use Rattle.line.specs.declared.Line.{Line}
+use Rattle.line.specs.Lines.{lineAt}
 use Rattle.plan.specs.declared.Plan.{Plan}
 use Rattle.refusal.specs.declared.Refusal.{Refusal}
 use Rattle.refusal.specs.declared.Refusal.the-variants.{TextTooLong, WrongLength}
 use Rattle.refusal.specs.declared.Verdict.{Verdict}
 use Rattle.refusal.specs.declared.Verdict.the-variants.{Accepted, Refused}
 use Rattle.reader.specs.declared.Draft.{Draft}
-use Rattle.reader.specs.declared.Line.{Line}
 use Rattle.reader.specs.Draft.{Outcome, refused, kept, noDraft, noOps, noPlan, storeLength, takeLine}
 use Rattle.reader.specs.Final.{finalVerdict, planWithMasks}
-use Rattle.reader.specs.Lines.{lineAt}
 
 -- the line at an offset, after the lines that gave a draft
 abbrev pub lineOf : List ℕ → ℕ → Draft → Line

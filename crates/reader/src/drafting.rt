@@ -1,11 +1,11 @@
 // What a good line adds to the plan and the scripts; at a line's end 5 and 10.
 use crate::Added;
-use crate::DomainLine;
 use crate::Draft;
-use crate::Form;
-use crate::Line;
-use crate::OpLine;
-use crate::WindowLine;
+use forms::DomainLine;
+use forms::Form;
+use forms::OpLine;
+use forms::WindowLine;
+use line::Line;
 use plan::Plan;
 use refusal::Refusal;
 use refusal::Verdict;
@@ -13,9 +13,8 @@ use script::stored;
 ghost use mathlib.Core.List.{List};
 ghost use mathlib.Core.Path.{_≡_};
 ghost use Prim.Native.Nat.{ℕ, _<_};
-ghost use Rattle.refusal.specs.declared.Verdict.the-variants.{Accepted, Refused};
-ghost use Rattle.reader.specs.declared.Form.the-variants.{Domain, Op};
-ghost use Rattle.reader.specs.Draft.{Outcome, kept, noDraft, noPlan, planWithDomain, planWithPad, planWithRun, planWithWindow, refused};
+ghost use Rattle.forms.specs.declared.Form.the-variants.{Domain, Op};
+ghost use Rattle.reader.specs.Draft.{noDraft, noPlan, outcomeWith, planWithDomain, planWithPad, planWithRun, planWithWindow};
 ghost use Rattle.reader.specs.Draft.{takeDomain, takeLine, takeOp, takePad, takeRun, takeWindow, withPlan};
 
 // The plan beside a refused reading, and before the first line: all zeros.
@@ -92,8 +91,7 @@ fn plan_with_window(mut plan: Plan, line: WindowLine) -> Plan
 
 // A second pad is refused.
 fn take_pad(ticks: u32, bracket: usize, draft: Draft) -> Added
-    ensures { λ r. ⌜ ((store : List ℕ) → elim (r .verdict) as (λ _. Outcome) [ Accepted ↦ kept (r .draft) store | Refused why ↦ refused why ]
-        ≡ takePad ticks bracket draft store) ⌝ }
+    ensures { λ r. ⌜ ((store : List ℕ) → outcomeWith (r .verdict) (r .draft) store ≡ takePad ticks bracket draft store) ⌝ }
 {
     let plan = draft.plan;
     if plan.pad != 0 {
@@ -111,8 +109,7 @@ fn take_pad(ticks: u32, bracket: usize, draft: Draft) -> Added
 
 // A second run is refused.
 fn take_run(times: u32, bracket: usize, draft: Draft) -> Added
-    ensures { λ r. ⌜ ((store : List ℕ) → elim (r .verdict) as (λ _. Outcome) [ Accepted ↦ kept (r .draft) store | Refused why ↦ refused why ]
-        ≡ takeRun times bracket draft store) ⌝ }
+    ensures { λ r. ⌜ ((store : List ℕ) → outcomeWith (r .verdict) (r .draft) store ≡ takeRun times bracket draft store) ⌝ }
 {
     let plan = draft.plan;
     if plan.run != 0 {
@@ -130,8 +127,7 @@ fn take_run(times: u32, bracket: usize, draft: Draft) -> Added
 
 fn take_domain(line: DomainLine, named: [usize; 8], draft: Draft) -> Added
     requires { ⌜ draft .plan .domains < 8 ⌝ }
-    ensures { λ r. ⌜ ((store : List ℕ) → elim (r .verdict) as (λ _. Outcome) [ Accepted ↦ kept (r .draft) store | Refused why ↦ refused why ]
-        ≡ takeDomain line named draft store) ⌝ }
+    ensures { λ r. ⌜ ((store : List ℕ) → outcomeWith (r .verdict) (r .draft) store ≡ takeDomain line named draft store) ⌝ }
 {
     let plan = plan_with_domain(draft.plan, line);
     let ops = draft.ops;
@@ -143,8 +139,7 @@ fn take_domain(line: DomainLine, named: [usize; 8], draft: Draft) -> Added
 
 // The 33rd window is refused.
 fn take_window(line: WindowLine, bracket: usize, draft: Draft) -> Added
-    ensures { λ r. ⌜ ((store : List ℕ) → elim (r .verdict) as (λ _. Outcome) [ Accepted ↦ kept (r .draft) store | Refused why ↦ refused why ]
-        ≡ takeWindow line bracket draft store) ⌝ }
+    ensures { λ r. ⌜ ((store : List ℕ) → outcomeWith (r .verdict) (r .draft) store ≡ takeWindow line bracket draft store) ⌝ }
 {
     let plan = draft.plan;
     if 32 <= plan.windows {
@@ -163,8 +158,7 @@ fn take_window(line: WindowLine, bracket: usize, draft: Draft) -> Added
 // A domain's 257th op is refused.
 fn take_op(line: OpLine, bracket: usize, draft: Draft, store: &mut [u32; 2048]) -> Added
     requires { ⌜ line .domain < 8 ⌝ }
-    ensures { λ r. ⌜ elim (r .verdict) as (λ _. Outcome) [ Accepted ↦ kept (r .draft) (now (store .exit)) | Refused why ↦ refused why ]
-        ≡ takeOp line bracket draft (now (store .entry)) ⌝ }
+    ensures { λ r. ⌜ outcomeWith (r .verdict) (r .draft) (now (store .exit)) ≡ takeOp line bracket draft (now (store .entry)) ⌝ }
 {
     let domain = line.domain as usize;
     let op = line.op;
@@ -190,8 +184,7 @@ fn take_op(line: OpLine, bracket: usize, draft: Draft, store: &mut [u32; 2048]) 
 pub fn take_line(line: Line, draft: Draft, store: &mut [u32; 2048]) -> Added
     requires { ⌜ ((domain : DomainLine) → line .form ≡ Domain domain → draft .plan .domains < 8)
         × ((op : OpLine) → line .form ≡ Op op → op .domain < 8) ⌝ }
-    ensures { λ r. ⌜ elim (r .verdict) as (λ _. Outcome) [ Accepted ↦ kept (r .draft) (now (store .exit)) | Refused why ↦ refused why ]
-        ≡ takeLine line draft (now (store .entry)) ⌝ }
+    ensures { λ r. ⌜ outcomeWith (r .verdict) (r .draft) (now (store .exit)) ≡ takeLine line draft (now (store .entry)) ⌝ }
 {
     let form = line.form;
     let bracket = line.bracket;

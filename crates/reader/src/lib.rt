@@ -1,12 +1,6 @@
 // The plan reader: from a text to a plan and the scripts, or a refusal with its place.
-mod domains;
 mod drafting;
-mod forms;
 mod last;
-mod lines;
-mod may;
-mod ops;
-mod tokens;
 mod walk;
 
 use drafting::no_plan;
@@ -15,117 +9,11 @@ use last::plan_with_masks;
 use plan::Plan;
 use refusal::Refusal;
 use refusal::Verdict;
-use script::Op;
 use walk::hand_over;
 use walk::walk;
 ghost use mathlib.Core.Path.{_≡_};
 ghost use Rattle.reader.specs.Draft.{noPlan};
 ghost use Rattle.reader.specs.Read.{readOf};
-
-// A bracket, a word or a line's end was due: the offset to go on from, or the refusal.
-pub enum Passed {
-    To(usize),
-    Refused(Refusal),
-}
-
-// A number was due: its value within its limits, the offset of its first byte and the offset past its last, or the refusal.
-pub enum Taken {
-    Number {
-        value: u32,
-        start: usize,
-        end: usize,
-    },
-    Refused(Refusal),
-}
-
-pub struct DomainLine {
-    pub share: u32,
-    pub rights: u32,
-}
-
-pub struct WindowLine {
-    pub owner: u32,
-    pub length: u32,
-}
-
-pub struct OpLine {
-    pub domain: u32,
-    pub op: Op,
-}
-
-// What a line says, before it is known that the line ends as it should.
-pub enum Form {
-    Blank,
-    Pad(u32),
-    Run(u32),
-    Domain(DomainLine),
-    Window(WindowLine),
-    Op(OpLine),
-    Refused(Refusal),
-}
-
-// The word that opens a form, and the offset past it.
-pub enum Head {
-    Pad(usize),
-    Run(usize),
-    Domain(usize),
-    Window(usize),
-    Op(usize),
-    Refused(Refusal),
-}
-
-// The word that opens an op, and the offset past it.
-pub enum OpHead {
-    Read(usize),
-    Write(usize),
-    Send(usize),
-    Receive(usize),
-    Compute(usize),
-    Refused(Refusal),
-}
-
-// An op and the offset past its last number, or the refusal.
-pub enum OpTaken {
-    Op { op: Op, end: usize },
-    Refused(Refusal),
-}
-
-// What stands next in a list of recipients.
-pub enum Recipient {
-    // one more, with the offset of its first byte and the offset past its last
-    Next {
-        recipient: u32,
-        start: usize,
-        end: usize,
-    },
-    // the list's closing bracket, and the offset past it
-    Done(usize),
-    Refused(Refusal),
-}
-
-// A list of recipients: the offset past its closing bracket or the refusal, with what was listed up to there.
-pub struct Recipients {
-    pub passed: Passed,
-    pub rights: u32,
-    pub named: [usize; 8],
-}
-
-// What stands within a line's brackets, and the offset past it.
-pub struct Inside {
-    pub form: Form,
-    pub end: usize,
-    // where the text up to there first names each domain as a recipient, plus one; 0 where it has not
-    pub named: [usize; 8],
-}
-
-// A line's form, the offset of its first bracket, and the offset of its end.
-pub struct Line {
-    pub form: Form,
-    pub bracket: usize,
-    pub end: usize,
-    // as in `Inside`
-    pub named: [usize; 8],
-}
 
 // What the lines read so far have given, beside the script store.
 pub struct Draft {

@@ -2,16 +2,15 @@
 use crate::Added;
 use crate::drafting::no_draft;
 use crate::drafting::take_line;
-use crate::lines::line_at;
+use line::line_at;
 use refusal::Verdict;
 ghost use mathlib.Core.Path.{_≡_};
 ghost use lib.ListN.{length};
-ghost use Rattle.refusal.specs.declared.Verdict.the-variants.{Accepted, Refused};
-ghost use Rattle.reader.specs.Draft.{Outcome, kept, noDraft, refused};
+ghost use Rattle.reader.specs.Draft.{noDraft, outcomeWith};
 ghost use Rattle.reader.specs.Read.{walkFrom};
 
 pub fn walk(text: &[u8], store: &mut [u32; 2048]) -> Added
-    ensures { λ r. ⌜ elim (r .verdict) as (λ _. Outcome) [ Accepted ↦ kept (r .draft) (now (store .exit)) | Refused why ↦ refused why ]
+    ensures { λ r. ⌜ outcomeWith (r .verdict) (r .draft) (now (store .exit))
         ≡ walkFrom (length (now (text .entry))) (now (text .entry)) 0 noDraft (now (store .entry)) ⌝ }
 {
     let mut draft = no_draft();

@@ -13,12 +13,15 @@ use Rattle.plan.specs.Windows.{ownerOf, lengthOf, startOf, endOf, windowsTotal,
 use Rattle.text.specs.Decimal.{digitsOf, decimalOf}
 use Rattle.text.specs.Scan.{scanFrom, scanOf, allBytes}
 use Rattle.text.specs.Tokens.{valueAfter, valueOf, digitsToken, runToken, longestRun, tokenFrom, tokenAt}
+use Rattle.taking.specs.Ops.{opHeadAt, opNumbers}
+use Rattle.taking.specs.Recipients.{recipientAt, mention, recipientsFrom, recipientsAt}
+use Rattle.taking.specs.Tokens.{sameBytes, isWord, passOpen, passClose, passLineEnd, passWord, takeNumber}
+use Rattle.forms.specs.Forms.{padInside, runInside, lengthInside, windowInside, scriptInside, opInside, listedInside, mayInside, shareInside, domainInside}
+use Rattle.line.specs.Heads.{headAt, insideOf}
+use Rattle.line.specs.Lines.{closedLine, insideLine, tokenLine, lineAt}
 use Rattle.reader.specs.Draft.{noPlan, noDraft, noOps, planWithPad, planWithRun, planWithDomain, planWithWindow, takePad, takeRun, takeDomain, takeWindow, takeOp, takeLine}
 use Rattle.reader.specs.Final.{lacking, firstUndeclared, firstColourless, finalVerdict, masksFrom, planWithMasks}
-use Rattle.reader.specs.Forms.{padInside, runInside, lengthInside, windowInside, opHeadAt, opNumbers, scriptInside, opInside, recipientAt, mention, recipientsFrom, recipientsAt, listedInside, mayInside, shareInside, domainInside, headAt, insideOf}
-use Rattle.reader.specs.Lines.{closedLine, insideLine, tokenLine, lineAt}
 use Rattle.reader.specs.Read.{walkFrom, refusedRead, readOf}
-use Rattle.reader.specs.Tokens.{sameBytes, isWord, passOpen, passClose, passLineEnd, passWord, takeNumber}
 use Rattle.cache.specs.Access.{lookHit1, lookL2, lookOf, lookAt, accessOf}
 use Rattle.cache.specs.Flush.{countOf, dirtyLines, validLines, kernelFlushTicks, l1FlushTicks, kernelFlushed, l1Flushed}
 use Rattle.cache.specs.Sets.{has, behind, used}

@@ -21,9 +21,9 @@ use Rattle.state.specs.World.{World, positionAt}
 use Rattle.machine.specs.Steps.{stepOf}
 use Rattle.refusal.specs.declared.Verdict.{Verdict}
 use Rattle.refusal.specs.Code.{codeOf}
+use Rattle.taking.specs.Tokens.{sameBytes}
 use Rattle.reader.specs.Draft.{noOps}
 use Rattle.reader.specs.Read.{Read, readOf}
-use Rattle.reader.specs.Tokens.{sameBytes}
 use Rattle.engine.specs.FreshStart.{freshWorld}
 use Rattle.report.specs.Planrun.{planrunOf}
 use Rattle.settled.specs.Example.{afterPad, output, padded}

@@ -1,5 +1,4 @@
 // The commands that write the text of an example. What lies past the buffer's end is left out.
-use crate::bench::Bench;
 use crate::lines::byte_in;
 use crate::lines::field_start;
 use crate::lines::number_in;
@@ -35,29 +34,19 @@ fn put_lines(out: &mut [u8], at: usize, bytes: &[u8], times: u64) -> usize {
     next
 }
 
-fn with_text(bench: Bench, length: usize) -> Bench {
-    let mut next = bench;
-    next.text = length;
-    next
-}
-
 pub fn writes_text(letter: u8) -> bool {
     (letter == b't') | (letter == b'u') | (letter == b'x') | (letter == b'm')
 }
 
-// t TEXT: a line. u TEXT: the same with no line's end. x N: the byte N. m N TEXT: a line N times.
-pub fn text_command(bench: Bench, letter: u8, line: &[u8], text: &mut [u8]) -> Bench {
-    let at = bench.text;
+// t TEXT: a line. u TEXT: the same with no line's end. x N: the byte N. m N TEXT: a line N times. Answers the length of the text with it.
+pub fn text_command(letter: u8, line: &[u8], text: &mut [u8], written: usize) -> usize {
     let first = field_start(line, 1);
     let second = field_start(line, 2);
     match letter {
-        b't' => with_text(bench, put_lines(text, at, &line[first..], 1)),
-        b'u' => with_text(bench, put_all(text, at, &line[first..])),
-        b'x' => with_text(bench, put(text, at, byte_in(line, 1))),
-        b'm' => with_text(
-            bench,
-            put_lines(text, at, &line[second..], number_in(line, 1)),
-        ),
-        _ => bench,
+        b't' => put_lines(text, written, &line[first..], 1),
+        b'u' => put_all(text, written, &line[first..]),
+        b'x' => put(text, written, byte_in(line, 1)),
+        b'm' => put_lines(text, written, &line[second..], number_in(line, 1)),
+        _ => written,
     }
 }

@@ -6,21 +6,22 @@ use mathlib.Core.List.{List, _∷_, _++_, append-assoc}
 use mathlib.Core.Path.{_≡_, refl, ap, subst⁻¹, _∙_}
 use lib.ListN.{drop}
 use borrow.Author.Tests.{eq-eqb}
+use Rattle.forms.specs.declared.Form.{Form}
+use Rattle.forms.specs.declared.Form.the-variants.{Domain}
+use Rattle.forms.specs.declared.Inside.{Inside}
+use Rattle.forms.specs.Forms.{domainInside, listedInside, mayInside, refusedInside, shareInside}
+use Rattle.line.specs.declared.Line.{Line}
+use Rattle.line.specs.Heads.{insideOf}
+use Rattle.line.specs.Lines.{lineAt}
 use Rattle.lists.specs.Ascii.{bytesOf}
 use Rattle.plan.specs.declared.Plan.{Plan}
 use Rattle.plan.specs.Colours.{hasBit, shareOf}
 use Rattle.plan.specs.Rights.{rightsAt}
 use Rattle.refusal.specs.declared.Refusal.the-variants.{WrongDomain}
+use Rattle.taking.specs.Tokens.{sameBytes}
 use Rattle.text.specs.Decimal.{decimalOf}
 use Rattle.text.specs.Scan.{allBytes}
 use Rattle.text.proofs.Scanned.{left-next, left-past}
-use Rattle.reader.specs.declared.Form.{Form}
-use Rattle.reader.specs.declared.Form.the-variants.{Domain}
-use Rattle.reader.specs.declared.Inside.{Inside}
-use Rattle.reader.specs.declared.Line.{Line}
-use Rattle.reader.specs.Forms.{domainInside, insideOf, listedInside, mayInside, refusedInside, shareInside}
-use Rattle.reader.specs.Lines.{lineAt}
-use Rattle.reader.specs.Tokens.{sameBytes}
 use Rattle.written.specs.Lines.{domainLine, followed, recipientsOf, spaced}
 use Rattle.written.proofs.Due.{close-goes, number-takes, open-goes, then-goes, then-takes, word-goes}
 use Rattle.written.proofs.Lines.{Reads, Within, line-reads}

@@ -11,16 +11,16 @@ use borrow.Author.Tests.{eq-eqb, le-leb}
 use Rattle.lists.specs.Ascii.{bytesOf}
 use Rattle.lists.specs.Part.{part}
 use Rattle.refusal.specs.declared.Refusal.{Refusal}
+use Rattle.taking.specs.declared.Passed.{Passed}
+use Rattle.taking.specs.declared.Passed.the-variants.{To}
+use Rattle.taking.specs.declared.Taken.{Taken}
+use Rattle.taking.specs.declared.Taken.the-variants.{Number as Is}
+use Rattle.taking.specs.Tokens.{closeOf, isWord, lineEndOf, numberOf, openOf, passClose, passLineEnd, passOpen, passWord, sameBytes, takeNumber, then, thenNumber, wordOf}
 use Rattle.text.specs.Bytes.{endsRun, isLetter}
 use Rattle.text.specs.Decimal.{decimalOf}
 use Rattle.text.specs.Scan.{allBytes}
 use Rattle.text.proofs.Scanned.{close-token, end-token, feed-token, left-next, left-past, open-token, stopsAt, token-space}
 use Rattle.text.proofs.Spelled.{number-token, word-token}
-use Rattle.reader.specs.declared.Passed.{Passed}
-use Rattle.reader.specs.declared.Passed.the-variants.{To}
-use Rattle.reader.specs.declared.Taken.{Taken}
-use Rattle.reader.specs.declared.Taken.the-variants.{Number as Is}
-use Rattle.reader.specs.Tokens.{closeOf, isWord, lineEndOf, numberOf, openOf, passClose, passLineEnd, passOpen, passWord, sameBytes, takeNumber, then, thenNumber, wordOf}
 use Rattle.written.specs.Lines.{followed}
 
 -- what was due was there, and this is left past it

@@ -6,15 +6,16 @@ use mathlib.Core.List.{List, _∷_, _++_, append-assoc}
 use mathlib.Core.Path.{_≡_, refl, ap, subst⁻¹, _∙_}
 use lib.ListN.{drop, getD, length}
 use borrow.Author.Tests.{lt-ltb}
+use Rattle.forms.specs.declared.Form.the-variants.{Pad, Run, Window}
+use Rattle.forms.specs.Forms.{lengthInside, padInside, refusedInside, runInside, windowInside}
+use Rattle.line.specs.Heads.{insideOf}
+use Rattle.line.specs.Lines.{lineAt}
 use Rattle.lists.specs.Ascii.{bytesOf}
 use Rattle.plan.specs.declared.Plan.{Plan}
 use Rattle.refusal.specs.declared.Refusal.the-variants.{WrongDomain}
+use Rattle.taking.specs.Tokens.{sameBytes}
 use Rattle.text.specs.Decimal.{decimalOf}
 use Rattle.text.specs.Scan.{allBytes}
-use Rattle.reader.specs.declared.Form.the-variants.{Pad, Run, Window}
-use Rattle.reader.specs.Forms.{insideOf, lengthInside, padInside, refusedInside, runInside, windowInside}
-use Rattle.reader.specs.Lines.{lineAt}
-use Rattle.reader.specs.Tokens.{sameBytes}
 use Rattle.written.specs.Lines.{followed, padLine, runLine, windowLine}
 use Rattle.written.proofs.Due.{close-goes, number-takes, open-goes, then-goes, then-takes, word-goes}
 use Rattle.written.proofs.Lines.{Reads, Within, line-reads}

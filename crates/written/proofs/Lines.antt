@@ -5,20 +5,21 @@ use mathlib.Core.Bool.{true, cond}
 use mathlib.Core.List.{List, _∷_, _++_}
 use mathlib.Core.Path.{_≡_, ap, _∙_}
 use lib.ListN.{drop, length}
+use Rattle.forms.specs.declared.Form.{Form}
+use Rattle.forms.specs.declared.Inside.{Inside}
+use Rattle.forms.specs.Forms.{insideWith}
+use Rattle.line.specs.declared.Head.{Head}
+use Rattle.line.specs.declared.Head.the-variants.{Pad as PadWord, Run as RunWord, Domain as DomainWord, Window as WindowWord, Op as OpWord, Refused as NoForm}
+use Rattle.line.specs.declared.Line.{Line}
+use Rattle.line.specs.Heads.{headAt, headOf, insideOf}
+use Rattle.line.specs.Lines.{closedLine, formLine, insideLine, lineAt, lineWith, refusedLine, tokenLine}
 use Rattle.lists.specs.Ascii.{bytesOf}
 use Rattle.refusal.specs.declared.Refusal.the-variants.{BrokenShape}
+use Rattle.taking.specs.Tokens.{sameBytes}
 use Rattle.text.specs.Bytes.{endsRun, isLetter}
 use Rattle.text.specs.Scan.{allBytes}
 use Rattle.text.proofs.Scanned.{left-next, left-past, open-token, stopsAt}
 use Rattle.text.proofs.Spelled.{word-token}
-use Rattle.reader.specs.declared.Form.{Form}
-use Rattle.reader.specs.declared.Head.{Head}
-use Rattle.reader.specs.declared.Head.the-variants.{Pad as PadWord, Run as RunWord, Domain as DomainWord, Window as WindowWord, Op as OpWord, Refused as NoForm}
-use Rattle.reader.specs.declared.Inside.{Inside}
-use Rattle.reader.specs.declared.Line.{Line}
-use Rattle.reader.specs.Forms.{headAt, headOf, insideOf, insideWith}
-use Rattle.reader.specs.Lines.{closedLine, formLine, insideLine, lineAt, lineWith, refusedLine, tokenLine}
-use Rattle.reader.specs.Tokens.{sameBytes}
 use Rattle.written.specs.Lines.{followed}
 use Rattle.written.proofs.Due.{close-goes, line-end-goes, then-goes, word-compared}
 

@@ -7,13 +7,13 @@ use mathlib.Core.List.{List, _∷_, _++_, append-assoc}
 use mathlib.Core.Path.{_≡_, refl, subst}
 use lib.ListN.{getD, length, replicate}
 use borrow.Author.Tests.{lt-leb}
+use Rattle.forms.specs.declared.Form.the-variants.{Pad, Run, Domain, Window}
 use Rattle.lists.specs.Ascii.{bytesOf}
 use Rattle.plan.specs.declared.Plan.{Plan}
 use Rattle.plan.specs.Colours.{shareOf}
 use Rattle.plan.specs.Possible.{planPossible}
 use Rattle.plan.specs.Rights.{rightsAt}
 use Rattle.plan.proofs.Possible.{counts, declared, declared-window}
-use Rattle.reader.specs.declared.Form.the-variants.{Pad, Run, Domain, Window}
 use Rattle.reader.specs.Draft.{Outcome, kept, noOps, planWithDomain, planWithPad, planWithRun, planWithWindow, takeDomain, takeForm, takePad, takeRun, takeWindow}
 use Rattle.written.specs.Lines.{domainLine, linesFrom, padLine, planLines, runLine, windowLine}
 use Rattle.written.proofs.Domains.{domain-reads}

@@ -12,14 +12,14 @@ use lib.Seq.{getD-set-other}
 use borrow.Author.Tests.{le-leb, ne-eqb}
 use Rattle.lists.specs.Ascii.{bytesOf}
 use Rattle.plan.specs.Colours.{hasBit}
+use Rattle.taking.specs.declared.Passed.the-variants.{To}
+use Rattle.taking.specs.declared.Recipient.the-variants.{Next, Done}
+use Rattle.taking.specs.declared.Recipients.{Recipients}
+use Rattle.taking.specs.Recipients.{mention, recipientAt, recipientOf, recipientsAt, recipientsFrom}
 use Rattle.text.specs.Bytes.{endsRun}
 use Rattle.text.specs.Decimal.{decimalOf}
 use Rattle.text.proofs.Scanned.{close-token, left-next, left-past, stopsAt, token-space}
 use Rattle.text.proofs.Spelled.{number-token}
-use Rattle.reader.specs.declared.Passed.the-variants.{To}
-use Rattle.reader.specs.declared.Recipient.the-variants.{Next, Done}
-use Rattle.reader.specs.declared.Recipients.{Recipients}
-use Rattle.reader.specs.Forms.{mention, recipientAt, recipientOf, recipientsAt, recipientsFrom}
 use Rattle.written.specs.Lines.{recipientsOf, risingFrom, spaced}
 use Rattle.written.proofs.Bits.{bit-below, bit-clear, bit-new, bit-set, bits-all}
 

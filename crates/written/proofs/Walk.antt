@@ -5,14 +5,14 @@ use mathlib.Core.List.{List, [], _∷_, _++_}
 use mathlib.Core.Path.{_≡_, refl, sym, ap, _∙_}
 use lib.ListN.{drop, length, replicate, drop-of-length-le, length-append, length-drop}
 use borrow.Author.Tests.{le-ltb, lt-ltb}
+use Rattle.forms.specs.declared.Form.{Form}
+use Rattle.line.specs.Lines.{lineAt, lineWith}
 use Rattle.lists.specs.Ascii.{bytesOf}
 use Rattle.plan.specs.declared.Plan.{Plan}
-use Rattle.text.proofs.Scanned.{left-next, left-none}
 use Rattle.reader.specs.declared.Draft.{Draft}
-use Rattle.reader.specs.declared.Form.{Form}
 use Rattle.reader.specs.Draft.{Outcome, kept, noOps, takeForm, takeLine}
-use Rattle.reader.specs.Lines.{lineAt, lineWith}
 use Rattle.reader.specs.Read.{lineOf, walkFrom}
+use Rattle.text.proofs.Scanned.{left-next, left-none}
 use Rattle.written.specs.Lines.{followed, joined}
 use Rattle.written.proofs.Lines.{Reads}
 use Rattle.written.proofs.Recipients.{Quiet}

@@ -1,0 +1,109 @@
+// The pad, run and window forms: what stands within a line's brackets after its first word, number by number with its limits.
+use crate::Form;
+use crate::Inside;
+use crate::WindowLine;
+use refusal::Refusal;
+use taking::Passed;
+use taking::Taken;
+use taking::tokens::pass_close;
+use taking::tokens::pass_open;
+use taking::tokens::pass_word;
+use taking::tokens::take_number;
+ghost use mathlib.Core.Path.{_≡_};
+ghost use Rattle.forms.specs.Forms.{insideWith, lengthInside, padInside, refusedInside, runInside, windowInside};
+
+pub fn refused_inside(named: [usize; 8], refusal: Refusal) -> Inside
+    ensures { λ r. ⌜ r ≡ refusedInside named refusal ⌝ }
+{
+    Inside {
+        form: Form::Refused(refusal),
+        end: 0,
+        named,
+    }
+}
+
+pub fn inside_with(named: [usize; 8], form: Form, end: usize) -> Inside
+    ensures { λ r. ⌜ r ≡ insideWith named form end ⌝ }
+{
+    Inside { form, end, named }
+}
+
+pub fn pad_inside(text: &[u8], named: [usize; 8], at: usize) -> Inside
+    ensures { λ r. ⌜ r ≡ padInside (now (text .entry)) named at ⌝ }
+{
+    let taken = take_number(text, 276, 1_000_000, at);
+    match taken {
+        Taken::Number {
+            value,
+            start: _,
+            end,
+        } => inside_with(named, Form::Pad(value), end),
+        Taken::Refused(refusal) => refused_inside(named, refusal),
+    }
+}
+
+pub fn run_inside(text: &[u8], named: [usize; 8], at: usize) -> Inside
+    ensures { λ r. ⌜ r ≡ runInside (now (text .entry)) named at ⌝ }
+{
+    let taken = take_number(text, 1, 1_000, at);
+    match taken {
+        Taken::Number {
+            value,
+            start: _,
+            end,
+        } => inside_with(named, Form::Run(value), end),
+        Taken::Refused(refusal) => refused_inside(named, refusal),
+    }
+}
+
+fn length_inside(text: &[u8], named: [usize; 8], owner: u32, at: usize) -> Inside
+    ensures { λ r. ⌜ r ≡ lengthInside (now (text .entry)) named owner at ⌝ }
+{
+    let opening = pass_open(text, at);
+    let opened = match opening {
+        Passed::To(offset) => offset,
+        Passed::Refused(refusal) => return refused_inside(named, refusal),
+    };
+    let wording = pass_word(text, b"length", opened);
+    let worded = match wording {
+        Passed::To(offset) => offset,
+        Passed::Refused(refusal) => return refused_inside(named, refusal),
+    };
+    let taken = take_number(text, 1, 1_000_000, worded);
+    match taken {
+        Taken::Refused(refusal) => refused_inside(named, refusal),
+        Taken::Number {
+            value,
+            start: _,
+            end,
+        } => {
+            let closing = pass_close(text, end);
+            match closing {
+                Passed::Refused(refusal) => refused_inside(named, refusal),
+                Passed::To(closed) => {
+                    let line = WindowLine {
+                        owner,
+                        length: value,
+                    };
+                    inside_with(named, Form::Window(line), closed)
+                }
+            }
+        }
+    }
+}
+
+pub fn window_inside(text: &[u8], declared: u32, named: [usize; 8], at: usize) -> Inside
+    ensures { λ r. ⌜ r ≡ windowInside (now (text .entry)) declared named at ⌝ }
+{
+    let taken = take_number(text, 0, 7, at);
+    match taken {
+        Taken::Refused(refusal) => refused_inside(named, refusal),
+        Taken::Number { value, start, end } => {
+            if value < declared {
+                length_inside(text, named, value, end)
+            } else {
+                refused_inside(named, Refusal::WrongDomain(start))
+            }
+        }
+    }
+}

@@ -1,0 +1,41 @@
+// The five forms of a line: what stands within its brackets, or the refusal and its place.
+pub mod domains;
+pub mod forms;
+pub mod ops;
+
+use refusal::Refusal;
+use script::Op;
+
+pub struct DomainLine {
+    pub share: u32,
+    pub rights: u32,
+}
+
+pub struct WindowLine {
+    pub owner: u32,
+    pub length: u32,
+}
+
+pub struct OpLine {
+    pub domain: u32,
+    pub op: Op,
+}
+
+// What a line says, before it is known that the line ends as it should.
+pub enum Form {
+    Blank,
+    Pad(u32),
+    Run(u32),
+    Domain(DomainLine),
+    Window(WindowLine),
+    Op(OpLine),
+    Refused(Refusal),
+}
+
+// What stands within a line's brackets, and the offset past it.
+pub struct Inside {
+    pub form: Form,
+    pub end: usize,
+    // where the text up to there first names each domain as a recipient, plus one; 0 where it has not
+    pub named: [usize; 8],
+}

@@ -1,0 +1,3 @@
+pub mod GoodHead
+pub mod GoodLine
+pub mod OtherKinds

@@ -1,0 +1,55 @@
+-- Document 01, "The plan text": one form a line; lines without a token allowed. Assumes nothing.
+use Prim.Native.Nat.{ℕ, _+_}
+use mathlib.Core.List.{List}
+use Rattle.forms.specs.declared.Form.{Form}
+use Rattle.forms.specs.declared.Form.the-variants.{Blank, Pad, Run, Domain, Window, Op, Refused}
+use Rattle.forms.specs.declared.Inside.{Inside}
+use Rattle.refusal.specs.declared.Refusal.{Refusal}
+use Rattle.refusal.specs.declared.Refusal.the-variants.{BrokenShape}
+use Rattle.taking.specs.Tokens.{passClose, passLineEnd, then}
+use Rattle.text.specs.declared.Token.{Token}
+use Rattle.text.specs.declared.Token.the-variants.{LineEnd, Open, Close, Word, Number, LongNumber, Other}
+use Rattle.text.specs.Tokens.{tokenAt}
+use Rattle.line.specs.declared.Line.{Line}
+use Rattle.line.specs.Heads.{headAt, insideOf}
+
+-- a refused line; where it ends no longer matters
+abbrev pub refusedLine : ℕ → List ℕ → Refusal → Line
+refusedLine bracket named refusal = record { form = Refused refusal; bracket = bracket; end = 0; named = named }
+
+abbrev pub lineWith : ℕ → List ℕ → Form → ℕ → Line
+lineWith bracket named form end = record { form = form; bracket = bracket; end = end; named = named }
+
+-- a form's closing bracket and the line's end
+unfoldable pub closedLine : List ℕ → ℕ → Inside → Line
+closedLine text bracket inside =
+    then (passClose text (inside .end)) (refusedLine bracket (inside .named)) λ closed.
+    then (passLineEnd text closed) (refusedLine bracket (inside .named)) λ end.
+    lineWith bracket (inside .named) (inside .form) end
+
+-- a line from what stands within its brackets: a refusal there comes before what follows it
+abbrev pub formLine : List ℕ → ℕ → Inside → Form → Line
+formLine text bracket inside Blank = closedLine text bracket inside
+formLine text bracket inside (Pad ticks) = closedLine text bracket inside
+formLine text bracket inside (Run times) = closedLine text bracket inside
+formLine text bracket inside (Domain line) = closedLine text bracket inside
+formLine text bracket inside (Window line) = closedLine text bracket inside
+formLine text bracket inside (Op line) = closedLine text bracket inside
+formLine text bracket inside (Refused refusal) = refusedLine bracket (inside .named) refusal
+
+unfoldable pub insideLine : List ℕ → ℕ → Inside → Line
+insideLine text bracket inside = formLine text bracket inside (inside .form)
+
+-- a line that begins with a token: its opening bracket was due
+unfoldable pub tokenLine : List ℕ → ℕ → List ℕ → Token → Line
+tokenLine text declared named (LineEnd at) = lineWith at named Blank at
+tokenLine text declared named (Open at) = insideLine text at (insideOf text declared named (headAt text (at + 1)))
+tokenLine text declared named (Close at) = refusedLine at named (BrokenShape at)
+tokenLine text declared named (Word start end) = refusedLine start named (BrokenShape start)
+tokenLine text declared named (Number start end value) = refusedLine start named (BrokenShape start)
+tokenLine text declared named (LongNumber start end) = refusedLine start named (BrokenShape start)
+tokenLine text declared named (Other start end) = refusedLine start named (BrokenShape start)
+
+-- the line that begins at an offset
+unfoldable pub lineAt : List ℕ → ℕ → List ℕ → ℕ → Line
+lineAt text declared named at = tokenLine text declared named (tokenAt text at)

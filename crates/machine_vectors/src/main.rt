@@ -1,0 +1,111 @@
+// machine_vectors: runs outside examples of the machine, written as lines of commands on standard input, and prints what each gives.
+mod bench;
+mod calls;
+mod printing;
+mod setting;
+mod showing;
+
+use bench::Bench;
+use bench::first_bench;
+use bench::with_plan;
+use bench::with_text;
+use calls::call_command;
+use calls::is_call;
+use libc::STDIN_FILENO;
+use setting::length_command;
+use setting::plan_command;
+use setting::sets_length;
+use setting::sets_table;
+use setting::state_command;
+use setting::table_command;
+use showing::shows_table;
+use showing::table_show_command;
+use vectors::lines::letter_of;
+use vectors::lines::line_end;
+use vectors::lines::past_line;
+use vectors::reading::read_command;
+use vectors::texts::text_command;
+use vectors::texts::writes_text;
+
+// The text of an example's plan: a command writes some of it, or reads it, and the next text begins anew.
+fn text_or_reading(
+    bench: Bench,
+    letter: u8,
+    line: &[u8],
+    text: &mut [u8],
+    scripts: &mut [u32],
+) -> Bench {
+    if letter == b'r' {
+        let plan = read_command(line, text, bench.text, scripts, bench.scripts);
+        return with_plan(with_text(bench, 0), plan);
+    }
+    with_text(bench, text_command(letter, line, text, bench.text))
+}
+
+// Does what one line says; its letter tells what kind of command it is. A letter of no kind is a comment's.
+fn obey(
+    bench: Bench,
+    line: &[u8],
+    text: &mut [u8],
+    scripts: &mut [u32],
+    cache: &mut [u16],
+    boxes: &mut [u32],
+    log: &mut [u8],
+) -> Bench {
+    let letter = letter_of(line);
+    if is_call(letter) {
+        return call_command(bench, letter, line, scripts, cache, boxes, log);
+    }
+    if (letter == b'r') | writes_text(letter) {
+        return text_or_reading(bench, letter, line, text, scripts);
+    }
+    if sets_length(letter) {
+        return length_command(bench, letter, line, log);
+    }
+    if sets_table(letter) {
+        table_command(letter, line, scripts, cache, boxes);
+        return bench;
+    }
+    if shows_table(letter) {
+        table_show_command(letter, line, cache, boxes, log);
+        return bench;
+    }
+    plan_command(state_command(bench, letter, line), letter, line)
+}
+
+// Does what every line of the input says, in order.
+fn obey_all(
+    input: &[u8],
+    text: &mut [u8],
+    scripts: &mut [u32],
+    cache: &mut [u16],
+    boxes: &mut [u32],
+    log: &mut [u8],
+) {
+    let mut bench = first_bench();
+    let mut at: usize = 0;
+    while at < input.len() {
+        let end = line_end(input, at);
+        bench = obey(bench, &input[at..end], text, scripts, cache, boxes, log);
+        at = past_line(end, input.len());
+    }
+}
+
+fn main() {
+    let mut input = [0u8; 131_072];
+    let length = io::read_full(STDIN_FILENO, &mut input);
+    // each table is one number longer than it has to be, so that a wrong length can be lent too
+    let mut text = [0u8; 32_769];
+    let mut scripts = [0u32; 2_049];
+    let mut cache = [0u16; 273];
+    let mut boxes = [0u32; 65];
+    let mut log = [0u8; 4_096];
+    obey_all(
+        &input[..length],
+        &mut text,
+        &mut scripts,
+        &mut cache,
+        &mut boxes,
+        &mut log,
+    );
+}

@@ -1,0 +1,79 @@
+// reading_vectors: runs outside examples of the reader, written as lines of commands on standard input, and prints what each gives.
+mod showing;
+
+use libc::STDIN_FILENO;
+use plan::Plan;
+use showing::plan_show_command;
+use showing::store_show_command;
+use vectors::lines::letter_of;
+use vectors::lines::line_end;
+use vectors::lines::past_line;
+use vectors::lines::place_in;
+use vectors::reading::no_plan;
+use vectors::reading::read_command;
+use vectors::texts::text_command;
+use vectors::texts::writes_text;
+
+// What the examples work on.
+struct Bench {
+    // the plan of the last reading
+    plan: Plan,
+    // the bytes of the text written so far
+    text: usize,
+    // the numbers of the script store that a reading is lent
+    scripts: usize,
+}
+
+// Does what one line says; its letter tells what kind of command it is. A letter of no kind is a comment's.
+fn obey(bench: Bench, line: &[u8], text: &mut [u8], scripts: &mut [u32]) -> Bench {
+    let letter = letter_of(line);
+    let mut next = bench;
+    if writes_text(letter) {
+        next.text = text_command(letter, line, text, bench.text);
+        return next;
+    }
+    // the next example's text begins anew
+    if letter == b'r' {
+        let plan = read_command(line, text, bench.text, scripts, bench.scripts);
+        next.plan = plan;
+        next.text = 0;
+        return next;
+    }
+    // S N: lend so much of the script store
+    if letter == b'S' {
+        next.scripts = place_in(line, 1);
+        return next;
+    }
+    if letter == b'n' {
+        store_show_command(line, scripts);
+        return next;
+    }
+    let plan = bench.plan;
+    plan_show_command(plan, letter, line);
+    next
+}
+
+// Does what every line of the input says, in order.
+fn obey_all(input: &[u8], text: &mut [u8], scripts: &mut [u32]) {
+    let plan = no_plan();
+    let mut bench = Bench {
+        plan,
+        text: 0,
+        scripts: 2_048,
+    };
+    let mut at: usize = 0;
+    while at < input.len() {
+        let end = line_end(input, at);
+        bench = obey(bench, &input[at..end], text, scripts);
+        at = past_line(end, input.len());
+    }
+}
+
+fn main() {
+    let mut input = [0u8; 131_072];
+    let length = io::read_full(STDIN_FILENO, &mut input);
+    // each table is one number longer than it has to be, so that a wrong length can be lent too
+    let mut text = [0u8; 32_769];
+    let mut scripts = [0u32; 2_049];
+    obey_all(&input[..length], &mut text, &mut scripts);
+}

@@ -1,0 +1,45 @@
+-- `taking::tokens::pass_word` meets its contract. Assumes nothing.
+use borrow.Author.Needs.{needs}
+use Rattle.taking.proofs.OtherKinds.{kinds}
+use Rattle.text.proofs.Reached.{reached}
+use Rattle.taking.specs.Tokens.{passWord}
+use Rattle.taking.proofs.tokens.pass_word.Statement.{statement}
+use Rattle.taking.proofs.tokens.pass_word.Tie as tie
+
+token-at-requires : tie.Need-token-at-requires
+token-at-requires c κs = tt
+
+enum-known-token : tie.Need-enum-known-token
+enum-known-token c = search needs
+
+start-of-requires : tie.Need-start-of-requires
+start-of-requires c κs = tt
+
+returns : tie.Need-returns
+unfolding passWord
+returns c = simp (← (c .before .before .token-at .ensures), c .before .match .keys2, kinds, ← (c .start-of .ensures))
+
+is-word-requires : tie.Need-is-word-requires
+is-word-requires c κs =
+    let place = reached _ _ (c .before .before .before .token-at .ensures) (c .before .token .given .1) in
+    (place .1, place .2)
+
+returns-2 : tie.Need-returns-2
+unfolding passWord
+returns-2 c = simp (← (c .before .before .before .before .before .token-at .ensures), c .before .before .before .token .given .1, ← (c .before .is-word .ensures), c .if1 .taken)
+
+returns-3 : tie.Need-returns-3
+unfolding passWord
+returns-3 c = simp (← (c .before .before .before .before .before .token-at .ensures), c .before .before .before .token .given .1, ← (c .before .is-word .ensures), c .if1 .left)
+
+pub pass-word-spec : {M : Type 1} → statement M
+pass-word-spec =
+    tie.close
+    (tie.spec
+    token-at-requires
+    enum-known-token
+    start-of-requires
+    returns
+    is-word-requires
+    returns-2
+    returns-3)

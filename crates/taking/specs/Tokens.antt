@@ -1,0 +1,102 @@
+-- Document 01, "The plan text": a token is taken apart, or the line is refused with its offset. A token of another kind than the one that is due
+-- breaks the shape: 2, with the token's first byte, or the line's end where the line stops short. Assumes nothing.
+use Prim.Native.Nat.{ℕ, _+_, _-_}
+use mathlib.Core.Bool.{Bool, true, false, cond, _&&_}
+use mathlib.Core.List.{List, [], _∷_}
+use lib.Dec.{eqb, leb}
+use Rattle.lists.specs.Part.{part}
+use Rattle.refusal.specs.declared.Refusal.{Refusal}
+use Rattle.refusal.specs.declared.Refusal.the-variants.{BrokenShape, NumberOutOfLimits}
+use Rattle.text.specs.declared.Token.{Token}
+use Rattle.text.specs.declared.Token.the-variants.{LineEnd, Open, Close, Word, Number, LongNumber, Other}
+use Rattle.text.specs.Tokens.{tokenAt}
+use Rattle.taking.specs.declared.Passed.{Passed}
+use Rattle.taking.specs.declared.Passed.the-variants.{To, Refused}
+use Rattle.taking.specs.declared.Taken.{Taken}
+use Rattle.taking.specs.declared.Taken.the-variants.{Number as Is, Refused as Not}
+
+-- an opening bracket was due
+abbrev pub openOf : Token → Passed
+openOf (LineEnd at) = Refused (BrokenShape at)
+openOf (Open at) = To (at + 1)
+openOf (Close at) = Refused (BrokenShape at)
+openOf (Word start end) = Refused (BrokenShape start)
+openOf (Number start end value) = Refused (BrokenShape start)
+openOf (LongNumber start end) = Refused (BrokenShape start)
+openOf (Other start end) = Refused (BrokenShape start)
+
+-- a closing bracket was due
+abbrev pub closeOf : Token → Passed
+closeOf (LineEnd at) = Refused (BrokenShape at)
+closeOf (Open at) = Refused (BrokenShape at)
+closeOf (Close at) = To (at + 1)
+closeOf (Word start end) = Refused (BrokenShape start)
+closeOf (Number start end value) = Refused (BrokenShape start)
+closeOf (LongNumber start end) = Refused (BrokenShape start)
+closeOf (Other start end) = Refused (BrokenShape start)
+
+-- the line's end was due: one form a line
+abbrev pub lineEndOf : Token → Passed
+lineEndOf (LineEnd at) = To at
+lineEndOf (Open at) = Refused (BrokenShape at)
+lineEndOf (Close at) = Refused (BrokenShape at)
+lineEndOf (Word start end) = Refused (BrokenShape start)
+lineEndOf (Number start end value) = Refused (BrokenShape start)
+lineEndOf (LongNumber start end) = Refused (BrokenShape start)
+lineEndOf (Other start end) = Refused (BrokenShape start)
+
+unfoldable pub sameBytes : List ℕ → List ℕ → Bool
+sameBytes [] [] = true
+sameBytes [] (b ∷ bs) = false
+sameBytes (a ∷ as₀) [] = false
+sameBytes (a ∷ as₀) (b ∷ bs) = eqb a b && sameBytes as₀ bs
+
+-- the bytes of a text from one offset up to another are this word's
+unfoldable pub isWord : List ℕ → ℕ → ℕ → List ℕ → Bool
+isWord text start end word = sameBytes (part start (end - start) text) word
+
+-- this word was due
+abbrev pub wordOf : List ℕ → List ℕ → Token → Passed
+wordOf text word (LineEnd at) = Refused (BrokenShape at)
+wordOf text word (Open at) = Refused (BrokenShape at)
+wordOf text word (Close at) = Refused (BrokenShape at)
+wordOf text word (Word start end) = cond (isWord text start end word) (To end) (Refused (BrokenShape start))
+wordOf text word (Number start end value) = Refused (BrokenShape start)
+wordOf text word (LongNumber start end) = Refused (BrokenShape start)
+wordOf text word (Other start end) = Refused (BrokenShape start)
+
+-- a number was due, with its limits: 3, with its first byte, where it has over 10 digits or is outside them
+abbrev pub numberOf : ℕ → ℕ → Token → Taken
+numberOf low high (LineEnd at) = Not (BrokenShape at)
+numberOf low high (Open at) = Not (BrokenShape at)
+numberOf low high (Close at) = Not (BrokenShape at)
+numberOf low high (Word start end) = Not (BrokenShape start)
+numberOf low high (Number start end value) =
+    cond (leb low value && leb value high) (Is value start end) (Not (NumberOutOfLimits start))
+numberOf low high (LongNumber start end) = Not (NumberOutOfLimits start)
+numberOf low high (Other start end) = Not (BrokenShape start)
+
+-- the same of the next token from an offset on
+unfoldable pub passOpen : List ℕ → ℕ → Passed
+passOpen text at = openOf (tokenAt text at)
+
+unfoldable pub passClose : List ℕ → ℕ → Passed
+passClose text at = closeOf (tokenAt text at)
+
+unfoldable pub passLineEnd : List ℕ → ℕ → Passed
+passLineEnd text at = lineEndOf (tokenAt text at)
+
+unfoldable pub passWord : List ℕ → List ℕ → ℕ → Passed
+passWord text word at = wordOf text word (tokenAt text at)
+
+unfoldable pub takeNumber : List ℕ → ℕ → ℕ → ℕ → Taken
+takeNumber text low high at = numberOf low high (tokenAt text at)
+
+-- going on from what was due, or handing the refusal on
+abbrev pub then : {A : Type 0} → Passed → (Refusal → A) → (ℕ → A) → A
+then (To at) refused go = go at
+then (Refused refusal) refused go = refused refusal
+
+abbrev pub thenNumber : {A : Type 0} → Taken → (Refusal → A) → (ℕ → ℕ → ℕ → A) → A
+thenNumber (Is value start end) refused go = go value start end
+thenNumber (Not refusal) refused go = refused refusal

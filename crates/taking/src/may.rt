@@ -1,0 +1,93 @@
+// A list of recipients, none or more: 3 outside the domain numbers, 8 for the domain's own number or a repeat.
+use crate::Passed;
+use crate::Recipient;
+use crate::Recipients;
+use plan::sharing::has_bit;
+use refusal::Refusal;
+use text::Token;
+use text::start_of;
+use text::token_at;
+ghost use mathlib.Core.Path.{_≡_};
+ghost use Prim.Native.Nat.{_+_, _<_, _^_};
+ghost use Rattle.taking.specs.Recipients.{mention, recipientAt, recipientFor, recipientsAt};
+
+fn recipient_for(own: u32, rights: u32, recipient: u64, start: usize, end: usize) -> Recipient
+    ensures { λ r. ⌜ r ≡ recipientFor own rights recipient start end ⌝ }
+{
+    if recipient <= 7 {
+        let number = recipient as u32;
+        if (number == own) | has_bit(rights, number) {
+            Recipient::Refused(Refusal::BadRecipient(start))
+        } else {
+            Recipient::Next {
+                recipient: number,
+                start,
+                end,
+            }
+        }
+    } else {
+        Recipient::Refused(Refusal::NumberOutOfLimits(start))
+    }
+}
+
+// What stands next in the list of domain `own`, after the recipients of `rights`.
+fn recipient_at(text: &[u8], own: u32, rights: u32, at: usize) -> Recipient
+    ensures { λ r. ⌜ r ≡ recipientAt (now (text .entry)) own rights at ⌝ }
+{
+    let token = token_at(text, at);
+    match token {
+        Token::Close(place) => Recipient::Done(place + 1),
+        Token::Number { start, end, value } => recipient_for(own, rights, value, start, end),
+        Token::LongNumber { start, end: _ } => {
+            Recipient::Refused(Refusal::NumberOutOfLimits(start))
+        }
+        _ => Recipient::Refused(Refusal::BrokenShape(start_of(token))),
+    }
+}
+
+// The text names a domain as a recipient: only the first place counts.
+fn note_mention(named: &mut [usize; 8], recipient: u32, start: usize)
+    requires { ⌜ (recipient < 8) × (start + 1 < 2 ^ 64) ⌝ }
+    ensures { λ _. ⌜ now (named .exit) ≡ mention (now (named .entry)) recipient start ⌝ }
+{
+    let place = recipient as usize;
+    if named[place] == 0 {
+        named[place] = start + 1;
+    }
+}
+
+pub fn recipients_at(text: &[u8], own: u32, named: [usize; 8], at: usize) -> Recipients
+    ensures { λ r. ⌜ r ≡ recipientsAt (now (text .entry)) own named at ⌝ }
+{
+    let mut rights: u32 = 0;
+    let mut marked = named;
+    let mut here = at;
+    loop {
+        let next = recipient_at(text, own, rights, here);
+        match next {
+            Recipient::Next {
+                recipient,
+                start,
+                end,
+            } => {
+                rights += 1 << recipient;
+                note_mention(&mut marked, recipient, start);
+                here = end;
+            }
+            Recipient::Done(end) => {
+                return Recipients {
+                    passed: Passed::To(end),
+                    rights,
+                    named: marked,
+                };
+            }
+            Recipient::Refused(refusal) => {
+                return Recipients {
+                    passed: Passed::Refused(refusal),
+                    rights,
+                    named: marked,
+                };
+            }
+        }
+    }
+}

@@ -1,0 +1,101 @@
+// A token is taken apart, or the line is refused with its offset.
+use crate::Passed;
+use crate::Taken;
+use refusal::Refusal;
+use text::Token;
+use text::start_of;
+use text::token_at;
+ghost use mathlib.Core.Path.{_≡_};
+ghost use Prim.Native.Nat.{_≤_};
+ghost use lib.ListN.{length};
+ghost use Rattle.taking.specs.Tokens.{isWord, passClose, passLineEnd, passOpen, passWord, sameBytes, takeNumber};
+
+fn same_bytes(a: &[u8], b: &[u8]) -> bool
+    ensures { λ r. ⌜ r ≡ sameBytes (now (a .entry)) (now (b .entry)) ⌝ }
+{
+    if a.len() != b.len() {
+        return false;
+    }
+    let mut i: usize = 0;
+    while i < a.len() {
+        if a[i] != b[i] {
+            return false;
+        }
+        i += 1;
+    }
+    true
+}
+
+// The bytes from `start` up to `end` are the word's.
+pub fn is_word(text: &[u8], start: usize, end: usize, word: &[u8]) -> bool
+    requires { ⌜ (start ≤ end) × (end ≤ length (now text)) ⌝ }
+    ensures { λ r. ⌜ r ≡ isWord (now (text .entry)) start end (now (word .entry)) ⌝ }
+{
+    same_bytes(&text[start..end], word)
+}
+
+pub fn pass_open(text: &[u8], at: usize) -> Passed
+    ensures { λ r. ⌜ r ≡ passOpen (now (text .entry)) at ⌝ }
+{
+    let token = token_at(text, at);
+    let Token::Open(place) = token else {
+        return Passed::Refused(Refusal::BrokenShape(start_of(token)));
+    };
+    Passed::To(place + 1)
+}
+
+pub fn pass_close(text: &[u8], at: usize) -> Passed
+    ensures { λ r. ⌜ r ≡ passClose (now (text .entry)) at ⌝ }
+{
+    let token = token_at(text, at);
+    let Token::Close(place) = token else {
+        return Passed::Refused(Refusal::BrokenShape(start_of(token)));
+    };
+    Passed::To(place + 1)
+}
+
+pub fn pass_line_end(text: &[u8], at: usize) -> Passed
+    ensures { λ r. ⌜ r ≡ passLineEnd (now (text .entry)) at ⌝ }
+{
+    let token = token_at(text, at);
+    let Token::LineEnd(place) = token else {
+        return Passed::Refused(Refusal::BrokenShape(start_of(token)));
+    };
+    Passed::To(place)
+}
+
+pub fn pass_word(text: &[u8], word: &[u8], at: usize) -> Passed
+    ensures { λ r. ⌜ r ≡ passWord (now (text .entry)) (now (word .entry)) at ⌝ }
+{
+    let token = token_at(text, at);
+    let Token::Word { start, end } = token else {
+        return Passed::Refused(Refusal::BrokenShape(start_of(token)));
+    };
+    if is_word(text, start, end, word) {
+        Passed::To(end)
+    } else {
+        Passed::Refused(Refusal::BrokenShape(start))
+    }
+}
+
+// A number that is due: over ten digits it is outside its limits, as a shorter one can be.
+pub fn take_number(text: &[u8], low: u32, high: u32, at: usize) -> Taken
+    ensures { λ r. ⌜ r ≡ takeNumber (now (text .entry)) low high at ⌝ }
+{
+    let token = token_at(text, at);
+    if let Token::LongNumber { start, end: _ } = token {
+        return Taken::Refused(Refusal::NumberOutOfLimits(start));
+    }
+    let Token::Number { start, end, value } = token else {
+        return Taken::Refused(Refusal::BrokenShape(start_of(token)));
+    };
+    if (low as u64 <= value) & (value <= high as u64) {
+        Taken::Number {
+            value: value as u32,
+            start,
+            end,
+        }
+    } else {
+        Taken::Refused(Refusal::NumberOutOfLimits(start))
+    }
+}

@@ -1,0 +1,42 @@
+// The command that reads an example's text.
+use crate::printing::print_label;
+use crate::printing::print_line_end;
+use crate::printing::print_verdict;
+use crate::tables::at_most;
+use plan::Plan;
+use reader::read_plan;
+
+// The plan before the first reading.
+pub fn no_plan() -> Plan {
+    Plan {
+        pad: 0,
+        run: 0,
+        domains: 0,
+        windows: 0,
+        shares: [0; 8],
+        rights: [0; 8],
+        owners: [0; 32],
+        lengths: [0; 32],
+        masks: [0; 8],
+    }
+}
+
+// r LABEL: read the text, and print number and companion. Of text and script store as much is lent as the example says.
+pub fn read_command(
+    line: &[u8],
+    text: &[u8],
+    written: usize,
+    scripts: &mut [u32],
+    store: usize,
+) -> Plan {
+    let first: usize = 0;
+    let lent_text = at_most(written, text.len());
+    let lent_scripts = at_most(store, scripts.len());
+    print_label(line);
+    let reading = read_plan(&text[first..lent_text], &mut scripts[first..lent_scripts]);
+    let verdict = reading.verdict;
+    print_verdict(verdict);
+    print_line_end();
+    let plan = reading.plan;
+    plan
+}

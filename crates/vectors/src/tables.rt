@@ -1,0 +1,64 @@
+// The numbers of a table: as many of them as there are, and printing some.
+use crate::printing::print_number;
+ghost use Prim.Native.Nat.{_≤_};
+
+// A number that is no more than `most`.
+pub fn at_most(number: usize, most: usize) -> usize
+    ensures { λ r. ⌜ r ≤ most ⌝ }
+{
+    if number < most { number } else { most }
+}
+
+pub fn print_words(numbers: &[u32]) {
+    let mut at: usize = 0;
+    while at < numbers.len() {
+        print_number(word(numbers[at]));
+        at += 1;
+    }
+}
+
+pub fn print_halves(numbers: &[u16]) {
+    let mut at: usize = 0;
+    while at < numbers.len() {
+        print_number(half(numbers[at]));
+        at += 1;
+    }
+}
+
+fn print_bytes(bytes: &[u8]) {
+    let mut at: usize = 0;
+    while at < bytes.len() {
+        print_number(byte(bytes[at]));
+        at += 1;
+    }
+}
+
+pub fn word(number: u32) -> u64 {
+    number as u64
+}
+
+fn half(number: u16) -> u64 {
+    number as u64
+}
+
+fn byte(number: u8) -> u64 {
+    number as u64
+}
+
+pub fn print_some_words(table: &[u32], first: usize, count: usize) {
+    let from = at_most(first, table.len());
+    let to = from + at_most(count, table.len() - from);
+    print_words(&table[from..to]);
+}
+
+pub fn print_some_halves(table: &[u16], first: usize, count: usize) {
+    let from = at_most(first, table.len());
+    let to = from + at_most(count, table.len() - from);
+    print_halves(&table[from..to]);
+}
+
+pub fn print_some_bytes(table: &[u8], first: usize, count: usize) {
+    let from = at_most(first, table.len());
+    let to = from + at_most(count, table.len() - from);
+    print_bytes(&table[from..to]);
+}
