@@ -1,4 +1,5 @@
-// The commands that call the entry points of a run, and print what they answer. Each prints its label first.
+// The commands that call the entry points of a run, and print what they answer. Each prints its label first, and of each table as much is
+// lent as the example says.
 use crate::bench::Bench;
 use crate::bench::with_state;
 use crate::printing::print_ending;
@@ -9,6 +10,8 @@ use engine::asking::log_refusal;
 use engine::lending::step;
 use engine::running::run;
 use engine::starting::fresh_start;
+use machine::State;
+use plan::Plan;
 use vectors::lines::number_in;
 use vectors::lines::word_in;
 use vectors::printing::print_label;
@@ -17,18 +20,46 @@ use vectors::printing::print_number;
 use vectors::printing::print_verdict;
 use vectors::tables::at_most;
 
-fn call_fresh_start(bench: Bench, cache: &mut [u16], boxes: &mut [u32]) -> Bench {
+// f LABEL: a fresh start.
+pub fn start_command(bench: Bench, line: &[u8], cache: &mut [u16], boxes: &mut [u32]) -> Bench {
+    let first: usize = 0;
+    let lent_cache = at_most(bench.cache, cache.len());
+    let lent_boxes = at_most(bench.boxes, boxes.len());
     let plan = bench.plan;
     let state = bench.state;
-    let started = fresh_start(plan, state, cache, boxes);
+    print_label(line);
+    let started = fresh_start(
+        plan,
+        state,
+        &mut cache[first..lent_cache],
+        &mut boxes[first..lent_boxes],
+    );
     let verdict = started.verdict;
     print_verdict(verdict);
+    print_line_end();
     let left = started.state;
     with_state(bench, left)
 }
 
-// Prints number, companion, steps, ending, windows completed and clock, and keeps the state.
-fn after_progress(bench: Bench, progress: Progress) -> Bench {
+// A single step, or a run with a limit.
+fn advance(
+    letter: u8,
+    plan: Plan,
+    scripts: &[u32],
+    state: State,
+    cache: &mut [u16],
+    boxes: &mut [u32],
+    log: &mut [u8],
+    limit: u64,
+) -> Progress {
+    if letter == b's' {
+        return step(plan, scripts, state, cache, boxes, log);
+    }
+    run(plan, scripts, state, cache, boxes, log, limit)
+}
+
+// Number, companion, steps, ending, windows completed and clock.
+fn print_progress(progress: Progress) {
     let verdict = progress.verdict;
     let ending = progress.ending;
     let state = progress.state;
@@ -37,57 +68,19 @@ fn after_progress(bench: Bench, progress: Progress) -> Bench {
     print_ending(ending);
     print_number(state.windows);
     print_number(state.clock);
-    with_state(bench, state)
+    print_line_end();
 }
 
-// The answer to the second question, then the records that the asking hands back.
-fn call_asking(bench: Bench, domain: u32, log: &[u8]) -> Bench {
-    let plan = bench.plan;
-    let state = bench.state;
-    let verdict = log_refusal(plan, state, log, domain);
-    print_verdict(verdict);
-    print_records(log_of(plan, state, log, domain));
-    bench
+pub fn advances(letter: u8) -> bool {
+    (letter == b'g') | (letter == b's')
 }
 
-pub fn is_call(letter: u8) -> bool {
-    (letter == b'f') | (letter == b'g') | (letter == b's') | (letter == b'a')
-}
-
-// The call that a letter names, on what is lent to it.
-fn call_by_letter(
+// g LABEL N: run with limit N. s LABEL: a single step.
+pub fn advance_command(
     bench: Bench,
     letter: u8,
     line: &[u8],
-    scripts: &mut [u32],
-    cache: &mut [u16],
-    boxes: &mut [u32],
-    log: &mut [u8],
-) -> Bench {
-    let plan = bench.plan;
-    let state = bench.state;
-    if letter == b'f' {
-        return call_fresh_start(bench, cache, boxes);
-    }
-    if letter == b'g' {
-        let limit = number_in(line, 2);
-        let progress = run(plan, scripts, state, cache, boxes, log, limit);
-        return after_progress(bench, progress);
-    }
-    if letter == b's' {
-        let progress = step(plan, scripts, state, cache, boxes, log);
-        return after_progress(bench, progress);
-    }
-    call_asking(bench, word_in(line, 2), log)
-}
-
-// f LABEL: a fresh start. g LABEL N: run with limit N. s LABEL: a single step. a LABEL D: ask for the log of
-// domain D. Of each table as much is lent as the example says.
-pub fn call_command(
-    bench: Bench,
-    letter: u8,
-    line: &[u8],
-    scripts: &mut [u32],
+    scripts: &[u32],
     cache: &mut [u16],
     boxes: &mut [u32],
     log: &mut [u8],
@@ -97,16 +90,36 @@ pub fn call_command(
     let lent_cache = at_most(bench.cache, cache.len());
     let lent_boxes = at_most(bench.boxes, boxes.len());
     let lent_log = at_most(bench.log, log.len());
+    let plan = bench.plan;
+    let state = bench.state;
+    let limit = number_in(line, 2);
     print_label(line);
-    let next = call_by_letter(
-        bench,
+    let progress = advance(
         letter,
-        line,
-        &mut scripts[first..lent_scripts],
+        plan,
+        &scripts[first..lent_scripts],
+        state,
         &mut cache[first..lent_cache],
         &mut boxes[first..lent_boxes],
         &mut log[first..lent_log],
+        limit,
     );
+    print_progress(progress);
+    let left = progress.state;
+    with_state(bench, left)
+}
+
+// a LABEL D: ask for the log of domain D. The answer to the second question, then the records that the asking hands back.
+pub fn asking_command(bench: Bench, line: &[u8], log: &[u8]) {
+    let first: usize = 0;
+    let lent_log = at_most(bench.log, log.len());
+    let plan = bench.plan;
+    let state = bench.state;
+    let domain = word_in(line, 2);
+    let lent = &log[first..lent_log];
+    print_label(line);
+    let verdict = log_refusal(plan, state, lent, domain);
+    print_verdict(verdict);
+    print_records(log_of(plan, state, lent, domain));
     print_line_end();
-    next
 }

@@ -9,8 +9,10 @@ use bench::Bench;
 use bench::first_bench;
 use bench::with_plan;
 use bench::with_text;
-use calls::call_command;
-use calls::is_call;
+use calls::advance_command;
+use calls::advances;
+use calls::asking_command;
+use calls::start_command;
 use libc::STDIN_FILENO;
 use setting::length_command;
 use setting::plan_command;
@@ -42,6 +44,16 @@ fn text_or_reading(
     with_text(bench, text_command(letter, line, text, bench.text))
 }
 
+// Prints what a line asks for, and changes nothing.
+fn show(bench: Bench, letter: u8, line: &[u8], cache: &[u16], boxes: &[u32], log: &[u8]) {
+    if letter == b'a' {
+        asking_command(bench, line, log);
+    }
+    if shows_table(letter) {
+        table_show_command(letter, line, cache, boxes, log);
+    }
+}
+
 // Does what one line says; its letter tells what kind of command it is. A letter of no kind is a comment's.
 fn obey(
     bench: Bench,
@@ -53,8 +65,11 @@ fn obey(
     log: &mut [u8],
 ) -> Bench {
     let letter = letter_of(line);
-    if is_call(letter) {
-        return call_command(bench, letter, line, scripts, cache, boxes, log);
+    if advances(letter) {
+        return advance_command(bench, letter, line, scripts, cache, boxes, log);
+    }
+    if letter == b'f' {
+        return start_command(bench, line, cache, boxes);
     }
     if (letter == b'r') | writes_text(letter) {
         return text_or_reading(bench, letter, line, text, scripts);
@@ -66,10 +81,7 @@ fn obey(
         table_command(letter, line, scripts, cache, boxes);
         return bench;
     }
-    if shows_table(letter) {
-        table_show_command(letter, line, cache, boxes, log);
-        return bench;
-    }
+    show(bench, letter, line, cache, boxes, log);
     plan_command(state_command(bench, letter, line), letter, line)
 }
 

@@ -2,6 +2,7 @@
 use engine::Ending;
 use libc::STDOUT_FILENO;
 use vectors::printing::print_number;
+use vectors::printing::print_word;
 ghost use Prim.Native.Nat.{_+_, _<_, _≤_};
 ghost use lib.ListN.{length};
 
@@ -14,21 +15,14 @@ pub fn print_ending(ending: Ending) {
     ;
 }
 
-// The word of a record's kind.
+// The word of a record's kind, by its number.
 fn print_kind(kind: u8) {
-    match kind {
-        1 => io::write_all(STDOUT_FILENO, b" hit1"),
-        2 => io::write_all(STDOUT_FILENO, b" hit2"),
-        3 => io::write_all(STDOUT_FILENO, b" miss"),
-        4 => io::write_all(STDOUT_FILENO, b" sent"),
-        5 => io::write_all(STDOUT_FILENO, b" got"),
-        6 => io::write_all(STDOUT_FILENO, b" empty"),
-        7 => io::write_all(STDOUT_FILENO, b" denied"),
-        8 => io::write_all(STDOUT_FILENO, b" ran"),
-        9 => io::write_all(STDOUT_FILENO, b" barred"),
-        _ => io::write_all(STDOUT_FILENO, b" none"),
+    let words = b"none hit1 hit2 miss sent got empty denied ran barred";
+    if kind <= 9 {
+        print_word(words, kind as usize);
+    } else {
+        print_word(words, 0);
     }
-    ;
 }
 
 fn wide(byte: u8) -> u64

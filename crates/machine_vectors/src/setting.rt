@@ -18,21 +18,6 @@ fn blank_log(log: &mut [u8]) {
     }
 }
 
-// Another number of each table's numbers is lent.
-fn with_lengths(bench: Bench, scripts: usize, cache: usize, boxes: usize, log: usize) -> Bench {
-    let mut next = bench;
-    next.scripts = scripts;
-    next.cache = cache;
-    next.boxes = boxes;
-    next.log = log;
-    next
-}
-
-fn with_log(bench: Bench, length: usize, log: &mut [u8]) -> Bench {
-    blank_log(log);
-    with_lengths(bench, bench.scripts, bench.cache, bench.boxes, length)
-}
-
 pub fn sets_length(letter: u8) -> bool {
     (letter == b'S') | (letter == b'A') | (letter == b'B') | (letter == b'L')
 }
@@ -40,13 +25,22 @@ pub fn sets_length(letter: u8) -> bool {
 // S N, A N, B N, L N: lend so much of the script store, the cache table, the boxes, the log. L also blanks the log.
 pub fn length_command(bench: Bench, letter: u8, line: &[u8], log: &mut [u8]) -> Bench {
     let length = place_in(line, 1);
-    match letter {
-        b'S' => with_lengths(bench, length, bench.cache, bench.boxes, bench.log),
-        b'A' => with_lengths(bench, bench.scripts, length, bench.boxes, bench.log),
-        b'B' => with_lengths(bench, bench.scripts, bench.cache, length, bench.log),
-        b'L' => with_log(bench, length, log),
-        _ => bench,
+    let mut next = bench;
+    if letter == b'S' {
+        next.scripts = length;
+        return next;
     }
+    if letter == b'A' {
+        next.cache = length;
+        return next;
+    }
+    if letter == b'B' {
+        next.boxes = length;
+        return next;
+    }
+    blank_log(log);
+    next.log = length;
+    next
 }
 
 // The state with the number that a letter names: W the windows, C the clock, P and R a domain's position and record count.

@@ -1,4 +1,4 @@
-// The commands that print what an example has left in the tables. Each prints its label first.
+// The commands that print numbers of the tables. Each prints its label first.
 use vectors::lines::place_in;
 use vectors::printing::print_label;
 use vectors::printing::print_line_end;

@@ -5,11 +5,21 @@ use libc::STDOUT_FILENO;
 use refusal::Verdict;
 use refusal::code_of;
 
-// The label of an example: its line's first field.
-pub fn print_label(line: &[u8]) {
-    let start = field_start(line, 1);
+fn print_field(line: &[u8], field: usize) {
+    let start = field_start(line, field);
     let end = field_end(line, start);
     io::write_all(STDOUT_FILENO, &line[start..end]);
+}
+
+// The label of an example: its line's first field.
+pub fn print_label(line: &[u8]) {
+    print_field(line, 1);
+}
+
+// One of some words.
+pub fn print_word(words: &[u8], word: usize) {
+    io::write_all(STDOUT_FILENO, b" ");
+    print_field(words, word);
 }
 
 pub fn print_number(number: u64) {
