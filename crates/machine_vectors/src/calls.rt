@@ -2,8 +2,7 @@
 // lent as the example says.
 use crate::bench::Bench;
 use crate::bench::with_state;
-use crate::printing::print_ending;
-use crate::printing::print_records;
+use engine::Ending;
 use engine::Progress;
 use engine::asking::log_of;
 use engine::asking::log_refusal;
@@ -17,7 +16,9 @@ use vectors::lines::word_in;
 use vectors::printing::print_label;
 use vectors::printing::print_line_end;
 use vectors::printing::print_number;
+use vectors::printing::print_records;
 use vectors::printing::print_verdict;
+use vectors::printing::print_word;
 use vectors::tables::at_most;
 
 // f LABEL: a fresh start.
@@ -56,6 +57,15 @@ fn advance(
         return step(plan, scripts, state, cache, boxes, log);
     }
     run(plan, scripts, state, cache, boxes, log, limit)
+}
+
+// The word of a run's ending.
+fn print_ending(ending: Ending) {
+    let words = b"stopped ended";
+    match ending {
+        Ending::Stopped => print_word(words, 0),
+        Ending::Ended => print_word(words, 1),
+    }
 }
 
 // Number, companion, steps, ending, windows completed and clock.

@@ -1,7 +1,6 @@
 // machine_vectors: runs outside examples of the machine, written as lines of commands on standard input, and prints what each gives.
 mod bench;
 mod calls;
-mod printing;
 mod setting;
 mod showing;
 

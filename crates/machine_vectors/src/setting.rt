@@ -8,6 +8,8 @@ use vectors::lines::half_in;
 use vectors::lines::number_in;
 use vectors::lines::place_in;
 use vectors::lines::word_in;
+use vectors::tables::set_half;
+use vectors::tables::set_word;
 
 // A log that nobody has written yet: every byte 238.
 fn blank_log(log: &mut [u8]) {
@@ -143,18 +145,6 @@ pub fn plan_command(bench: Bench, letter: u8, line: &[u8]) -> Bench {
     let plan = bench.plan;
     let timed = changed_timing(plan, field, place, number);
     with_plan(bench, changed_domain(timed, field, place, number))
-}
-
-fn set_half(table: &mut [u16], place: usize, number: u16) {
-    if place < table.len() {
-        table[place] = number;
-    }
-}
-
-fn set_word(table: &mut [u32], place: usize, number: u32) {
-    if place < table.len() {
-        table[place] = number;
-    }
 }
 
 pub fn sets_table(letter: u8) -> bool {

@@ -1,9 +1,11 @@
-// What an example prints: its label, numbers and verdicts.
+// What an example prints: its label, numbers, verdicts and records.
 use crate::lines::field_end;
 use crate::lines::field_start;
 use libc::STDOUT_FILENO;
 use refusal::Verdict;
 use refusal::code_of;
+ghost use Prim.Native.Nat.{_+_, _<_, _≤_};
+ghost use lib.ListN.{length};
 
 fn print_field(line: &[u8], field: usize) {
     let start = field_start(line, field);
@@ -36,4 +38,43 @@ pub fn print_verdict(verdict: Verdict) {
     let code = code_of(verdict);
     print_number(code.number as u64);
     print_number(code.companion as u64);
+}
+
+// The word of a record's kind, by its number.
+fn print_kind(kind: u8) {
+    let words = b"none hit1 hit2 miss sent got empty denied ran barred";
+    if kind <= 9 {
+        print_word(words, kind as usize);
+    } else {
+        print_word(words, 0);
+    }
+}
+
+fn wide(byte: u8) -> u64
+    ensures { λ r. ⌜ r < 256 ⌝ }
+{
+    byte as u64
+}
+
+// A record's kind, value and clock.
+fn print_record(records: &[u8], at: usize)
+    requires { ⌜ at + 8 ≤ length (now records) ⌝ }
+{
+    print_kind(records[at]);
+    print_number(wide(records[at + 2]) + 256 * wide(records[at + 3]));
+    print_number(
+        wide(records[at + 4])
+            + 256 * wide(records[at + 5])
+            + 65_536 * wide(records[at + 6])
+            + 16_777_216 * wide(records[at + 7]),
+    );
+}
+
+// Every record of a log.
+pub fn print_records(records: &[u8]) {
+    let mut at: usize = 0;
+    while 8 <= records.len() - at {
+        print_record(records, at);
+        at += 8;
+    }
 }

@@ -1,4 +1,4 @@
-// The numbers of a table: as many of them as there are, and printing some.
+// The numbers of a table: as many of them as there are, one set, and some printed.
 use crate::printing::print_number;
 ghost use Prim.Native.Nat.{_≤_};
 
@@ -7,6 +7,19 @@ pub fn at_most(number: usize, most: usize) -> usize
     ensures { λ r. ⌜ r ≤ most ⌝ }
 {
     if number < most { number } else { most }
+}
+
+// A number of a table; a place past its end is passed over.
+pub fn set_half(table: &mut [u16], place: usize, number: u16) {
+    if place < table.len() {
+        table[place] = number;
+    }
+}
+
+pub fn set_word(table: &mut [u32], place: usize, number: u32) {
+    if place < table.len() {
+        table[place] = number;
+    }
 }
 
 pub fn print_words(numbers: &[u32]) {

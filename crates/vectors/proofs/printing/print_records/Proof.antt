@@ -1,9 +1,9 @@
--- `machine_vectors::printing::print_records` meets its contract. The loop's invariant: the place lies within the records. Assumes nothing.
+-- `vectors::printing::print_records` meets its contract. The loop's invariant: the place lies within the records. Assumes nothing.
 use Prim.Native.Nat.{_-_, _≤_}
 use lib.ListN.{length}
 use borrow.Author.Needs.{needs}
-use Rattle.machine_vectors.proofs.printing.print_records.Statement.{statement}
-use Rattle.machine_vectors.proofs.printing.print_records.Tie as tie
+use Rattle.vectors.proofs.printing.print_records.Statement.{statement}
+use Rattle.vectors.proofs.printing.print_records.Tie as tie
 
 abbrev Inv-loop : tie.InvT-loop
 Inv-loop records at₀ at = at ≤ length records
