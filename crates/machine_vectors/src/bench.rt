@@ -6,8 +6,6 @@ use vectors::reading::no_plan;
 pub struct Bench {
     pub plan: Plan,
     pub state: State,
-    // the bytes of the text written so far
-    pub text: usize,
     // the numbers or bytes of each table that a call is lent
     pub scripts: usize,
     pub cache: usize,
@@ -31,7 +29,6 @@ pub fn first_bench() -> Bench {
     Bench {
         plan,
         state,
-        text: 0,
         scripts: 2_048,
         cache: 272,
         boxes: 64,
@@ -48,11 +45,5 @@ pub fn with_plan(bench: Bench, plan: Plan) -> Bench {
 pub fn with_state(bench: Bench, state: State) -> Bench {
     let mut next = bench;
     next.state = state;
-    next
-}
-
-pub fn with_text(bench: Bench, length: usize) -> Bench {
-    let mut next = bench;
-    next.text = length;
     next
 }

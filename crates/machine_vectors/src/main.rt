@@ -7,7 +7,6 @@ mod showing;
 use bench::Bench;
 use bench::first_bench;
 use bench::with_plan;
-use bench::with_text;
 use calls::advance_command;
 use calls::advances;
 use calls::asking_command;
@@ -25,23 +24,7 @@ use vectors::lines::letter_of;
 use vectors::lines::line_end;
 use vectors::lines::past_line;
 use vectors::reading::read_command;
-use vectors::texts::text_command;
-use vectors::texts::writes_text;
-
-// The text of an example's plan: a command writes some of it, or reads it, and the next text begins anew.
-fn text_or_reading(
-    bench: Bench,
-    letter: u8,
-    line: &[u8],
-    text: &mut [u8],
-    scripts: &mut [u32],
-) -> Bench {
-    if letter == b'r' {
-        let plan = read_command(line, text, bench.text, scripts, bench.scripts);
-        return with_plan(with_text(bench, 0), plan);
-    }
-    with_text(bench, text_command(letter, line, text, bench.text))
-}
+ghost use Prim.Native.Nat.{_≤_};
 
 // Prints what a line asks for, and changes nothing.
 fn show(bench: Bench, letter: u8, line: &[u8], cache: &[u16], boxes: &[u32], log: &[u8]) {
@@ -53,11 +36,11 @@ fn show(bench: Bench, letter: u8, line: &[u8], cache: &[u16], boxes: &[u32], log
     }
 }
 
-// Does what one line says; its letter tells what kind of command it is. A letter of no kind is a comment's.
+// Does what one line says, with the text just above it; its letter tells what kind of command it is. A letter of no kind is a comment's.
 fn obey(
     bench: Bench,
+    text: &[u8],
     line: &[u8],
-    text: &mut [u8],
     scripts: &mut [u32],
     cache: &mut [u16],
     boxes: &mut [u32],
@@ -70,8 +53,9 @@ fn obey(
     if letter == b'f' {
         return start_command(bench, line, cache, boxes);
     }
-    if (letter == b'r') | writes_text(letter) {
-        return text_or_reading(bench, letter, line, text, scripts);
+    if letter == b'r' {
+        let plan = read_command(line, text, scripts, bench.scripts);
+        return with_plan(bench, plan);
     }
     if sets_length(letter) {
         return length_command(bench, letter, line, log);
@@ -84,21 +68,44 @@ fn obey(
     plan_command(state_command(bench, letter, line), letter, line)
 }
 
+// Where the text just above the next line begins; a line whose first byte is a bracket is text.
+fn text_start(first: u8, start: usize, next: usize) -> usize
+    requires { ⌜ start ≤ next ⌝ }
+    ensures { λ r. ⌜ r ≤ next ⌝ }
+{
+    if (first == b'(') | (first == b')') {
+        start
+    } else {
+        next
+    }
+}
+
 // Does what every line of the input says, in order.
 fn obey_all(
     input: &[u8],
-    text: &mut [u8],
     scripts: &mut [u32],
     cache: &mut [u16],
     boxes: &mut [u32],
     log: &mut [u8],
 ) {
     let mut bench = first_bench();
+    let mut start: usize = 0;
     let mut at: usize = 0;
     while at < input.len() {
         let end = line_end(input, at);
-        bench = obey(bench, &input[at..end], text, scripts, cache, boxes, log);
-        at = past_line(end, input.len());
+        let next = past_line(end, input.len());
+        let below = text_start(input[at], start, next);
+        bench = obey(
+            bench,
+            &input[start..at],
+            &input[at..end],
+            scripts,
+            cache,
+            boxes,
+            log,
+        );
+        start = below;
+        at = next;
     }
 }
 
@@ -106,14 +113,12 @@ fn main() {
     let mut input = [0u8; 131_072];
     let length = io::read_full(STDIN_FILENO, &mut input);
     // each table is one number longer than it has to be, so that a wrong length can be lent too
-    let mut text = [0u8; 32_769];
     let mut scripts = [0u32; 2_049];
     let mut cache = [0u16; 273];
     let mut boxes = [0u32; 65];
     let mut log = [0u8; 4_096];
     obey_all(
         &input[..length],
-        &mut text,
         &mut scripts,
         &mut cache,
         &mut boxes,

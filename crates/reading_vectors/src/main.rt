@@ -1,18 +1,20 @@
 // reading_vectors: runs outside examples of the reader, written as lines of commands on standard input, and prints what each gives.
 mod showing;
+mod texts;
 
 use libc::STDIN_FILENO;
 use plan::Plan;
 use showing::plan_show_command;
 use showing::store_show_command;
+use texts::text_command;
+use texts::writes_text;
 use vectors::lines::letter_of;
 use vectors::lines::line_end;
 use vectors::lines::past_line;
 use vectors::lines::place_in;
 use vectors::reading::no_plan;
 use vectors::reading::read_command;
-use vectors::texts::text_command;
-use vectors::texts::writes_text;
+use vectors::tables::at_most;
 
 // What the examples work on.
 struct Bench {
@@ -34,7 +36,9 @@ fn obey(bench: Bench, line: &[u8], text: &mut [u8], scripts: &mut [u32]) -> Benc
     }
     // the next example's text begins anew
     if letter == b'r' {
-        let plan = read_command(line, text, bench.text, scripts, bench.scripts);
+        let first: usize = 0;
+        let written = at_most(bench.text, text.len());
+        let plan = read_command(line, &text[first..written], scripts, bench.scripts);
         next.plan = plan;
         next.text = 0;
         return next;

@@ -21,19 +21,12 @@ pub fn no_plan() -> Plan {
     }
 }
 
-// r LABEL: read the text, and print number and companion. Of text and script store as much is lent as the example says.
-pub fn read_command(
-    line: &[u8],
-    text: &[u8],
-    written: usize,
-    scripts: &mut [u32],
-    store: usize,
-) -> Plan {
+// r LABEL: read the text, and print number and companion. Of the script store as much is lent as the example says.
+pub fn read_command(line: &[u8], text: &[u8], scripts: &mut [u32], store: usize) -> Plan {
     let first: usize = 0;
-    let lent_text = at_most(written, text.len());
     let lent_scripts = at_most(store, scripts.len());
     print_label(line);
-    let reading = read_plan(&text[first..lent_text], &mut scripts[first..lent_scripts]);
+    let reading = read_plan(text, &mut scripts[first..lent_scripts]);
     let verdict = reading.verdict;
     print_verdict(verdict);
     print_line_end();

@@ -1,10 +1,10 @@
--- `vectors::texts::put_all` meets its contract. The loop's invariant: the buffer keeps its length. Assumes nothing.
+-- `reading_vectors::texts::put_all` meets its contract. The loop's invariant: the buffer keeps its length. Assumes nothing.
 use Prim.Native.Nat.{_-_, _≤_}
 use mathlib.Core.Path.{_≡_}
 use lib.ListN.{length}
 use borrow.Author.Needs.{needs}
-use Rattle.vectors.proofs.texts.put_all.Statement.{statement}
-use Rattle.vectors.proofs.texts.put_all.Tie as tie
+use Rattle.reading_vectors.proofs.texts.put_all.Statement.{statement}
+use Rattle.reading_vectors.proofs.texts.put_all.Tie as tie
 
 abbrev Inv-loop : tie.InvT-loop
 Inv-loop out₀ at bytes next₀ i₀ out next i = (i ≤ length bytes) × (length out ≡ length out₀)

@@ -1,9 +1,9 @@
--- `vectors::texts::put_lines` meets its contract. The loop's invariant: the buffer keeps its length. Assumes nothing.
+-- `reading_vectors::texts::put_lines` meets its contract. The loop's invariant: the buffer keeps its length. Assumes nothing.
 use mathlib.Core.Path.{_≡_}
 use lib.ListN.{length}
 use borrow.Author.Needs.{needs}
-use Rattle.vectors.proofs.texts.put_lines.Statement.{statement}
-use Rattle.vectors.proofs.texts.put_lines.Tie as tie
+use Rattle.reading_vectors.proofs.texts.put_lines.Statement.{statement}
+use Rattle.reading_vectors.proofs.texts.put_lines.Tie as tie
 
 abbrev Inv-loop : tie.InvT-loop
 Inv-loop out₀ at bytes times next₀ left₀ out next left = length out ≡ length out₀

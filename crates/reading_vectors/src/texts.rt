@@ -1,7 +1,7 @@
 // The commands that write the text of an example. What lies past the buffer's end is left out.
-use crate::lines::byte_in;
-use crate::lines::field_start;
-use crate::lines::number_in;
+use vectors::lines::byte_in;
+use vectors::lines::field_start;
+use vectors::lines::number_in;
 
 // One byte more; answers the length of the text with it.
 fn put(out: &mut [u8], at: usize, byte: u8) -> usize {
