@@ -7,7 +7,8 @@ use lib.ListN.{length, set}
 use Rattle.plan.specs.Windows.{endOf, ownerOf, windowsTotal}
 use Rattle.state.specs.declared.State.{State}
 use Rattle.state.specs.World.{World, positionAt, recordsAt}
-use Rattle.machine.specs.Steps.{Ran}
+use Rattle.machine.specs.Steps.{Ran, activeStep, runOf}
+use Rattle.machine.specs.Switch.{switchOf}
 
 -- a state with the three lent things
 abbrev pub worldWith : State → List ℕ → List ℕ → List ℕ → World
@@ -42,3 +43,8 @@ pub record InTurn (plan : Plan) (state : State) (owner clock position records : 
   pub records-is : recordsAt state owner ≡ records
   pub positions-long : owner < length (state .positions)
   pub records-long : owner < length (state .records)
+
+-- what the ops of a window leave: a run of as many steps leaves it, and where they are fewer than the limit a switch is due
+pub record WindowRan (plan : Plan) (scripts : List ℕ) (quota limit steps : ℕ) (before after : World) : Type 0 where
+  pub ran : ranWith steps after ≡ runOf plan scripts quota steps before
+  pub due : steps < limit → activeStep plan scripts quota after ≡ switchOf plan after

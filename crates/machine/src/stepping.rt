@@ -22,9 +22,8 @@ ghost use Rattle.cache.specs.Flush.{kernelFlushTicks, kernelFlushed, l1FlushTic
 ghost use Rattle.ops.specs.View.{viewOf};
 ghost use Rattle.state.specs.Impossible.{statePossible};
 ghost use Rattle.state.specs.World.{positionAt, recordsAt};
-ghost use Rattle.machine.specs.Steps.{activeStep, opStepOf, runOf};
-ghost use Rattle.machine.specs.Switch.{switchOf};
-ghost use Rattle.machine.specs.View.{InTurn, InWindow, ranWith, turned, worldWith};
+ghost use Rattle.machine.specs.Steps.{opStepOf, runOf};
+ghost use Rattle.machine.specs.View.{InTurn, InWindow, WindowRan, ranWith, turned, worldWith};
 
 fn later(one: u64, other: u64) -> u64
     ensures { λ r. ⌜ r ≡ max one other ⌝ }
@@ -91,11 +90,8 @@ fn run_window(
     ensures { λ r. ⌜ (r .steps ≤ limit) × ((plan : Plan) (state : State)
         → InWindow plan (state .windows) owner end (now (rights .entry)) (now (masks .entry))
         → InTurn plan state owner begun place count
-        → (ranWith (r .steps) (worldWith (turned state owner (r .clock) (r .position) (r .records)) (now (cache .exit)) (now (boxes .exit)) (now (log .exit)))
-        ≡ runOf plan (now (scripts .entry)) quota (r .steps) (worldWith state (now (cache .entry)) (now (boxes .entry)) (now (log .entry))))
-        × (r .steps < limit
-        → activeStep plan (now (scripts .entry)) quota (worldWith (turned state owner (r .clock) (r .position) (r .records)) (now (cache .exit)) (now (boxes .exit)) (now (log .exit)))
-        ≡ switchOf plan (worldWith (turned state owner (r .clock) (r .position) (r .records)) (now (cache .exit)) (now (boxes .exit)) (now (log .exit))))) ⌝ }
+        → WindowRan plan (now (scripts .entry)) quota limit (r .steps) (worldWith state (now (cache .entry)) (now (boxes .entry)) (now (log .entry)))
+        (worldWith (turned state owner (r .clock) (r .position) (r .records)) (now (cache .exit)) (now (boxes .exit)) (now (log .exit)))) ⌝ }
 {
     let mut steps: u64 = 0;
     let mut clock = begun;

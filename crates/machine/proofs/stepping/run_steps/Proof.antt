@@ -174,7 +174,7 @@ switch-requires c κs =
     let loop = c .before .before .before .before .before .before .before .before .before .before .before .before .before .before .before .before .before .before .loop in
     let spent = c .before .before .before .before .before .before .before .before .before .run-window in
     let ran = spent .ensures .1 (plan-at (c .before .before .before .before .before .before .before .before .before .before .before .before .before .before .before .before)) (state-at (c .before .before .before .before .before .before .before .before .before .before .before .before .before .before .before .before .before .before)) (handed (c .before .before .before .before .before .before .before .before .before .before .before .before .before .before .before .before)) (begins (c .before .before .before .before .before .before .before .before .before .before .before .before .before .before .before .before)) in
-    let went = going-window _ _ _ _ _ (pre .0) (state-at (c .before .before .before .before .before .before .before .before .before .before .before .before .before .before .before .before .before .before)) (ownerOf (plan-at (c .before .before .before .before .before .before .before .before .before .before .before .before .before .before .before .before)) (loop .windows)) (spent .result .clock) (spent .result .position) (spent .result .records) _ _ _ _ _ _ _ _ _ (loop .inv) (spent .ensures .0) (ran .0)
+    let went = going-window _ _ _ _ _ (pre .0) (state-at (c .before .before .before .before .before .before .before .before .before .before .before .before .before .before .before .before .before .before)) (ownerOf (plan-at (c .before .before .before .before .before .before .before .before .before .before .before .before .before .before .before .before)) (loop .windows)) (spent .result .clock) (spent .result .position) (spent .result .records) _ _ _ _ _ _ _ _ _ (loop .inv) (spent .ensures .0) (ran .ran)
     (spent .kept .1 .1 .1 .1 .1 .1 .1 .1 .1 .1 .0) (spent .kept .1 .1 .1 .1 .1 .1 .1 .1 .1 .1 .1 .0) (spent .kept .1 .1 .1 .1 .1 .1 .1 .1 .1 .1 .1 .1 .0) in
     let s = small _ _ _ (pre .0) (went .on-schedule) (went .starts) (inside (c .before .before .before .before .before .before .before .before .before .before .before .before .before .before .before .before)) in
     (went .cache-long, omega (arith, s), omega (arith, s), omega (arith, s))
@@ -199,11 +199,11 @@ loop-again c =
     let loop = c .before .before .before .before .before .before .before .before .before .before .before .before .before .before .before .before .before .before .before .before .before .loop in
     let spent = c .before .before .before .before .before .before .before .before .before .before .before .before .run-window in
     let ran = spent .ensures .1 (plan-at (c .before .before .before .before .before .before .before .before .before .before .before .before .before .before .before .before .before .before .before)) (state-at (c .before .before .before .before .before .before .before .before .before .before .before .before .before .before .before .before .before .before .before .before .before)) (handed (c .before .before .before .before .before .before .before .before .before .before .before .before .before .before .before .before .before .before .before)) (begins (c .before .before .before .before .before .before .before .before .before .before .before .before .before .before .before .before .before .before .before)) in
-    let went = going-window _ _ _ _ _ (pre .0) (state-at (c .before .before .before .before .before .before .before .before .before .before .before .before .before .before .before .before .before .before .before .before .before)) (ownerOf (plan-at (c .before .before .before .before .before .before .before .before .before .before .before .before .before .before .before .before .before .before .before)) (loop .windows)) (spent .result .clock) (spent .result .position) (spent .result .records) _ _ _ _ _ _ _ _ _ (loop .inv) (spent .ensures .0) (ran .0)
+    let went = going-window _ _ _ _ _ (pre .0) (state-at (c .before .before .before .before .before .before .before .before .before .before .before .before .before .before .before .before .before .before .before .before .before)) (ownerOf (plan-at (c .before .before .before .before .before .before .before .before .before .before .before .before .before .before .before .before .before .before .before)) (loop .windows)) (spent .result .clock) (spent .result .position) (spent .result .records) _ _ _ _ _ _ _ _ _ (loop .inv) (spent .ensures .0) (ran .ran)
     (spent .kept .1 .1 .1 .1 .1 .1 .1 .1 .1 .1 .0) (spent .kept .1 .1 .1 .1 .1 .1 .1 .1 .1 .1 .1 .0) (spent .kept .1 .1 .1 .1 .1 .1 .1 .1 .1 .1 .1 .1 .0) in
     let switched = c .before .before .switch in
     going-switch _ _ _ _ _ (pre .0) _ _ _ _ _ went (c .before .before .before .before .if2 .left) (inside (c .before .before .before .before .before .before .before .before .before .before .before .before .before .before .before .before .before .before .before)) (smalls (c .before .before .before .before .before .before .before .before .before .before .before .before .before .before .before .before .before .before .before) .end-is)
-    (ran .1 (omega (arith, c .before .before .before .before .if2)))
+    (ran .due (omega (arith, c .before .before .before .before .if2)))
     (switch-stepped _ _ _ _ _ _ _ _ _ (sym (smalls (c .before .before .before .before .before .before .before .before .before .before .before .before .before .before .before .before .before .before .before) .end-is)) refl (switched .ensures .0) (switched .ensures .1))
     (switched .kept .0)
 
@@ -247,7 +247,7 @@ returns-3 c =
     let loop = c .before .before .before .before .before .before .before .before .before .before .before .before .before .before .before .before .before .loop in
     let spent = c .before .before .before .before .before .before .before .before .run-window in
     let ran = spent .ensures .1 (plan-at (c .before .before .before .before .before .before .before .before .before .before .before .before .before .before .before)) (state-at (c .before .before .before .before .before .before .before .before .before .before .before .before .before .before .before .before .before)) (handed (c .before .before .before .before .before .before .before .before .before .before .before .before .before .before .before)) (begins (c .before .before .before .before .before .before .before .before .before .before .before .before .before .before .before)) in
-    let went = going-window _ _ _ _ _ (pre .0) (state-at (c .before .before .before .before .before .before .before .before .before .before .before .before .before .before .before .before .before)) (ownerOf (plan-at (c .before .before .before .before .before .before .before .before .before .before .before .before .before .before .before)) (loop .windows)) (spent .result .clock) (spent .result .position) (spent .result .records) _ _ _ _ _ _ _ _ _ (loop .inv) (spent .ensures .0) (ran .0)
+    let went = going-window _ _ _ _ _ (pre .0) (state-at (c .before .before .before .before .before .before .before .before .before .before .before .before .before .before .before .before .before)) (ownerOf (plan-at (c .before .before .before .before .before .before .before .before .before .before .before .before .before .before .before)) (loop .windows)) (spent .result .clock) (spent .result .position) (spent .result .records) _ _ _ _ _ _ _ _ _ (loop .inv) (spent .ensures .0) (ran .ran)
     (spent .kept .1 .1 .1 .1 .1 .1 .1 .1 .1 .1 .0) (spent .kept .1 .1 .1 .1 .1 .1 .1 .1 .1 .1 .1 .0) (spent .kept .1 .1 .1 .1 .1 .1 .1 .1 .1 .1 .1 .1 .0) in
     going-limit _ _ _ _ _ (pre .0) _ _ _ went (c .if2 .taken)
 

@@ -101,7 +101,7 @@ same-length-3 : tie.Need-same-length-3 Inv-loop μ-loop
 same-length-3 c = c .before .loop .inv .log-long
 
 returns : tie.Need-returns Inv-loop μ-loop
-returns c = (c .before .loop .inv .within, λ plan state handed begins. (c .before .loop .inv .ran plan state handed begins, (λ fewer. absurd (omega (arith, c .loop-test)))))
+returns c = (c .before .loop .inv .within, λ plan state handed begins. record { ran = c .before .loop .inv .ran plan state handed begins; due = λ fewer. absurd (omega (arith, c .loop-test)) })
 
 same-length-4 : tie.Need-same-length-4 Inv-loop μ-loop
 same-length-4 c = c .before .before .loop .inv .cache-long
@@ -113,7 +113,7 @@ same-length-6 : tie.Need-same-length-6 Inv-loop μ-loop
 same-length-6 c = c .before .before .loop .inv .log-long
 
 returns-2 : tie.Need-returns-2 Inv-loop μ-loop
-returns-2 c = (c .before .before .loop .inv .within, λ plan state handed begins. (c .before .before .loop .inv .ran plan state handed begins, (λ fewer. turn-closed plan _ _ state _ _ _ _ _ _ _ handed begins _ _ _ _ _ _ (c .if1 .taken))))
+returns-2 c = (c .before .before .loop .inv .within, λ plan state handed begins. record { ran = c .before .before .loop .inv .ran plan state handed begins; due = λ fewer. turn-closed plan _ _ state _ _ _ _ _ _ _ handed begins _ _ _ _ _ _ (c .if1 .taken) })
 
 same-length-7 : tie.Need-same-length-7 Inv-loop μ-loop
 same-length-7 c = c .before .before .before .before .before .loop .inv .cache-long
@@ -125,7 +125,7 @@ same-length-9 : tie.Need-same-length-9 Inv-loop μ-loop
 same-length-9 c = c .before .before .before .before .before .loop .inv .log-long
 
 returns-3 : tie.Need-returns-3 Inv-loop μ-loop
-returns-3 c = (c .before .before .before .before .before .loop .inv .within, λ plan state handed begins. (c .before .before .before .before .before .loop .inv .ran plan state handed begins, (λ fewer. turn-end plan _ _ state _ _ _ _ _ _ _ handed begins _ _ _ _ _ _ _ (c .before .before .before .if1 .left) (c .before .before .fetch .ensures) (c .enum-told .given .1))))
+returns-3 c = (c .before .before .before .before .before .loop .inv .within, λ plan state handed begins. record { ran = c .before .before .before .before .before .loop .inv .ran plan state handed begins; due = λ fewer. turn-end plan _ _ state _ _ _ _ _ _ _ handed begins _ _ _ _ _ _ _ (c .before .before .before .if1 .left) (c .before .before .fetch .ensures) (c .enum-told .given .1) })
 
 pub run-window-spec : {M : Type 1} → statement M
 run-window-spec =
