@@ -1,25 +1,28 @@
--- A run right after a fresh start: where it begins, and that what it leaves passes the checks again. Assumes nothing.
+-- A run right after a fresh start: where it begins, that what it leaves passes the checks again, and that it ends. Assumes nothing.
 use mathlib.Core.Path.{_≡_, refl, sym, ap, subst, _∙_}
 use mathlib.Core.Bool.{true}
 use mathlib.Core.List.{List}
-use Prim.Native.Nat.{ℕ}
+use Prim.Native.Nat.{ℕ, _≤_}
 use lib.ListN.{length, replicate}
 use Rattle.plan.specs.declared.Plan.{Plan}
 use Rattle.plan.specs.Possible.{planPossible}
 use Rattle.records.specs.Records.{partRecords}
 use Rattle.state.specs.declared.State.{State}
 use Rattle.state.specs.Impossible.{statePossible}
-use Rattle.state.specs.World.{World}
+use Rattle.state.specs.World.{World, endedOf}
 use Rattle.machine.specs.Steps.{runOf, steps}
 use Rattle.machine.specs.View.{worldWith}
 use Rattle.machine.proofs.Runs.{run-world}
-use Rattle.reached.proofs.Reached.{log-length, state-possible}
+use Rattle.reached.proofs.Ending.{ends}
+use Rattle.reached.proofs.Reached.{boxes-length, cache-length, log-length, state-possible, tables-sound}
 use Rattle.refusal.specs.declared.Verdict.{Verdict}
 use Rattle.refusal.specs.declared.Verdict.the-variants.{Accepted, Refused}
 use Rattle.engine.specs.Answers.{freshWith}
-use Rattle.engine.specs.Checks.{freshVerdict, runVerdict}
+use Rattle.engine.specs.declared.Ending.the-variants.{Ended}
+use Rattle.engine.specs.Checks.{freshVerdict, runVerdict, scriptsLength}
 use Rattle.engine.specs.FreshStart.{Fresh, freshFrom, freshStartOf, freshWorld}
-use Rattle.engine.specs.Running.{Run, ranFrom, runCallOf, runFrom}
+use Rattle.engine.specs.Running.{Run, endingOf, ranFrom, runCallOf, runFrom}
+use Rattle.engine.proofs.Passing.{run-passes}
 
 -- a fresh start under a possible plan, on tables of the right lengths, gives the world from which runs start
 pub started-fresh :
@@ -49,3 +52,30 @@ run-left plan scripts log limit possible = go (runVerdict plan scripts (freshWor
     go : (verdict : Verdict) → Left plan log (runFrom verdict plan scripts (freshWorld log) limit .world)
     go Accepted = subst (Left plan log) (sym (run-world plan scripts (partRecords plan (length log)) limit (freshWorld log))) (reached limit)
     go (Refused refusal) = reached 0
+
+-- a run from a fresh start, beside a script store of the right length, is not refused
+pub fresh-accepted : (plan : Plan) (scripts log : List ℕ)
+    → planPossible plan ≡ true
+    → length scripts ≡ scriptsLength
+    → runVerdict plan scripts (freshWorld log) ≡ Accepted
+unfolding freshWorld steps
+fresh-accepted plan scripts log possible store =
+    run-passes plan scripts (freshWorld log) store
+    (cache-length plan scripts log 0 possible)
+    (boxes-length plan scripts log 0 possible)
+    possible
+    (tables-sound plan scripts log 0 possible)
+    (state-possible plan scripts log 0 possible)
+
+-- and it ends, where its limit is large enough for every plan
+pub fresh-ends : (plan : Plan) (scripts log : List ℕ) (limit : ℕ)
+    → planPossible plan ≡ true
+    → length scripts ≡ scriptsLength
+    → 4_294_969_343 ≤ limit
+    → runCallOf plan scripts (freshWorld log) limit .ending ≡ Ended
+unfolding runCallOf ranFrom freshWorld
+fresh-ends plan scripts log limit possible store large =
+    let quota = partRecords plan (length log) in
+    ap (λ (verdict : Verdict). runFrom verdict plan scripts (freshWorld log) limit .ending) (fresh-accepted plan scripts log possible store)
+    ∙ ap (λ (world : World). endingOf (endedOf plan (world .state))) (run-world plan scripts quota limit (freshWorld log))
+    ∙ ap endingOf (ends plan scripts quota possible limit log large)

@@ -3,6 +3,7 @@ pub mod Accesses
 pub mod Cells
 pub mod Counts
 pub mod Effects
+pub mod Ending
 pub mod Flushes
 pub mod Lines
 pub mod Parts

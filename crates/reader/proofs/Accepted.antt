@@ -5,10 +5,10 @@ use native.Mathlib.Nat.{zero-add}
 use native.Mathlib.Omega.{arith}
 use mathlib.Core.Bool.{Bool, true, false, cond, not, _&&_, _||_, and-eq-true-iff}
 use mathlib.Core.List.{List}
-use mathlib.Core.Path.{_≡_, refl, ap, _∙_}
+use mathlib.Core.Path.{_≡_, refl, sym, ap, _∙_}
 use lib.Dec.{eqb, leb, ltb}
-use lib.ListN.{length, getD}
-use borrow.Author.Tests.{eq-eqb, eqb-false, le-leb, lt-ltb, ltb-false, ltb-true}
+use lib.ListN.{getD, length, length-replicate}
+use borrow.Author.Tests.{eq-eqb, eqb-false, eqb-true, le-leb, lt-ltb, ltb-false, ltb-true}
 use Rattle.plan.proofs.Sums.{below-all}
 use Rattle.plan.specs.declared.Plan.{Plan}
 use Rattle.plan.specs.Colours.{coloursAt, firstColour, maskOf, sharesTotal}
@@ -151,42 +151,60 @@ finished-possible size textLength (refused why) scripts good e = absurd (not-ref
 finished-possible size textLength (kept draft store) scripts good e =
     judged-possible textLength draft store scripts (good .0) (finalVerdict textLength draft) refl e
 
-pub accepted-possible : (text scripts : List ℕ) → readOf text scripts .verdict ≡ Accepted → planPossible (readOf text scripts .plan) ≡ true
+-- what holds of every refusal, and of what comes after the last line, holds of a reading
+read-holds : (Holds : Read → Type 0) (text scripts : List ℕ)
+    → ((why : Refusal) → Holds (refusedRead why scripts))
+    → (length scripts ≡ storeLength → Holds (finished (length text) (walkFrom (length text) text 0 noDraft noOps) scripts))
+    → Holds (readOf text scripts)
 unfolding readOf
-accepted-possible text scripts = by-length (eqb (length scripts) storeLength)
+read-holds Holds text scripts broken walked = by-length (eqb (length scripts) storeLength) refl
   where
-    by-size : (long : Bool)
-        → (elim long as (λ _. Read) [
+    by-size : (long : Bool) → length scripts ≡ storeLength
+        → Holds (elim long as (λ _. Read) [
           | true ↦ refusedRead TextTooLong scripts
           | false ↦ finished (length text) (walkFrom (length text) text 0 noDraft noOps) scripts
-        ]) .verdict ≡ Accepted
-        → planPossible
-        ((elim long as (λ _. Read) [
-          | true ↦ refusedRead TextTooLong scripts
-          | false ↦ finished (length text) (walkFrom (length text) text 0 noDraft noOps) scripts
-        ]) .plan) ≡ true
-    by-size true e = absurd (not-refused TextTooLong scripts e)
-    by-size false e =
-        finished-possible (length noOps) (length text) (walkFrom (length text) text 0 noDraft noOps) scripts
-        (walk-good (length text) text 0 noDraft noOps draft-first) e
+        ])
+    by-size true fit = broken TextTooLong
+    by-size false fit = walked fit
 
-    by-length : (fits : Bool)
-        → (elim fits as (λ _. Read) [
+    by-length : (fits : Bool) → eqb (length scripts) storeLength ≡ fits
+        → Holds (elim fits as (λ _. Read) [
           | false ↦ refusedRead WrongLength scripts
           | true ↦
               elim (ltb 32_768 (length text)) [
                 | true ↦ refusedRead TextTooLong scripts
                 | false ↦ finished (length text) (walkFrom (length text) text 0 noDraft noOps) scripts
               ]
-        ]) .verdict ≡ Accepted
-        → planPossible
-        ((elim fits as (λ _. Read) [
-          | false ↦ refusedRead WrongLength scripts
-          | true ↦
-              elim (ltb 32_768 (length text)) [
-                | true ↦ refusedRead TextTooLong scripts
-                | false ↦ finished (length text) (walkFrom (length text) text 0 noDraft noOps) scripts
-              ]
-        ]) .plan) ≡ true
-    by-length false e = absurd (not-refused WrongLength scripts e)
-    by-length true e = by-size (ltb 32_768 (length text)) e
+        ])
+    by-length false test = broken WrongLength
+    by-length true test = by-size (ltb 32_768 (length text)) (eqb-true _ _ test)
+
+-- what the walk over a text leaves is good
+walked-good : (text : List ℕ) → GoodOutcome (length noOps) (walkFrom (length text) text 0 noDraft noOps)
+walked-good text = walk-good (length text) text 0 noDraft noOps draft-first
+
+-- an accepted plan passes the check for 12
+pub accepted-possible : (text scripts : List ℕ) → readOf text scripts .verdict ≡ Accepted → planPossible (readOf text scripts .plan) ≡ true
+accepted-possible text scripts =
+    read-holds (λ read. read .verdict ≡ Accepted → planPossible (read .plan) ≡ true) text scripts
+    (λ why e. absurd (not-refused why scripts e))
+    (λ fit.
+    finished-possible (length noOps) (length text) (walkFrom (length text) text 0 noDraft noOps) scripts (walked-good text))
+
+-- the script store that a reading leaves is as long as the one that it was lent
+pub read-store : (text scripts : List ℕ) → length (readOf text scripts .scripts) ≡ length scripts
+unfolding refusedRead noOps
+read-store text scripts =
+    read-holds (λ read. length (read .scripts) ≡ length scripts) text scripts (λ why. refl)
+    (λ fit. stored (walkFrom (length text) text 0 noDraft noOps) (walked-good text) fit)
+  where
+    by-verdict : (verdict : Verdict) (draft : Draft) (store : List ℕ) → length store ≡ length scripts
+        → length (judged verdict draft store scripts .scripts) ≡ length scripts
+    by-verdict Accepted draft store same = same
+    by-verdict (Refused why) draft store same = refl
+
+    stored : (outcome : Outcome) → GoodOutcome (length noOps) outcome → length scripts ≡ storeLength
+        → length (finished (length text) outcome scripts .scripts) ≡ length scripts
+    stored (refused why) good fit = refl
+    stored (kept draft store) good fit =
+        by-verdict (finalVerdict (length text) draft) draft store (good .1 ∙ length-replicate {A = ℕ} storeLength 0 ∙ sym fit)

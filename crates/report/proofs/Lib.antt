@@ -1,4 +1,5 @@
 -- The laws on the printed lines.
+pub mod Ending
 pub mod Limits
 pub mod Places
 pub mod Planned

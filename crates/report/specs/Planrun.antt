@@ -1,6 +1,7 @@
 -- Document 01, "Settled numbers": what the program *planrun* prints for a text. Assumes nothing.
 use Prim.Native.Nat.{ℕ}
 use mathlib.Core.List.{List}
+use mathlib.Core.Path.{_≡_}
 use lib.ListN.{replicate}
 use Rattle.plan.specs.declared.Plan.{Plan}
 use Rattle.state.specs.World.{World}
@@ -11,22 +12,34 @@ use Rattle.refusal.specs.Code.{refusalCode}
 use Rattle.reader.specs.Draft.{noOps}
 use Rattle.reader.specs.Read.{Read, readOf}
 use Rattle.engine.specs.FreshStart.{freshWorld}
-use Rattle.engine.specs.Running.{runCallOf}
+use Rattle.engine.specs.declared.Ending.the-variants.{Ended}
+use Rattle.engine.specs.Running.{Run, runCallOf}
 use Rattle.report.specs.Lines.{refusedLine, runLines}
 
 -- it lends a log of 16,384 bytes
 abbrev pub lentLog : List ℕ
 lentLog = replicate 16_384 0
 
--- and runs to *ended*: no run has as many steps as the largest limit
+-- and asks for the largest number of steps that a call can take
 abbrev pub largestLimit : ℕ
 largestLimit = 18_446_744_073_709_551_615
 
+-- the program's run of a plan and its scripts, from a fresh start
+abbrev pub planrunRun : Plan → List ℕ → Run
+planrunRun plan scripts = runCallOf plan scripts (freshWorld lentLog) largestLimit
+
+-- that run comes to its end: it is not refused, and it answers *ended*
+pub record RunsToTheEnd (plan : Plan) (scripts : List ℕ) : Type 0 where
+  pub accepted : planrunRun plan scripts .verdict ≡ Accepted
+  pub ended : planrunRun plan scripts .ending ≡ Ended
+
+-- the lines of the world that a run leaves
 unfoldable pub ranLines : Plan → World → List ℕ
 ranLines plan world = runLines plan (world .state) (world .log)
 
+-- what is printed after a reading, by its verdict: the lines of the run, or the refusal's
 abbrev pub readLines : Verdict → Read → List ℕ
-readLines Accepted read = ranLines (read .plan) (runCallOf (read .plan) (read .scripts) (freshWorld lentLog) largestLimit .world)
+readLines Accepted read = ranLines (read .plan) (planrunRun (read .plan) (read .scripts) .world)
 readLines (Refused refusal) read = refusedLine (refusalCode refusal)
 
 -- from a plan's text to the printed lines

@@ -1,0 +1,57 @@
+-- What passes the checks one by one is accepted. Assumes nothing.
+use Prim.Native.Nat.{ℕ, _<_}
+use mathlib.Core.Bool.{true}
+use mathlib.Core.List.{List}
+use mathlib.Core.Path.{_≡_}
+use lib.ListN.{length}
+use borrow.Author.Tests.{eq-eqb, lt-ltb}
+use Rattle.plan.specs.declared.Plan.{Plan}
+use Rattle.plan.specs.Possible.{planPossible}
+use Rattle.cache.specs.Lines.{tableLength}
+use Rattle.records.specs.Records.{partRecords}
+use Rattle.ops.specs.Ops.{boxesLength}
+use Rattle.state.specs.declared.State.{State}
+use Rattle.state.specs.Damage.{tablesSound}
+use Rattle.state.specs.Impossible.{statePossible}
+use Rattle.state.specs.World.{World}
+use Rattle.refusal.specs.declared.Verdict.the-variants.{Accepted}
+use Rattle.engine.specs.Asking.{logRefusalOf}
+use Rattle.engine.specs.Checks.{logVerdict, runVerdict, scriptsLength, stateVerdict}
+
+-- a state
+state-passes : (plan : Plan) (state : State) (logLength : ℕ)
+    → statePossible plan (partRecords plan logLength) state ≡ true
+    → stateVerdict plan state logLength ≡ Accepted
+unfolding stateVerdict
+state-passes plan state logLength passes = rw passes
+
+-- what a step or a run takes
+pub run-passes : (plan : Plan) (scripts : List ℕ) (world : World)
+    → length scripts ≡ scriptsLength
+    → length (world .cache) ≡ tableLength
+    → length (world .boxes) ≡ boxesLength
+    → planPossible plan ≡ true
+    → tablesSound plan (world .state) (world .cache) (world .boxes) ≡ true
+    → statePossible plan (partRecords plan (length (world .log))) (world .state) ≡ true
+    → runVerdict plan scripts world ≡ Accepted
+unfolding runVerdict
+run-passes plan scripts world store cache boxes possible sound passes =
+    rw (
+      eq-eqb (length scripts) scriptsLength store,
+      eq-eqb (length (world .cache)) tableLength cache,
+      eq-eqb (length (world .boxes)) boxesLength boxes,
+      possible,
+      sound,
+      runVerdict,
+    )
+    (state-passes plan (world .state) (length (world .log)) passes)
+
+-- what an asking for a declared domain's log takes
+pub asking-passes : (plan : Plan) (state : State) (log : List ℕ) (domain : ℕ)
+    → planPossible plan ≡ true
+    → statePossible plan (partRecords plan (length log)) state ≡ true
+    → domain < plan .domains
+    → logRefusalOf plan state log domain ≡ Accepted
+unfolding logRefusalOf logVerdict
+asking-passes plan state log domain possible passes declared =
+    rw (possible, state-passes plan state (length log) passes, lt-ltb domain (plan .domains) declared, logVerdict)

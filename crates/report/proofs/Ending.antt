@@ -1,0 +1,33 @@
+-- The program runs every accepted plan to its end: no run has as many steps as the limit that it asks for. Assumes nothing.
+use Prim.Native.Nat.{ℕ}
+use mathlib.Core.List.{List}
+use mathlib.Core.Path.{_≡_, sym, ap, _∙_}
+use native.Mathlib.Omega.{arith}
+use lib.ListN.{length, length-replicate}
+use Rattle.refusal.specs.declared.Verdict.{Verdict}
+use Rattle.refusal.specs.declared.Verdict.the-variants.{Accepted}
+use Rattle.reader.specs.Draft.{noOps, storeLength}
+use Rattle.reader.specs.Read.{readOf}
+use Rattle.reader.proofs.Accepted.{accepted-possible, read-store}
+use Rattle.engine.specs.Checks.{scriptsLength}
+use Rattle.engine.specs.FreshStart.{freshWorld}
+use Rattle.engine.specs.Running.{ranFrom, runCallOf, runFrom}
+use Rattle.engine.proofs.FreshRuns.{fresh-accepted, fresh-ends}
+use Rattle.report.specs.Planrun.{RunsToTheEnd, largestLimit, lentLog}
+
+pub planrun-ends :
+    (text : List ℕ)
+    → readOf text noOps .verdict ≡ Accepted
+    → RunsToTheEnd (readOf text noOps .plan) (readOf text noOps .scripts)
+unfolding noOps runCallOf ranFrom
+planrun-ends text accepted =
+    let plan = readOf text noOps .plan in
+    let scripts = readOf text noOps .scripts in
+    let possible = accepted-possible text noOps accepted in
+    let store : length scripts ≡ scriptsLength = read-store text noOps ∙ length-replicate {A = ℕ} storeLength 0 in
+    record {
+      accepted =
+          ap (λ (verdict : Verdict). runFrom verdict plan scripts (freshWorld lentLog) largestLimit .verdict)
+          (fresh-accepted plan scripts lentLog possible store);
+      ended = fresh-ends plan scripts lentLog largestLimit possible store (omega arith);
+    }
