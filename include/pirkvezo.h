@@ -26,7 +26,7 @@ extern "C" {
 #define PIRKVEZO_BOXES 64
 
 /* Reads a plan text. Accepted: the scripts and the plan are written, and 0 is returned. Refused: the scripts stay, and
- * the plan is all zeros. answer: number, companion, 0, 0. */
+ * the plan is all zeros; with a plan or an answer of another length the plan stays too. answer: number, companion, 0, 0. */
 uint32_t pirkvezo_read_plan(const uint8_t *text, size_t text_length,
                             uint32_t *scripts, size_t scripts_length,
                             uint32_t *plan, size_t plan_length,

@@ -16,15 +16,15 @@ pub record Look : Type 0 where
   pub entry : ℕ
   pub ways : List ℕ
 
--- L1 holds the line: 1 tick, L2 untouched. A line that is dirty stays so, and a write leaves its entry dirty.
+-- the line is in L1: one tick, and its L2 set stays as it is. A dirty line stays dirty, and a write makes a clean one dirty.
 unfoldable pub lookHit1 : Bool → ℕ → ℕ → List ℕ → Look
 lookHit1 writes line entry ways = record { found = Hit1; ticks = 1; entry = cond writes (dirtyEntry line) entry; ways = ways }
 
--- a dirty line replaced adds 4 ticks
+-- putting another line in the place of a dirty one takes 4 ticks more
 abbrev pub replaceTicks : ℕ → ℕ
 replaceTicks entry = cond (isDirty entry) 4 0
 
--- L1 lacks the line: found in the L2 set, 10 ticks; not found, 100. The line is then the set's most recent, and replaces its L1 index.
+-- L1 lacks the line: 10 ticks where its L2 set has it, 100 where not. Either way it becomes the set's most recent, and takes its L1 index.
 unfoldable pub lookL2 : Bool → ℕ → ℕ → List ℕ → Look
 lookL2 writes line entry ways =
     record {
@@ -34,6 +34,7 @@ lookL2 writes line entry ways =
       ways = used (cleanEntry line) ways;
     }
 
+-- by whether L1 has the line
 unfoldable pub lookOf : Bool → ℕ → ℕ → List ℕ → Look
 lookOf writes line entry ways = cond (holdsLine entry line) (lookHit1 writes line entry ways) (lookL2 writes line entry ways)
 

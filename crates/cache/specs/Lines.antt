@@ -7,10 +7,11 @@ use lib.Dec.{eqb, ltb}
 abbrev pub setOf : ℕ → ℕ
 setOf line = line % 64
 
--- a set's colour is set / 4 rounded down, 0 to 15
+-- four sets in a row have one colour
 abbrev pub setColour : ℕ → ℕ
 setColour set = set / 4
 
+-- a line has the colour of its set
 abbrev pub colourOf : ℕ → ℕ
 colourOf line = setColour (setOf line)
 
@@ -49,9 +50,14 @@ entryFor writes line = cond writes (dirtyEntry line) (cleanEntry line)
 abbrev pub setPlace : ℕ → ℕ
 setPlace set = 16 + 4 * set
 
+-- each of the 64 sets has four ways
+abbrev pub setsCount : ℕ
+setsCount = 64
+
 abbrev pub waysOfSet : ℕ
 waysOfSet = 4
 
+-- 16 numbers of L1 and 64 × 4 of L2
 abbrev pub tableLength : ℕ
 tableLength = 272
 

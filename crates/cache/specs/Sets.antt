@@ -15,7 +15,7 @@ behind entry [] = []
 behind entry (way ∷ []) = []
 behind entry (way ∷ (next ∷ ways)) = elim (eqb way entry) [ true ↦ next ∷ ways | false ↦ way ∷ behind entry (next ∷ ways) ]
 
--- the set once a number was used: found, it moves to the front; not found, it goes in front and a full set drops its last
+-- the set once a number was used: that number first, then those that stay. Where the set lacked it, a full set loses its least recent.
 unfoldable pub used : ℕ → List ℕ → List ℕ
 used entry [] = []
 used entry (way ∷ ways) = entry ∷ behind entry (way ∷ ways)

@@ -1,4 +1,5 @@
--- What the code of an entry point answers, with the lent things at exit, stands for one record of the definitions. Assumes nothing.
+-- Document 01, "Window, switch, run": what the code of an entry point answers, with the lent things at exit, as one record of the definitions.
+-- Assumes nothing.
 use Prim.Native.Nat.{ℕ}
 use mathlib.Core.List.{List}
 use Rattle.state.specs.World.{World}
@@ -11,9 +12,11 @@ use Rattle.refusal.specs.declared.Verdict.{Verdict}
 use Rattle.engine.specs.FreshStart.{Fresh}
 use Rattle.engine.specs.Running.{Run}
 
+-- four things as one answer
 abbrev pub answered : Verdict → ℕ → Ending → World → Run
 answered verdict steps ending world = record { verdict = verdict; steps = steps; ending = ending; world = world }
 
+-- a run's answer, with the tables that are left beside it
 abbrev pub runWith : Progress → List ℕ → List ℕ → List ℕ → Run
 runWith progress cache boxes log =
     answered (progress .verdict) (progress .steps) (progress .ending) (worldWith (progress .state) cache boxes log)
@@ -23,5 +26,6 @@ abbrev pub stepWith : Answer → State → List ℕ → List ℕ → List ℕ �
 stepWith answer state cache boxes log =
     answered (answer .verdict) (answer .steps) (answer .ending) (worldWith state cache boxes log)
 
+-- a fresh start's answer, with the tables that are left beside it
 abbrev pub freshWith : Verdict → State → List ℕ → List ℕ → Fresh
 freshWith verdict state cache boxes = record { verdict = verdict; state = state; cache = cache; boxes = boxes }

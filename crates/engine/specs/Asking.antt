@@ -1,4 +1,4 @@
--- Document 01, "What a domain sees": one domain's records so far, called its log, are asked for by number. Assumes nothing.
+-- Document 01, "What a domain sees": asking for a domain's log, and why it is refused. Assumes nothing.
 use Prim.Native.Nat.{ℕ}
 use mathlib.Core.List.{List, []}
 use lib.ListN.{length}
@@ -11,7 +11,7 @@ use Rattle.refusal.specs.declared.Verdict.{Verdict}
 use Rattle.refusal.specs.declared.Verdict.the-variants.{Accepted, Refused}
 use Rattle.engine.specs.Checks.{logVerdict}
 
--- a refused asking hands back an empty part
+-- the bytes of the domain's log, none where the asking is refused
 abbrev pub logFrom : Verdict → Plan → State → List ℕ → ℕ → List ℕ
 logFrom Accepted plan state log domain = logPart (partRecords plan (length log)) domain (recordsAt state domain) log
 logFrom (Refused refusal) plan state log domain = []

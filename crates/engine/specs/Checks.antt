@@ -1,5 +1,5 @@
--- Document 01, "The plan text": the other entry points refuse with 11, 12, 13, 14, in this order, each only if the call takes that thing.
--- Assumes nothing.
+-- Document 01, "The plan text": the refusals of the entry points that work on a plan value: lengths, plan, tables, state, in the order of their
+-- numbers, each where the call takes that thing. Assumes nothing.
 use Prim.Native.Nat.{ℕ}
 use mathlib.Core.Bool.{Bool, true, false, _&&_}
 use mathlib.Core.List.{List}
@@ -36,7 +36,7 @@ unless false refusal rest = Refused refusal
 unfoldable pub stateVerdict : Plan → State → ℕ → Verdict
 stateVerdict plan state logLength = unless (statePossible plan (partRecords plan logLength) state) ImpossibleState Accepted
 
--- a fresh start takes plan, cache table and boxes, whatever they hold: 11 and 12
+-- a fresh start: 11 and 12. What state, cache table and boxes hold is not looked at, since it is overwritten.
 unfoldable pub freshVerdict : Plan → List ℕ → List ℕ → Verdict
 freshVerdict plan cache boxes = unless (tablesFit cache boxes) WrongLength (unless (planPossible plan) ImpossiblePlan Accepted)
 

@@ -1,4 +1,4 @@
--- Document 01, "Window, switch, run": a fresh start zeroes state, cache table and boxes. Assumes nothing.
+-- Document 01, "Window, switch, run": a fresh start. Assumes nothing.
 use Prim.Native.Nat.{ℕ}
 use mathlib.Core.List.{List}
 use lib.ListN.{replicate}
@@ -19,12 +19,13 @@ pub record Fresh : Type 0 where
   pub cache : List ℕ
   pub boxes : List ℕ
 
+-- where it is not refused, state, cache table and boxes are all zeros; a refused one leaves them
 abbrev pub freshFrom : Verdict → State → List ℕ → List ℕ → Fresh
 freshFrom Accepted state cache boxes =
     record { verdict = Accepted; state = freshState; cache = replicate tableLength 0; boxes = replicate boxesLength 0 }
 freshFrom (Refused refusal) state cache boxes = record { verdict = Refused refusal; state = state; cache = cache; boxes = boxes }
 
--- a fresh start; a refused one changes nothing
+-- a fresh start, for every input
 unfoldable pub freshStartOf : Plan → State → List ℕ → List ℕ → Fresh
 freshStartOf plan state cache boxes = freshFrom (freshVerdict plan cache boxes) state cache boxes
 

@@ -25,6 +25,7 @@ pub record Run : Type 0 where
 abbrev pub endingOf : Bool → Ending
 endingOf ended = cond ended Ended Stopped
 
+-- what a run answers that was not refused
 unfoldable pub ranFrom : Plan → Ran → Run
 ranFrom plan ran =
     record
@@ -39,7 +40,7 @@ runFrom (Refused refusal) plan scripts world limit = record { verdict = Refused 
 unfoldable pub runCallOf : Plan → List ℕ → World → ℕ → Run
 runCallOf plan scripts world limit = runFrom (runVerdict plan scripts world) plan scripts world limit
 
--- a single step answers as running with limit 1
+-- a single step is a run whose limit is one step
 unfoldable pub stepCallOf : Plan → List ℕ → World → Run
 stepCallOf plan scripts world = runCallOf plan scripts world 1
 

@@ -16,7 +16,8 @@ use Rattle.state.specs.declared.State.{State}
 use Rattle.state.specs.World.{World, endedOf, positionAt, recordsAt, runningOf}
 use Rattle.machine.specs.Switch.{switchOf}
 
--- one op of a domain: the next position, one record more, the clock after the op, and what the op leaves
+-- one op of a domain: the next position, one record more, the clock after the op, and what the op leaves. Here and below, `quota` is the number of
+-- records that each domain's part of the log holds.
 unfoldable pub opStepOf : Plan → ℕ → ℕ → Op → World → World
 opStepOf plan quota domain op world =
     let effect = effectOf plan domain op (world .cache) (world .boxes) in
@@ -48,8 +49,7 @@ fetchedStep plan quota End world = switchOf plan world
 abbrev pub nextOf : Plan → List ℕ → State → Fetched
 nextOf plan scripts state = fetchOf scripts (runningOf plan state) (positionAt state (runningOf plan state))
 
--- a step of a run that has not ended: one op or one switch. A switch is taken when the clock has reached the window's end, or the script has
--- ended, or the domain's log is full.
+-- a step of a run that has not ended: the next op of the running domain where one may begin, otherwise a switch
 unfoldable pub activeStep : Plan → List ℕ → ℕ → World → World
 activeStep plan scripts quota world =
     elim (closedOf plan quota (world .state)) [
@@ -57,7 +57,7 @@ activeStep plan scripts quota world =
       | false ↦ fetchedStep plan quota (nextOf plan scripts (world .state)) world
     ]
 
--- one step; an ended run stays as it is. `quota` is the number of records that each domain's part of the log holds.
+-- one step; an ended run stays as it is
 unfoldable pub stepOf : Plan → List ℕ → ℕ → World → World
 stepOf plan scripts quota world =
     elim (endedOf plan (world .state)) [ true ↦ world | false ↦ activeStep plan scripts quota world ]
@@ -72,10 +72,11 @@ pub record Ran : Type 0 where
   pub done : ℕ
   pub world : World
 
+-- one step more was done before these
 abbrev pub oneMore : Ran → Ran
 oneMore ran = record { done = ran .done + 1; world = ran .world }
 
--- running takes a number of steps as its limit, and stops before it where the run ends
+-- a run does as many steps as its limit allows, fewer only where it comes to its end
 unfoldable pub runOf : Plan → List ℕ → ℕ → ℕ → World → Ran
 runOf plan scripts quota zero world = record { done = 0; world = world }
 runOf plan scripts quota (suc limit) world =

@@ -12,7 +12,7 @@ unfoldable pub flushedClock : Plan → State → List ℕ → ℕ
 flushedClock plan state cache =
     max (state .clock) (endOf plan (state .windows)) + kernelFlushTicks cache + l1FlushTicks (kernelFlushed cache)
 
--- pad to window start + length + pad
+-- the pad: the clock waits until the pad is over, which is counted from the window's end
 unfoldable pub paddedClock : Plan → ℕ → ℕ → ℕ
 paddedClock plan window clock = max clock (endOf plan window + plan .pad)
 

@@ -1,4 +1,5 @@
--- What the code of a run is handed of a plan and a world, and what it answers beside the lent things. Assumes nothing.
+-- Document 01, "Window, switch, run": what the code of a run is handed of a plan and a world, and what it answers beside the lent things.
+-- Assumes nothing.
 use Prim.Native.Nat.{ℕ, _<_}
 use mathlib.Core.Path.{_≡_}
 use mathlib.Core.List.{List}

@@ -27,17 +27,19 @@ pub record Effect : Type 0 where
 unfoldable pub ownsLine : Plan → ℕ → ℕ → Bool
 ownsLine plan domain line = cond (ltb 4_095 line) false (ownsColour plan domain (colourOf line))
 
--- the line that every send and receive reads, and the line of the box from one domain to another
+-- the line that every send and receive reads first, whatever its rights
 abbrev pub gateLine : ℕ
 gateLine = 60
 
+-- a sender has eight boxes in a row, one for each recipient
 abbrev pub boxPlace : ℕ → ℕ → ℕ
 boxPlace sender recipient = 8 * sender + recipient
 
+-- each box has a line of the kernel's own
 abbrev pub boxLine : ℕ → ℕ → ℕ
 boxLine sender recipient = 61 + 64 * boxPlace sender recipient
 
--- the number of numbers of the boxes: from a to b at 8a + b
+-- how many boxes there are: eight senders by eight recipients
 abbrev pub boxesLength : ℕ
 boxesLength = 64
 
@@ -59,11 +61,11 @@ touchOf plan domain writes line cache boxes =
     (record { ticks = access .ticks; seen = seenOf (access .found) line; cache = access .table; boxes = boxes })
     (record { ticks = 5; seen = Barred line; cache = cache; boxes = boxes })
 
--- a send or a receive that the rights do not allow: 5 ticks and a read access to line 60
+-- a send or a receive that the rights do not allow: 5 ticks on top of the look at the gate, and no more
 unfoldable pub deniedOf : ℕ → Accessed → List ℕ → Effect
 deniedOf other gate boxes = record { ticks = 5 + gate .ticks; seen = Denied other; cache = gate .table; boxes = boxes }
 
--- one that they allow: a write access to the box's line besides
+-- one that they allow also writes the line of its box
 unfoldable pub passedOf : Seen → ℕ → Accessed → List ℕ → Effect
 passedOf seen line gate boxes =
     let access = accessOf true line (gate .table) in

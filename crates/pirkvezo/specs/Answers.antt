@@ -1,4 +1,5 @@
--- The four numbers of an answer, and what a call does that was lent a plan, a state or an answer of another length. Assumes nothing.
+-- The four numbers of an answer: document 01's returned number and companion ("The plan text"), and two of the call's own; and the check of the
+-- lengths of what a host lends. Assumes nothing.
 use Prim.Native.Nat.{ℕ}
 use mathlib.Core.Bool.{Bool, cond, _&&_}
 use mathlib.Core.List.{List, [], _∷_}
@@ -32,9 +33,10 @@ answerOf verdict third fourth answer =
 abbrev pub wrongLength : Verdict
 wrongLength = Refused WrongLength
 
--- what each call asks of the lengths, before all else
+-- the lengths that reading asks for, before all else
 abbrev pub planFits : List ℕ → List ℕ → Bool
 planFits plan answer = eqb (length plan) planLength && eqb (length answer) answerLength
 
+-- and those that the other calls ask for
 abbrev pub allFit : List ℕ → List ℕ → List ℕ → Bool
 allFit plan state answer = eqb (length plan) planLength && (eqb (length state) stateLength && eqb (length answer) answerLength)

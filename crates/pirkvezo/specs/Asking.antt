@@ -1,4 +1,5 @@
--- `pirkvezo_log`: what it returns and leaves, for every input. Assumes nothing.
+-- `pirkvezo_log`: document 01's asking for a log and the second question about it, in numbers: what it returns and leaves, for every input.
+-- Assumes nothing.
 use Prim.Native.Nat.{ℕ}
 use mathlib.Core.Bool.{true, false}
 use mathlib.Core.List.{List}
@@ -13,6 +14,7 @@ use Rattle.pirkvezo.specs.declared.Asked.{Asked}
 use Rattle.pirkvezo.specs.Answers.{allFit, answerOf, numberOf, wrongLength}
 use Rattle.pirkvezo.specs.Numbers.{planOf, stateOf}
 
+-- the number returned, and the lent answer at exit
 pub record LogCall : Type 0 where
   pub number : ℕ
   pub answer : List ℕ
@@ -39,6 +41,7 @@ askedOf plan state log domain =
 unfoldable pub logDone : Asked → List ℕ → LogCall
 logDone asked answer = logWith (numberOf (asked .verdict)) (answerOf (asked .verdict) (asked .place) (asked .length) answer)
 
+-- the call: lengths first, then what the entry point does
 unfoldable pub hostLog : List ℕ → List ℕ → List ℕ → ℕ → List ℕ → LogCall
 hostLog plan state log domain answer =
     elim (allFit plan state answer) [

@@ -1,4 +1,4 @@
--- A plan and a state as the numbers that a host lends. Assumes nothing.
+-- A plan (document 01, "The plan text") and a state ("Window, switch, run") as the numbers that a host lends. Assumes nothing.
 use Prim.Native.Nat.{ℕ, zero, suc, _+_}
 use mathlib.Core.Bool.{Bool, cond}
 use mathlib.Core.List.{List, [], _∷_, _++_}

@@ -1,4 +1,4 @@
--- `pirkvezo_read_plan`: what it returns and leaves, for every input. Assumes nothing.
+-- `pirkvezo_read_plan`: document 01's reading of "The plan text", in numbers: what it returns and leaves, for every input. Assumes nothing.
 use Prim.Native.Nat.{ℕ}
 use mathlib.Core.Bool.{true, false}
 use mathlib.Core.List.{List}
@@ -6,6 +6,7 @@ use Rattle.reader.specs.Read.{Read, readOf}
 use Rattle.pirkvezo.specs.Answers.{answerOf, numberOf, planFits, wrongLength}
 use Rattle.pirkvezo.specs.Numbers.{planNumbers}
 
+-- the number returned, and the lent things at exit
 pub record ReadCall : Type 0 where
   pub number : ℕ
   pub scripts : List ℕ
@@ -21,6 +22,7 @@ unfoldable pub readDone : Read → List ℕ → ReadCall
 readDone read answer =
     readWith (numberOf (read .verdict)) (read .scripts) (planNumbers (read .plan)) (answerOf (read .verdict) 0 0 answer)
 
+-- the call: lengths first, then what the entry point does
 unfoldable pub hostRead : List ℕ → List ℕ → List ℕ → List ℕ → ReadCall
 hostRead text scripts plan answer =
     elim (planFits plan answer) [

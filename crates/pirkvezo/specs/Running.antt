@@ -1,4 +1,5 @@
--- `pirkvezo_run` and `pirkvezo_step`: what they return and leave, for every input. Assumes nothing.
+-- `pirkvezo_run` and `pirkvezo_step`: running and the single step of document 01, "Window, switch, run", in numbers: what they return and leave,
+-- for every input. Assumes nothing.
 use Prim.Native.Nat.{ℕ}
 use mathlib.Core.Bool.{true, false}
 use mathlib.Core.List.{List}
@@ -7,6 +8,7 @@ use Rattle.machine.specs.View.{worldWith}
 use Rattle.pirkvezo.specs.Answers.{allFit, answerOf, numberOf, wrongLength}
 use Rattle.pirkvezo.specs.Numbers.{planOf, stateNumbers, stateOf}
 
+-- the number returned, and the lent things at exit
 pub record RunCall : Type 0 where
   pub number : ℕ
   pub state : List ℕ
@@ -26,6 +28,7 @@ runDone run answer =
     runWith (numberOf (run .verdict)) (stateNumbers (run .world .state)) (run .world .cache) (run .world .boxes) (run .world .log)
     (answerOf (run .verdict) (run .steps) (endingNumber (run .ending)) answer)
 
+-- running with a limit: lengths first, then what the entry point does
 unfoldable pub hostRun : List ℕ → List ℕ → List ℕ → List ℕ → List ℕ → List ℕ → ℕ → List ℕ → RunCall
 hostRun plan scripts state cache boxes log limit answer =
     elim (allFit plan state answer) [
@@ -33,6 +36,7 @@ hostRun plan scripts state cache boxes log limit answer =
       | true ↦ runDone (runCallOf (planOf plan) scripts (worldWith (stateOf state) cache boxes log) limit) answer
     ]
 
+-- a single step likewise
 unfoldable pub hostStep : List ℕ → List ℕ → List ℕ → List ℕ → List ℕ → List ℕ → List ℕ → RunCall
 hostStep plan scripts state cache boxes log answer =
     elim (allFit plan state answer) [

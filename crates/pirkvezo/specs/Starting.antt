@@ -1,4 +1,5 @@
--- `pirkvezo_fresh_start`: what it returns and leaves, for every input. Assumes nothing.
+-- `pirkvezo_fresh_start`: document 01's fresh start ("Window, switch, run"), in numbers: what it returns and leaves, for every input.
+-- Assumes nothing.
 use Prim.Native.Nat.{ℕ}
 use mathlib.Core.Bool.{true, false}
 use mathlib.Core.List.{List}
@@ -6,6 +7,7 @@ use Rattle.engine.specs.FreshStart.{Fresh, freshStartOf}
 use Rattle.pirkvezo.specs.Answers.{allFit, answerOf, numberOf, wrongLength}
 use Rattle.pirkvezo.specs.Numbers.{planOf, stateNumbers, stateOf}
 
+-- the number returned, and the lent things at exit
 pub record FreshCall : Type 0 where
   pub number : ℕ
   pub state : List ℕ
@@ -17,10 +19,12 @@ pub record FreshCall : Type 0 where
 abbrev pub freshWith : ℕ → List ℕ → List ℕ → List ℕ → List ℕ → FreshCall
 freshWith number state cache boxes answer = record { number = number; state = state; cache = cache; boxes = boxes; answer = answer }
 
+-- what the entry point answers and leaves, in numbers
 unfoldable pub freshDone : Fresh → List ℕ → FreshCall
 freshDone fresh answer =
     freshWith (numberOf (fresh .verdict)) (stateNumbers (fresh .state)) (fresh .cache) (fresh .boxes) (answerOf (fresh .verdict) 0 0 answer)
 
+-- the call: lengths first, then what the entry point does
 unfoldable pub hostFreshStart : List ℕ → List ℕ → List ℕ → List ℕ → List ℕ → FreshCall
 hostFreshStart plan state cache boxes answer =
     elim (allFit plan state answer) [

@@ -1,4 +1,4 @@
-// The 18 numbers of a state: windows completed, clock, eight script positions, eight record counts.
+// A state as 18 numbers: how many windows are over and what the clock shows, then each domain's place in its script, then its number of records.
 use state::State;
 ghost use mathlib.Core.Path.{_≡_};
 ghost use Prim.Native.Nat.{_+_, _≤_};

@@ -3,19 +3,12 @@ use libc::STDIN_FILENO;
 use libc::STDOUT_FILENO;
 use report::program::plan_lines;
 
-// Writes the first bytes of a buffer.
-fn print_first(bytes: &[u8], count: usize) {
-    if count <= bytes.len() {
-        io::write_all(STDOUT_FILENO, &bytes[..count]);
-    }
-}
-
 fn main() {
     // one byte more than a plan may have: whatever follows it, the text is too long
     let mut text = [0u8; 32_769];
     let length = io::read_full(STDIN_FILENO, &mut text);
-    // room for 2,048 records of at most 35 bytes each, and the last line
-    let mut out = [0u8; 73_728];
+    // all that is printed for any text has room here, so that every line of it is written
+    let mut out = [0u8; 163_888];
     let written = plan_lines(&text[..length], &mut out);
-    print_first(&out, written);
+    io::write_all(STDOUT_FILENO, &out[..written]);
 }

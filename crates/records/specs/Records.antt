@@ -8,7 +8,7 @@ use Rattle.plan.specs.declared.Plan.{Plan}
 use Rattle.records.specs.declared.Seen.{Seen}
 use Rattle.records.specs.declared.Seen.the-variants.{Hit1, Hit2, Miss, Sent, Got, Empty, Denied, Ran, Barred}
 
--- kinds 1 to 9: hit1, hit2, miss, sent, got, empty, denied, ran, barred
+-- each kind of record has a number, 1 to 9
 abbrev pub kindOf : Seen → ℕ
 kindOf (Hit1 line) = 1
 kindOf (Hit2 line) = 2
@@ -20,7 +20,7 @@ kindOf (Denied other) = 7
 kindOf (Ran ticks) = 8
 kindOf (Barred line) = 9
 
--- the value: the n of a read or write; b for sent; w for got; the other domain for empty and denied; t for ran
+-- a record's value: the line that was asked for, the recipient, the word, the other domain of an empty box or of a denied op, or the ticks
 abbrev pub valueOf : Seen → ℕ
 valueOf (Hit1 line) = line
 valueOf (Hit2 line) = line
@@ -36,7 +36,7 @@ valueOf (Barred line) = line
 abbrev pub byteOf : ℕ → ℕ → ℕ
 byteOf unit number = number / unit % 256
 
--- a record's eight bytes: kind (u8), 0, value (u16), clock after the op (u32), little end first
+-- a record's eight bytes: one for the kind, one that is 0, two for the value, four for the clock once the op is done; low bytes come first
 unfoldable pub recordBytes : Seen → ℕ → List ℕ
 recordBytes seen clock =
     kindOf seen
@@ -49,10 +49,11 @@ recordBytes seen clock =
     ∷ byteOf 16_777_216 clock
     ∷ []
 
+-- how many bytes a record has
 abbrev pub recordSize : ℕ
 recordSize = 8
 
--- each domain's part holds length / (8 × domains) records, rounded down
+-- the log is divided evenly among the declared domains: the whole records that each part has room for
 unfoldable pub partRecords : Plan → ℕ → ℕ
 partRecords plan logLength = logLength / (recordSize * plan .domains)
 
@@ -64,6 +65,6 @@ recordPlace quota domain number = recordSize * (quota * domain + number)
 unfoldable pub stored : ℕ → ℕ → ℕ → Seen → ℕ → List ℕ → List ℕ
 stored quota domain number seen clock log = sets log (recordPlace quota domain number) (recordBytes seen clock)
 
--- one domain's records so far, called its log: the bytes of its first records
+-- a domain's own log: the bytes of the records that it has so far, from the start of its part
 unfoldable pub logPart : ℕ → ℕ → ℕ → List ℕ → List ℕ
 logPart quota domain count log = part (recordPlace quota domain 0) (recordSize * count) log

@@ -1,5 +1,6 @@
 -- The laws on the printed lines.
 pub mod Ending
+pub mod Length
 pub mod Limits
 pub mod Places
 pub mod Planned

@@ -1,8 +1,8 @@
 -- Where the records lie: within their parts, and the parts within the log. Assumes nothing.
-use Prim.Native.Nat.{ℕ, _+_, _*_, _/_, _≤_, _<_}
+use Prim.Native.Nat.{ℕ, _+_, _*_, _≤_, _<_}
 use mathlib.Core.Path.{_≡_}
 use mathlib.Core.Bool.{true, _&&_}
-use native.Mathlib.Nat.{div-mul-le-self, mul-le-mul-left, mul-left-comm, mul-suc}
+use native.Mathlib.Nat.{mul-le-mul-left, mul-suc}
 use native.Mathlib.Omega.{arith}
 use lib.Dec.{leb}
 use borrow.Author.Tests.{leb-true, lt-ltb}
@@ -11,6 +11,7 @@ use Rattle.plan.specs.Sums.{allBelow}
 use Rattle.plan.proofs.Possible.{both}
 use Rattle.plan.proofs.Sums.{all-below}
 use Rattle.records.specs.Records.{partRecords, recordPlace}
+use Rattle.records.proofs.Parts.{parts-fit}
 use Rattle.state.specs.declared.State.{State}
 use Rattle.state.specs.Impossible.{clockPossible, countsPossible, statePossible}
 use Rattle.state.specs.World.{positionAt, recordsAt}
@@ -22,11 +23,7 @@ part-ends quota domain domains below =
 
 -- the parts of all declared domains lie within the log
 pub parts-within : (plan : Plan) (long : ℕ) → recordPlace (partRecords plan long) (plan .domains) 0 ≤ long
-unfolding partRecords
-parts-within plan long =
-    let quota = long / (8 * plan .domains) in
-    let scaled : 8 * (quota * plan .domains) ≤ long = rw (mul-left-comm quota 8 (plan .domains)) at (div-mul-le-self long (8 * plan .domains)) in
-    omega arith
+parts-within plan long = omega (arith, parts-fit plan long)
 
 -- in a possible state no declared domain has more records than its part holds
 pub records-within :

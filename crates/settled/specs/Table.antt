@@ -40,11 +40,11 @@ fullRun = sameBytes (planrunOf (padded "(pad 276)\n")) (bytesOf output)
 unfoldable pub shares : Bool
 shares = eqb (coloursOf 66) 0 && eqb (coloursOf 67) 1 && eqb (coloursOf 300) 4
 
--- ---- 3: line 100 is set 36, colour 9, index 4
+-- ---- 3: where line 100 lies
 unfoldable pub lineHundred : Bool
 lineHundred = eqb (setOf 100) 36 && eqb (colourOf 100) 9 && eqb (indexOf 100) 4
 
--- ---- 4: box 0 to 1 is line 125, 7 to 6 is 4,029
+-- ---- 4: the lines of two boxes
 unfoldable pub boxLines : Bool
 boxLines = eqb (boxLine 0 1) 125 && eqb (boxLine 7 6) 4_029
 
@@ -67,7 +67,7 @@ dirtyTo (suc count) = sets (dirtyTo count) count (dirtyEntry count ∷ [])
 unfoldable pub flushes : Bool
 flushes = eqb (l1FlushTicks emptyTable) 8 && eqb (l1FlushTicks (dirtyTo 16)) 40
 
--- ---- 7: reads of 0, 64, 128, 192, 256 from empty all miss and leave set 0 as 256, 192, 128, 64; 8: then 64 is hit2
+-- ---- 7: five reads of one set, which has room for four lines; 8: the second of them again
 abbrev pub isMiss : Found → Bool
 isMiss Hit1 = false
 isMiss Hit2 = false

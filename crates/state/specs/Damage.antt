@@ -9,7 +9,7 @@ use Rattle.plan.specs.declared.Plan.{Plan}
 use Rattle.plan.specs.Colours.{ownsColour}
 use Rattle.plan.specs.Rights.{maySend}
 use Rattle.plan.specs.Sums.{allBelow}
-use Rattle.cache.specs.Lines.{colourOf, indexOf, kernelColour, setOf, setPlace, waysOfSet}
+use Rattle.cache.specs.Lines.{colourOf, indexOf, indexes, kernelColour, setOf, setPlace, setsCount, waysOfSet}
 use Rattle.cache.specs.Sets.{has}
 use Rattle.state.specs.declared.State.{State}
 use Rattle.state.specs.World.{endedOf, runningOf}
@@ -18,6 +18,7 @@ use Rattle.state.specs.World.{endedOf, runningOf}
 abbrev pub standsForLine : ℕ → Bool
 standsForLine entry = leb 1 entry && leb entry 4_096
 
+-- that line
 abbrev pub lineOf : ℕ → ℕ
 lineOf entry = entry - 1
 
@@ -52,10 +53,11 @@ waysSound set (way ∷ ways) =
     cond (eqb way 0) (allEmpty ways)
     (standsForLine way && eqb (setOf (lineOf way)) set && not (has way ways) && waysSound set ways)
 
+-- a set of the table, by its four ways
 unfoldable pub setSound : List ℕ → ℕ → Bool
 setSound cache set = waysSound set (part (setPlace set) waysOfSet cache)
 
--- a box, from a to b at 8a + b, is empty, or holds a word of at most 65,535 where a has the right to send to b
+-- a box is empty, or holds a word of at most 65,535 that its sender had the right to send
 unfoldable pub boxSound : Plan → List ℕ → ℕ → Bool
 boxSound plan boxes place =
     let box = getD boxes place 0 in
@@ -64,4 +66,4 @@ boxSound plan boxes place =
 -- the check for 13: nothing but these clauses counts
 unfoldable pub tablesSound : Plan → State → List ℕ → List ℕ → Bool
 tablesSound plan state cache boxes =
-    allBelow (l1EntrySound plan state cache) 16 && allBelow (setSound cache) 64 && allBelow (boxSound plan boxes) 64
+    allBelow (l1EntrySound plan state cache) indexes && allBelow (setSound cache) setsCount && allBelow (boxSound plan boxes) 64

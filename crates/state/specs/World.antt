@@ -30,6 +30,6 @@ runningOf plan state = ownerOf plan (state .windows)
 unfoldable pub endedOf : Plan → State → Bool
 endedOf plan state = leb (windowsTotal plan) (state .windows)
 
--- a fresh start zeroes the state, the cache table and the boxes
+-- the state of a fresh start
 unfoldable pub freshState : State
 freshState = record { windows = 0; clock = 0; positions = replicate 8 0; records = replicate 8 0 }
