@@ -16,7 +16,7 @@ use Rattle.engine.specs.FreshStart.{freshWorld}
 use Rattle.isolation.specs.Calls.{CallList, IsList, leavesOf, pointOf}
 use Rattle.isolation.specs.Points.{worldAfter}
 use Rattle.isolation.specs.Statement.{Comparable, Isolation, SameSeen, SameSets, runOfList}
-use Rattle.isolation.proofs.OneRun.{asked, leaves, on-time}
+use Rattle.isolation.proofs.OneRun.{asked, leaves, on-time, own-accepted, own-refused, refused-stays, split}
 use Rattle.isolation.proofs.OneRun.Leaves.{list-possible}
 use Rattle.isolation.proofs.TwoRuns.{Same, two-runs}
 
@@ -92,4 +92,13 @@ module _ (observer : ℕ) (one other : CallList) (is : IsList one) (is′ : IsLi
       }
 
 pub isolation : Isolation
-isolation = record { leaves = leaves; onTime = on-time; isolated = isolated }
+isolation =
+    record {
+      leaves = leaves;
+      accepted = own-accepted;
+      refused = own-refused;
+      unchanged = λ list is call. refused-stays (list .plan) (list .scripts) call (leavesOf list);
+      split = split;
+      onTime = on-time;
+      isolated = isolated;
+    }

@@ -3,8 +3,10 @@ pub mod Accepted
 pub mod Calls
 pub mod Leaves
 pub mod OnTime
+pub mod Split
 pub mod Verdicts
-pub use Accepted.{asked, own-accepted, own-run-refused, own-step-refused}
+pub use Accepted.{asked, own-accepted, own-refused}
 pub use Calls.{refused-stays}
 pub use Leaves.{leaves}
 pub use OnTime.{on-time}
+pub use Split.{split}

@@ -1,8 +1,7 @@
 -- Demand 3 of accepted plans, from demand 3 of plans that pass the check: a plan that some text gives passes it, so its fresh start is not refused.
 -- Assumes nothing.
-use mathlib.Core.Path.{_≡_, refl, ap, _∙_}
-use mathlib.Core.Bool.{Bool, false, true}
-use Prim.Native.Nat.{ℕ}
+use mathlib.Core.Path.{_≡_, refl, ap}
+use mathlib.Core.Bool.{true}
 use borrow.Author.Tests.{eq-eqb}
 use Rattle.plan.specs.Possible.{planPossible}
 use Rattle.refusal.specs.declared.Verdict.{Verdict}

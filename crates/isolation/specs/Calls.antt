@@ -1,17 +1,19 @@
 -- Document 01, "Two lists of calls": a list of calls after a fresh start, what each call was handed, and what it answers and leaves, read off the
 -- definitions that the entry points' contracts cite. Assumes nothing.
-use Prim.Native.Nat.{ℕ, _+_}
+use Prim.Native.Nat.{ℕ, _+_, _<_}
 use mathlib.Core.Bool.{Bool, true, false, cond, not}
 use mathlib.Core.List.{List, [], _∷_}
 use mathlib.Core.Logic.{_⊎_}
 use mathlib.Core.Path.{_≡_}
 use lib.Dec.{eqb}
+use lib.ListN.{length}
 use Rattle.plan.specs.declared.Plan.{Plan}
 use Rattle.state.specs.declared.State.{State}
 use Rattle.state.specs.World.{World}
 use Rattle.refusal.specs.declared.Verdict.{Verdict}
 use Rattle.refusal.specs.Code.{codeOf}
 use Rattle.engine.specs.Asking.{logRefusalOf}
+use Rattle.engine.specs.Checks.{scriptsLength}
 use Rattle.engine.specs.FreshStart.{freshStartOf, freshWorld}
 use Rattle.engine.specs.Running.{Run, runCallOf, stepCallOf}
 
@@ -71,17 +73,61 @@ pub record CallList : Type 0 where
 abbrev pub isRefused : Verdict → Bool
 isRefused verdict = not (eqb (codeOf verdict .number) 0)
 
-module _ (plan : Plan) (scripts : List ℕ) where
-  -- the world that a step or a run was handed, beside the list's own
-  abbrev pub handedWorld : RunThings → World → World
-  handedWorld things world =
-      record {
-        state = handed (things .state) (world .state);
-        cache = handed (things .cache) (world .cache);
-        boxes = handed (things .boxes) (world .boxes);
-        log = handed (things .log) (world .log);
-      }
+-- the world that a step or a run was handed, beside the list's own
+abbrev pub handedWorld : RunThings → World → World
+handedWorld things world =
+    record {
+      state = handed (things .state) (world .state);
+      cache = handed (things .cache) (world .cache);
+      boxes = handed (things .boxes) (world .boxes);
+      log = handed (things .log) (world .log);
+    }
 
+-- the list's own world after a step or a run: what it was handed of its own is as that call left it
+abbrev pub leftWorld : RunThings → World → World → World
+leftWorld things world left =
+    record {
+      state = leftIn (things .state) (world .state) (left .state);
+      cache = leftIn (things .cache) (world .cache) (left .cache);
+      boxes = leftIn (things .boxes) (world .boxes) (left .boxes);
+      log = leftIn (things .log) (world .log) (left .log);
+    }
+
+-- how many steps a call asks for: one for a single step, a running's limit; none where it is refused
+abbrev pub stepsAsked : Call → ℕ
+stepsAsked (stepCall things) = 1
+stepsAsked (runCall things limit) = limit
+stepsAsked (logCall things domain) = 0
+stepsAsked (logQuestion things domain) = 0
+
+-- every thing that a call was handed is the list's own
+abbrev pub AllOwn : Call → Type 0
+AllOwn (stepCall things) =
+    IsOwn (things .plan)
+    × IsOwn (things .scripts)
+    × IsOwn (things .state)
+    × IsOwn (things .cache)
+    × IsOwn (things .boxes)
+    × IsOwn (things .log)
+AllOwn (runCall things limit) =
+    IsOwn (things .plan)
+    × IsOwn (things .scripts)
+    × IsOwn (things .state)
+    × IsOwn (things .cache)
+    × IsOwn (things .boxes)
+    × IsOwn (things .log)
+AllOwn (logCall things domain) = IsOwn (things .plan) × IsOwn (things .state) × IsOwn (things .log)
+AllOwn (logQuestion things domain) = IsOwn (things .plan) × IsOwn (things .state) × IsOwn (things .log)
+
+-- what a call on the list's own things must still bring, not to be refused: a single step and a running want a script store of 2,048 numbers, an
+-- asking and its second question the number of a declared domain
+abbrev pub Admissible : Plan → List ℕ → Call → Type 0
+Admissible plan scripts (stepCall things) = length scripts ≡ scriptsLength
+Admissible plan scripts (runCall things limit) = length scripts ≡ scriptsLength
+Admissible plan scripts (logCall things domain) = domain < plan .domains
+Admissible plan scripts (logQuestion things domain) = domain < plan .domains
+
+module _ (plan : Plan) (scripts : List ℕ) where
   -- what the entry points answer, by their contracts' definitions
   unfoldable pub runAnswer : RunThings → ℕ → World → Run
   runAnswer things limit world = runCallOf (handed (things .plan) plan) (handed (things .scripts) scripts) (handedWorld things world) limit
@@ -92,16 +138,6 @@ module _ (plan : Plan) (scripts : List ℕ) where
   unfoldable pub logAnswer : LogThings → ℕ → World → Verdict
   logAnswer things domain world =
       logRefusalOf (handed (things .plan) plan) (handed (things .state) (world .state)) (handed (things .log) (world .log)) domain
-
-  -- the list's own world after a step or a run: what it was handed of its own is as that call left it
-  abbrev pub leftWorld : RunThings → World → World → World
-  leftWorld things world left =
-      record {
-        state = leftIn (things .state) (world .state) (left .state);
-        cache = leftIn (things .cache) (world .cache) (left .cache);
-        boxes = leftIn (things .boxes) (world .boxes) (left .boxes);
-        log = leftIn (things .log) (world .log) (left .log);
-      }
 
   -- the list's own world after a call; the askings leave everything
   unfoldable pub afterCall : Call → World → World
@@ -118,13 +154,6 @@ module _ (plan : Plan) (scripts : List ℕ) where
   verdictOf (logCall things domain) world = logAnswer things domain world
   verdictOf (logQuestion things domain) world = logAnswer things domain world
 
-  -- how many steps a call asks for: one for a single step, a running's limit; none where it is refused
-  abbrev pub stepsAsked : Call → ℕ
-  stepsAsked (stepCall things) = 1
-  stepsAsked (runCall things limit) = limit
-  stepsAsked (logCall things domain) = 0
-  stepsAsked (logQuestion things domain) = 0
-
   unfoldable pub stepsCounted : Call → World → ℕ
   stepsCounted call world = cond (isRefused (verdictOf call world)) 0 (stepsAsked call)
 
@@ -136,25 +165,6 @@ module _ (plan : Plan) (scripts : List ℕ) where
   unfoldable pub stepsOfCalls : List Call → World → ℕ
   stepsOfCalls [] world = 0
   stepsOfCalls (call ∷ calls) world = stepsCounted call world + stepsOfCalls calls (afterCall call world)
-
-  -- every thing that a call was handed is the list's own
-  abbrev pub AllOwn : Call → Type 0
-  AllOwn (stepCall things) =
-      IsOwn (things .plan)
-      × IsOwn (things .scripts)
-      × IsOwn (things .state)
-      × IsOwn (things .cache)
-      × IsOwn (things .boxes)
-      × IsOwn (things .log)
-  AllOwn (runCall things limit) =
-      IsOwn (things .plan)
-      × IsOwn (things .scripts)
-      × IsOwn (things .state)
-      × IsOwn (things .cache)
-      × IsOwn (things .boxes)
-      × IsOwn (things .log)
-  AllOwn (logCall things domain) = IsOwn (things .plan) × IsOwn (things .state) × IsOwn (things .log)
-  AllOwn (logQuestion things domain) = IsOwn (things .plan) × IsOwn (things .state) × IsOwn (things .log)
 
   -- each call gets the list's own things as the last one left them; a refused call may have been handed anything else
   unfoldable pub Proper : List Call → World → Type 0
@@ -178,3 +188,14 @@ leavesOf list = afterCalls (list .plan) (list .scripts) (list .calls) (startWorl
 -- the number of steps of a list's run: as many as its unrefused single steps and the limits of its unrefused runnings add up to
 abbrev pub pointOf : CallList → ℕ
 pointOf list = stepsOfCalls (list .plan) (list .scripts) (list .calls) (startWorld list)
+
+-- the verdict on one more call after a list
+abbrev pub verdictAfter : CallList → Call → Verdict
+verdictAfter list call = verdictOf (list .plan) (list .scripts) call (leavesOf list)
+
+-- two runnings, one after the other, as one answer: the steps that both did, and for the rest what the second answered and left
+unfoldable pub runTwice : Plan → List ℕ → World → ℕ → ℕ → Run
+runTwice plan scripts world first second =
+    let one = runCallOf plan scripts world first in
+    let two = runCallOf plan scripts (one .world) second in
+    record { verdict = two .verdict; steps = one .steps + two .steps; ending = two .ending; world = two .world }

@@ -9,10 +9,11 @@ use Rattle.plan.specs.declared.Plan.{Plan}
 use Rattle.plan.specs.Colours.{ownsColour}
 use Rattle.plan.specs.Windows.{ownerOf, startOf, windowsTotal}
 use Rattle.cache.specs.Lines.{setColour, setPlace}
-use Rattle.state.specs.World.{World, positionAt}
+use Rattle.state.specs.World.{positionAt}
 use Rattle.refusal.specs.declared.Verdict.the-variants.{Accepted}
 use Rattle.engine.specs.Asking.{logCallOf, logRefusalOf}
-use Rattle.isolation.specs.Calls.{CallList, IsList, leavesOf, pointOf}
+use Rattle.engine.specs.Running.{runCallOf}
+use Rattle.isolation.specs.Calls.{Admissible, AllOwn, Call, CallList, IsList, afterCall, isRefused, leavesOf, pointOf, runTwice, verdictAfter}
 use Rattle.isolation.specs.Points.{Run, SameBoxesTo, Starts, Within, opsOf, windowsAfter, worldAfter}
 
 -- the run of a list
@@ -111,6 +112,30 @@ pub record SameSeen (observer : ℕ) (one other : CallList) : Type 0 where
 pub record Isolation : Type 0 where
   -- what a list leaves is so many steps of its fresh start
   pub leaves : (list : CallList) → IsList list → leavesOf list ≡ worldAfter (runOfList list) (pointOf list)
+  -- one more call, on the list's own things: if it is admissible it is not refused
+  pub accepted :
+      (list : CallList) → IsList list → (call : Call) → AllOwn call → Admissible (list .plan) (list .scripts) call → verdictAfter list call ≡ Accepted
+  -- and else it is
+  pub refused :
+      (list : CallList)
+      → IsList list
+      → (call : Call)
+      → AllOwn call
+      → (Admissible (list .plan) (list .scripts) call → ⊥)
+      → isRefused (verdictAfter list call) ≡ true
+  -- a refused call, whatever it was handed, leaves the list's own world as it was
+  pub unchanged :
+      (list : CallList)
+      → IsList list
+      → (call : Call)
+      → isRefused (verdictAfter list call) ≡ true
+      → afterCall (list .plan) (list .scripts) call (leavesOf list) ≡ leavesOf list
+  -- a running that may do a + b steps is one that may do a, then one that may do b
+  pub split :
+      (list : CallList)
+      → IsList list
+      → (first second : ℕ)
+      → runCallOf (list .plan) (list .scripts) (leavesOf list) (first + second) ≡ runTwice (list .plan) (list .scripts) (leavesOf list) first second
   pub onTime : (list : CallList) → IsList list → WindowsOnTime list
   pub isolated :
       (observer : ℕ) (one other : CallList) → IsList one → IsList other → Comparable observer one other → SameSeen observer one other

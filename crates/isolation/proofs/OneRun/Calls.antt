@@ -57,9 +57,9 @@ all-own-asked things owned =
 module _ (plan : Plan) (scripts : List ℕ) where
   -- ---- a refused call leaves the list's own world
 
-  left-handed : (things : RunThings) (world left : World) → left ≡ handedWorld plan scripts things world → leftWorld plan scripts things world left ≡ world
+  left-handed : (things : RunThings) (world left : World) → left ≡ handedWorld things world → leftWorld things world left ≡ world
   left-handed things world left same =
-      ap (leftWorld plan scripts things world) same
+      ap (leftWorld things world) same
       ∙ (λ i.
       record {
         state = left-same (things .state) (world .state) i;
@@ -92,8 +92,8 @@ module _ (plan : Plan) (scripts : List ℕ) where
   own-run limit world accepted = run-accepted plan scripts world limit accepted
 
   -- a call that was not refused was handed the list's own things
-  accepted-steps : (call : Call) (world : World) → isRefused (verdictOf plan scripts call world) ≡ false → AllOwn plan scripts call
-      → afterCall plan scripts call world ≡ steps plan scripts (quotaOf world) (stepsAsked plan scripts call) world
+  accepted-steps : (call : Call) (world : World) → isRefused (verdictOf plan scripts call world) ≡ false → AllOwn call
+      → afterCall plan scripts call world ≡ steps plan scripts (quotaOf world) (stepsAsked call) world
   unfolding afterCall steps
   accepted-steps (stepCall things) world accepted owned =
       subst (λ handed-things. isRefused (verdictOf plan scripts (stepCall handed-things) world) ≡ false
@@ -108,14 +108,14 @@ module _ (plan : Plan) (scripts : List ℕ) where
 
   -- a call leaves as many steps as it counts
   pub call-steps : (call : Call) (world : World)
-      → (isRefused (verdictOf plan scripts call world) ≡ true) ⊎ AllOwn plan scripts call
+      → (isRefused (verdictOf plan scripts call world) ≡ true) ⊎ AllOwn call
       → afterCall plan scripts call world ≡ steps plan scripts (quotaOf world) (stepsCounted plan scripts call world) world
   unfolding stepsCounted steps
   call-steps call world proper = go (isRefused (verdictOf plan scripts call world)) refl proper
     where
       go : (refused : Bool) → isRefused (verdictOf plan scripts call world) ≡ refused
-          → (isRefused (verdictOf plan scripts call world) ≡ true) ⊎ AllOwn plan scripts call
-          → afterCall plan scripts call world ≡ steps plan scripts (quotaOf world) (cond refused 0 (stepsAsked plan scripts call)) world
+          → (isRefused (verdictOf plan scripts call world) ≡ true) ⊎ AllOwn call
+          → afterCall plan scripts call world ≡ steps plan scripts (quotaOf world) (cond refused 0 (stepsAsked call)) world
       go true test proper′ = refused-stays call world test
       go false test (inl refused) = absurd (false≢true (sym test ∙ refused))
       go false test (inr owned) = accepted-steps call world test owned

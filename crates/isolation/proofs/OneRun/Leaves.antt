@@ -25,12 +25,12 @@ list-possible list is = fresh-possible (list .plan) (list .oldState) (list .oldC
 
 module _ (run : Run) (possible : planPossible (run .plan) ≡ true) where
   -- the log keeps its length, and so do its parts
-  quota-kept : (count : ℕ) → partRecords (run .plan) (length (worldAfter run count .log)) ≡ partRecords (run .plan) (length (run .log))
+  pub quota-kept : (count : ℕ) → partRecords (run .plan) (length (worldAfter run count .log)) ≡ partRecords (run .plan) (length (run .log))
   unfolding worldAfter freshWorld
   quota-kept count = ap (partRecords (run .plan)) (log-length (run .plan) (run .scripts) (run .log) count possible)
 
   -- steps from a world of the run lead to a later one
-  steps-later : (count more : ℕ)
+  pub steps-later : (count more : ℕ)
       → steps (run .plan) (run .scripts) (partRecords (run .plan) (length (worldAfter run count .log))) more (worldAfter run count)
       ≡ worldAfter run (count + more)
   unfolding worldAfter
@@ -41,7 +41,7 @@ module _ (run : Run) (possible : planPossible (run .plan) ≡ true) where
   -- so a call leads from a world of the run to the one that is as many steps later as the call counts
   call-later : (call : Call) (count : ℕ) (world : World)
       → world ≡ worldAfter run count
-      → (isRefused (verdictOf (run .plan) (run .scripts) call world) ≡ true) ⊎ AllOwn (run .plan) (run .scripts) call
+      → (isRefused (verdictOf (run .plan) (run .scripts) call world) ≡ true) ⊎ AllOwn call
       → afterCall (run .plan) (run .scripts) call world ≡ worldAfter run (count + stepsCounted (run .plan) (run .scripts) call world)
   call-later call count world reached proper =
       let counted = stepsCounted (run .plan) (run .scripts) call world in

@@ -3,8 +3,9 @@ use Prim.Native.Nat.{ℕ, _<_}
 use mathlib.Core.Bool.{Bool, true, false, false≢true}
 use mathlib.Core.List.{List}
 use mathlib.Core.Path.{_≡_, refl, sym, _∙_}
+use native.Mathlib.Omega.{arith}
 use lib.ListN.{length}
-use borrow.Author.Tests.{eq-eqb, lt-ltb, ne-eqb}
+use borrow.Author.Tests.{eq-eqb, le-ltb, lt-ltb, ne-eqb}
 use Rattle.plan.specs.declared.Plan.{Plan}
 use Rattle.plan.specs.Possible.{planPossible}
 use Rattle.cache.specs.Lines.{tableLength}
@@ -112,6 +113,16 @@ pub asking-passes : (plan : Plan) (state : State) (log : List ℕ) (domain : ℕ
 unfolding logRefusalOf logVerdict
 asking-passes plan state log domain possible passes declared =
     rw (possible, state-accepted plan state (length log) passes, lt-ltb domain (plan .domains) declared, logVerdict)
+
+-- but an undeclared one's is not
+pub wrong-domain : (plan : Plan) (state : State) (log : List ℕ) (domain : ℕ)
+    → planPossible plan ≡ true
+    → statePossible plan (partRecords plan (length log)) state ≡ true
+    → (domain < plan .domains → ⊥)
+    → logRefusalOf plan state log domain ≡ Refused (WrongDomain 0)
+unfolding logRefusalOf logVerdict
+wrong-domain plan state log domain possible passes undeclared =
+    rw (possible, state-accepted plan state (length log) passes, le-ltb domain (plan .domains) (omega arith), logVerdict)
 
 -- a fresh start that is not refused was handed a possible plan
 pub fresh-possible : (plan : Plan) (state : State) (cache boxes : List ℕ) → isRefused (freshStartOf plan state cache boxes .verdict) ≡ false → planPossible plan ≡ true
