@@ -14,7 +14,7 @@ use Rattle.refusal.specs.declared.Verdict.{Verdict}
 use Rattle.refusal.specs.Code.{codeOf}
 use Rattle.engine.specs.Asking.{logRefusalOf}
 use Rattle.engine.specs.Checks.{scriptsLength}
-use Rattle.engine.specs.FreshStart.{freshStartOf, freshWorld}
+use Rattle.engine.specs.FreshStart.{Fresh, freshStartOf}
 use Rattle.engine.specs.Running.{Run, runCallOf, stepCallOf}
 
 -- a call was handed the list's own thing, as the last call left it, or any other
@@ -172,13 +172,18 @@ module _ (plan : Plan) (scripts : List ℕ) where
   Proper (call ∷ calls) world =
       ((isRefused (verdictOf call world) ≡ true) ⊎ AllOwn call) × Proper calls (afterCall call world)
 
--- the world from which the calls of a list start
+-- what the fresh start of a list answered and left
+abbrev pub freshOf : CallList → Fresh
+freshOf list = freshStartOf (list .plan) (list .oldState) (list .oldCache) (list .oldBoxes)
+
+-- the world from which the calls of a list start: what the fresh start left, and the log, which it does not take
 abbrev pub startWorld : CallList → World
-startWorld list = freshWorld (list .log)
+startWorld list =
+    record { state = freshOf list .state; cache = freshOf list .cache; boxes = freshOf list .boxes; log = list .log }
 
 -- a list begins with a fresh start that was not refused, and its calls are as above
 pub record IsList (list : CallList) : Type 0 where
-  pub started : isRefused (freshStartOf (list .plan) (list .oldState) (list .oldCache) (list .oldBoxes) .verdict) ≡ false
+  pub started : isRefused (freshOf list .verdict) ≡ false
   pub proper : Proper (list .plan) (list .scripts) (list .calls) (startWorld list)
 
 -- what a list leaves

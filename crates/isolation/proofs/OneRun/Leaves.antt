@@ -3,7 +3,7 @@ use Prim.Native.Nat.{ℕ, _+_}
 use mathlib.Core.Bool.{true}
 use mathlib.Core.List.{List, [], _∷_}
 use mathlib.Core.Logic.{_⊎_}
-use mathlib.Core.Path.{_≡_, refl, sym, ap, _∙_}
+use mathlib.Core.Path.{_≡_, sym, ap, _∙_}
 use native.Mathlib.Nat.{add-assoc, add-zero, zero-add}
 use lib.ListN.{length}
 use Rattle.plan.specs.Possible.{planPossible}
@@ -13,15 +13,19 @@ use Rattle.machine.specs.Steps.{steps}
 use Rattle.machine.proofs.Runs.{steps-add}
 use Rattle.reached.proofs.Reached.{log-length}
 use Rattle.engine.specs.FreshStart.{freshWorld}
-use Rattle.isolation.specs.Calls.{AllOwn, Call, CallList, IsList, Proper, afterCall, afterCalls, isRefused, leavesOf, pointOf, stepsCounted, stepsOfCalls, verdictOf}
+use Rattle.isolation.specs.Calls.{AllOwn, Call, CallList, IsList, Proper, afterCall, afterCalls, isRefused, leavesOf, pointOf, startWorld, stepsCounted, stepsOfCalls, verdictOf}
 use Rattle.isolation.specs.Points.{Run, worldAfter}
 use Rattle.isolation.specs.Statement.{runOfList}
 use Rattle.isolation.proofs.OneRun.Calls.{call-steps}
-use Rattle.isolation.proofs.OneRun.Verdicts.{fresh-possible}
+use Rattle.isolation.proofs.OneRun.Verdicts.{fresh-possible, fresh-started}
 
 -- the plan of a list is a possible one
 pub list-possible : (list : CallList) → IsList list → planPossible (list .plan) ≡ true
 list-possible list is = fresh-possible (list .plan) (list .oldState) (list .oldCache) (list .oldBoxes) (is .started)
+
+-- its calls start from the machine's fresh world
+pub list-start : (list : CallList) → IsList list → startWorld list ≡ freshWorld (list .log)
+list-start list is = fresh-started (list .plan) (list .oldState) (list .oldCache) (list .oldBoxes) (list .log) (is .started)
 
 module _ (run : Run) (possible : planPossible (run .plan) ≡ true) where
   -- the log keeps its length, and so do its parts
@@ -65,5 +69,5 @@ module _ (run : Run) (possible : planPossible (run .plan) ≡ true) where
 pub leaves : (list : CallList) → IsList list → leavesOf list ≡ worldAfter (runOfList list) (pointOf list)
 unfolding worldAfter steps
 leaves list is =
-    calls-later (runOfList list) (list-possible list is) (list .calls) 0 (freshWorld (list .log)) refl (is .proper)
+    calls-later (runOfList list) (list-possible list is) (list .calls) 0 (startWorld list) (list-start list is) (is .proper)
     ∙ ap (worldAfter (runOfList list)) (zero-add (pointOf list))
