@@ -2,7 +2,8 @@
 -- corresponding points a domain sees the same, whatever its rivals' scripts hold. Assumes nothing.
 use Prim.Native.Nat.{ℕ, _<_}
 use mathlib.Core.List.{List}
-use mathlib.Core.Path.{_≡_, sym, ap, subst, subst₂, _∙_}
+use mathlib.Core.Path.{_≡_, refl, sym, ap, subst, subst₂, _∙_}
+use native.Mathlib.Decide.{ℕ-discrete}
 use lib.ListN.{length}
 use Rattle.plan.specs.declared.Plan.{Plan}
 use Rattle.records.specs.Records.{logPart, partRecords}
@@ -49,20 +50,25 @@ module _ (observer : ℕ) (one other : CallList) (is : IsList one) (is′ : IsLi
 
   same : Same observer (runOfList one) (pointOf one) (runOfList other) (pointOf other)
   same =
-      two-runs observer (runOfList one) (pointOf one) (runOfList other) (pointOf other) (c .plans)
+      two-runs (runOfList one) (pointOf one) (runOfList other) (pointOf other) (c .common .plans)
       (record {
         possible = list-possible one is;
-        declared = c .declared;
-        scripts = c .scripts;
-        logs = c .logs;
+        isNamed = λ domain. ℕ-discrete domain observer;
+        declared = c .common .declared;
+        scripts = c .common .scripts;
+        logs = c .common .logs;
         onTime = on-time one is;
         onTime′ = on-time other is′;
-        points = c .points;
+        points = c .common .points;
         boxes = c .boxes;
       })
+      observer refl
+
+  declared : observer < one .plan .domains
+  declared = c .common .declared observer refl
 
   declared′ : observer < other .plan .domains
-  declared′ = subst (λ (plan : Plan). observer < plan .domains) (c .plans) (c .declared)
+  declared′ = subst (λ (plan : Plan). observer < plan .domains) (c .common .plans) declared
 
   -- a relation between the two worlds, of what the lists leave
   left : (Related : World → World → Type 0) → Related world world′ → Related (leavesOf one) (leavesOf other)
@@ -73,16 +79,16 @@ module _ (observer : ℕ) (one other : CallList) (is : IsList one) (is′ : IsLi
       ≡ logCallOf (other .plan) (leavesOf other .state) (leavesOf other .log) observer
   unfolding world′
   same-log =
-      log-after one is observer (c .declared)
+      log-after one is observer declared
       ∙ same .log
-      ∙ (λ i. logPart (partRecords (c .plans i) (c .logs i)) observer (recordsAt (world′ .state) observer) (world′ .log))
+      ∙ (λ i. logPart (partRecords (c .common .plans i) (c .common .logs i)) observer (recordsAt (world′ .state) observer) (world′ .log))
       ∙ sym (log-after other is′ observer declared′)
 
   isolated : SameSeen observer one other
   unfolding world world′
   isolated =
       record {
-        asked = asked one is observer (c .declared);
+        asked = asked one is observer declared;
         asked′ = asked other is′ observer declared′;
         log = same-log;
         position = left (λ w w′. positionAt (w .state) observer ≡ positionAt (w′ .state) observer) (same .position);

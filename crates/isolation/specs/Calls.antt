@@ -177,9 +177,10 @@ abbrev pub freshOf : CallList → Fresh
 freshOf list = freshStartOf (list .plan) (list .oldState) (list .oldCache) (list .oldBoxes)
 
 -- the world from which the calls of a list start: what the fresh start left, and the log, which it does not take
-abbrev pub startWorld : CallList → World
+unfoldable pub startWorld : CallList → World
 startWorld list =
-    record { state = freshOf list .state; cache = freshOf list .cache; boxes = freshOf list .boxes; log = list .log }
+    let fresh = freshOf list in
+    record { state = fresh .state; cache = fresh .cache; boxes = fresh .boxes; log = list .log }
 
 -- a list begins with a fresh start that was not refused, and its calls are as above
 pub record IsList (list : CallList) : Type 0 where

@@ -18,7 +18,7 @@ use Rattle.engine.specs.Checks.{runVerdict, scriptsLength}
 use Rattle.engine.specs.FreshStart.{freshWorld}
 use Rattle.engine.specs.Running.{stepCallOf}
 use Rattle.isolation.specs.Calls.{Admissible, AllOwn, Call, CallList, IsList, LogThings, RunThings, isRefused, leavesOf, logAnswer, logCall, logQuestion, pointOf, runAnswer, runCall, stepAnswer, stepCall, verdictAfter, verdictOf}
-use Rattle.isolation.specs.Points.{Run, worldAfter}
+use Rattle.isolation.specs.Points.{FreshRun, worldAfter}
 use Rattle.isolation.specs.Statement.{runOfList}
 use Rattle.isolation.proofs.OneRun.Calls.{all-own, all-own-asked}
 use Rattle.isolation.proofs.OneRun.Leaves.{leaves, list-possible}
@@ -26,7 +26,7 @@ use Rattle.isolation.proofs.OneRun.Verdicts.{asking-passes, run-passes,
 
 -- ---- a world of a run passes the checks
 
-module _ (run : Run) (count : ℕ) (possible : planPossible (run .plan) ≡ true) where
+module _ (run : FreshRun) (count : ℕ) (possible : planPossible (run .plan) ≡ true) where
   state-passes : statePossible (run .plan) (partRecords (run .plan) (length (worldAfter run count .log))) (worldAfter run count .state) ≡ true
   unfolding worldAfter freshWorld
   state-passes =

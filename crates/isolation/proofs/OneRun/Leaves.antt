@@ -14,7 +14,7 @@ use Rattle.machine.proofs.Runs.{steps-add}
 use Rattle.reached.proofs.Reached.{log-length}
 use Rattle.engine.specs.FreshStart.{freshWorld}
 use Rattle.isolation.specs.Calls.{AllOwn, Call, CallList, IsList, Proper, afterCall, afterCalls, isRefused, leavesOf, pointOf, startWorld, stepsCounted, stepsOfCalls, verdictOf}
-use Rattle.isolation.specs.Points.{Run, worldAfter}
+use Rattle.isolation.specs.Points.{FreshRun, worldAfter}
 use Rattle.isolation.specs.Statement.{runOfList}
 use Rattle.isolation.proofs.OneRun.Calls.{call-steps}
 use Rattle.isolation.proofs.OneRun.Verdicts.{fresh-possible, fresh-started}
@@ -25,9 +25,10 @@ list-possible list is = fresh-possible (list .plan) (list .oldState) (list .oldC
 
 -- its calls start from the machine's fresh world
 pub list-start : (list : CallList) → IsList list → startWorld list ≡ freshWorld (list .log)
+unfolding startWorld
 list-start list is = fresh-started (list .plan) (list .oldState) (list .oldCache) (list .oldBoxes) (list .log) (is .started)
 
-module _ (run : Run) (possible : planPossible (run .plan) ≡ true) where
+module _ (run : FreshRun) (possible : planPossible (run .plan) ≡ true) where
   -- the log keeps its length, and so do its parts
   pub quota-kept : (count : ℕ) → partRecords (run .plan) (length (worldAfter run count .log)) ≡ partRecords (run .plan) (length (run .log))
   unfolding worldAfter freshWorld

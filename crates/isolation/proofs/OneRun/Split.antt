@@ -17,7 +17,7 @@ use Rattle.refusal.specs.declared.Verdict.the-variants.{Accepted, Refused}
 use Rattle.engine.specs.Checks.{runVerdict, scriptsLength}
 use Rattle.engine.specs.Running.{Run, ranFrom, runCallOf, runFrom}
 use Rattle.isolation.specs.Calls.{CallList, IsList, leavesOf, pointOf, runTwice}
-use Rattle.isolation.specs.Points.{Run as Setting, worldAfter}
+use Rattle.isolation.specs.Points.{FreshRun, worldAfter}
 use Rattle.isolation.specs.Statement.{runOfList}
 use Rattle.isolation.proofs.OneRun.Accepted.{run-verdict-accepted}
 use Rattle.isolation.proofs.OneRun.Leaves.{leaves, list-possible, quota-kept, steps-later}
@@ -67,7 +67,7 @@ module _ (plan : Plan) (scripts : List ℕ) where
 
 -- ---- after so many steps of a run, and after a list
 
-module _ (run : Setting) (possible : planPossible (run .plan) ≡ true) (count first second : ℕ) where
+module _ (run : FreshRun) (possible : planPossible (run .plan) ≡ true) (count first second : ℕ) where
   abbrev here : World
   here = worldAfter run count
 
