@@ -1,6 +1,6 @@
--- Examples that compute. Two lists of calls that may be compared and that have something to see: rivals that run different ops, two messages received,
--- two windows of the observer, a limit that cuts the second, a refused call on mixed things. And that demand 3 needs what it assumes: without the premise
--- on boxes it fails, and so it does with masks that overlap. Assumes nothing.
+-- Examples that compute. Two lists of calls that may be compared and that have something to see: the rivals' ops differ, the observer gets a message in
+-- each of its two windows, a running's limit ends inside the second, and a call that was handed some things of others is refused. And that demand 3 needs
+-- what it assumes: without the premise on boxes it fails, and so it does with masks that overlap. Assumes nothing.
 use Prim.Native.Nat.{ℕ, zero, suc, _+_, _-_, _*_, _≤_, _<_}
 use mathlib.Core.Bool.{Bool, true}
 use mathlib.Core.List.{List, [], _∷_, _++_, map}

@@ -52,7 +52,7 @@ pub record LogThings : Type 0 where
   pub state : Handed State
   pub log : Handed (List ℕ)
 
--- single step, running with any limit, asking for a log, the second question about it
+-- the four calls that may follow: a single step; a running, with its limit; an asking for a domain's log; the second question about such an asking
 pub data Call : Type 0 where
   stepCall : RunThings → Call
   runCall : RunThings → ℕ → Call
@@ -93,31 +93,33 @@ leftWorld things world left =
       log = leftIn (things .log) (world .log) (left .log);
     }
 
--- how many steps a call asks for: one for a single step, a running's limit; none where it is refused
+-- how many steps a call asks for: a single step one, a running as many as its limit, the askings none
 abbrev pub stepsAsked : Call → ℕ
 stepsAsked (stepCall things) = 1
 stepsAsked (runCall things limit) = limit
 stepsAsked (logCall things domain) = 0
 stepsAsked (logQuestion things domain) = 0
 
--- every thing that a call was handed is the list's own
+-- everything that a step or a run was handed is the list's own
+abbrev pub OwnRun : RunThings → Type 0
+OwnRun things =
+    IsOwn (things .plan)
+    × IsOwn (things .scripts)
+    × IsOwn (things .state)
+    × IsOwn (things .cache)
+    × IsOwn (things .boxes)
+    × IsOwn (things .log)
+
+-- everything that an asking or its second question was handed
+abbrev pub OwnAsked : LogThings → Type 0
+OwnAsked things = IsOwn (things .plan) × IsOwn (things .state) × IsOwn (things .log)
+
+-- everything that a call was handed
 abbrev pub AllOwn : Call → Type 0
-AllOwn (stepCall things) =
-    IsOwn (things .plan)
-    × IsOwn (things .scripts)
-    × IsOwn (things .state)
-    × IsOwn (things .cache)
-    × IsOwn (things .boxes)
-    × IsOwn (things .log)
-AllOwn (runCall things limit) =
-    IsOwn (things .plan)
-    × IsOwn (things .scripts)
-    × IsOwn (things .state)
-    × IsOwn (things .cache)
-    × IsOwn (things .boxes)
-    × IsOwn (things .log)
-AllOwn (logCall things domain) = IsOwn (things .plan) × IsOwn (things .state) × IsOwn (things .log)
-AllOwn (logQuestion things domain) = IsOwn (things .plan) × IsOwn (things .state) × IsOwn (things .log)
+AllOwn (stepCall things) = OwnRun things
+AllOwn (runCall things limit) = OwnRun things
+AllOwn (logCall things domain) = OwnAsked things
+AllOwn (logQuestion things domain) = OwnAsked things
 
 -- what a call on the list's own things must still bring, not to be refused: a single step and a running want a script store of 2,048 numbers, an
 -- asking and its second question the number of a declared domain
@@ -128,7 +130,7 @@ Admissible plan scripts (logCall things domain) = domain < plan .domains
 Admissible plan scripts (logQuestion things domain) = domain < plan .domains
 
 module _ (plan : Plan) (scripts : List ℕ) where
-  -- what the entry points answer, by their contracts' definitions
+  -- what the entry points answer, by their contracts' definitions: running, the single step, and the second question about an asking
   unfoldable pub runAnswer : RunThings → ℕ → World → Run
   runAnswer things limit world = runCallOf (handed (things .plan) plan) (handed (things .scripts) scripts) (handedWorld things world) limit
 
@@ -139,21 +141,22 @@ module _ (plan : Plan) (scripts : List ℕ) where
   logAnswer things domain world =
       logRefusalOf (handed (things .plan) plan) (handed (things .state) (world .state)) (handed (things .log) (world .log)) domain
 
-  -- the list's own world after a call; the askings leave everything
+  -- the list's own world after a call; the two askings are lent nothing that they could write to
   unfoldable pub afterCall : Call → World → World
   afterCall (stepCall things) world = leftWorld things world (stepAnswer things world .world)
   afterCall (runCall things limit) world = leftWorld things world (runAnswer things limit world .world)
   afterCall (logCall things domain) world = world
   afterCall (logQuestion things domain) world = world
 
-  -- a call's verdict on the list's own world; an asking's is had by the second question about it, and a second question is never refused itself:
-  -- what it answers is the asking's verdict
+  -- a call's verdict, on the list's own world. An asking answers bytes and no number: its number is what the second question about it answers. So the
+  -- two share one verdict, and a second question counts as refused where the asking would be.
   unfoldable pub verdictOf : Call → World → Verdict
   verdictOf (stepCall things) world = stepAnswer things world .verdict
   verdictOf (runCall things limit) world = runAnswer things limit world .verdict
   verdictOf (logCall things domain) world = logAnswer things domain world
   verdictOf (logQuestion things domain) world = logAnswer things domain world
 
+  -- the steps that a call adds to its list's run: those it asks for, and none where it is refused
   unfoldable pub stepsCounted : Call → World → ℕ
   stepsCounted call world = cond (isRefused (verdictOf call world)) 0 (stepsAsked call)
 
@@ -166,7 +169,7 @@ module _ (plan : Plan) (scripts : List ℕ) where
   stepsOfCalls [] world = 0
   stepsOfCalls (call ∷ calls) world = stepsCounted call world + stepsOfCalls calls (afterCall call world)
 
-  -- each call gets the list's own things as the last one left them; a refused call may have been handed anything else
+  -- every call was refused, and then whatever it was handed will do, or it was handed the list's own things, as the calls before it left them
   unfoldable pub Proper : List Call → World → Type 0
   Proper [] world = Unit {0}
   Proper (call ∷ calls) world =
@@ -191,7 +194,8 @@ pub record IsList (list : CallList) : Type 0 where
 abbrev pub leavesOf : CallList → World
 leavesOf list = afterCalls (list .plan) (list .scripts) (list .calls) (startWorld list)
 
--- the number of steps of a list's run: as many as its unrefused single steps and the limits of its unrefused runnings add up to
+-- a list's point: how many steps its run is, which is what its calls counted together. That may be more than there are up to the last switch: a step
+-- past it changes nothing.
 abbrev pub pointOf : CallList → ℕ
 pointOf list = stepsOfCalls (list .plan) (list .scripts) (list .calls) (startWorld list)
 

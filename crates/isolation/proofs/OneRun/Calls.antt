@@ -10,7 +10,7 @@ use Rattle.records.specs.Records.{partRecords}
 use Rattle.state.specs.World.{World}
 use Rattle.machine.specs.Steps.{steps}
 use Rattle.engine.specs.Running.{stepCallOf}
-use Rattle.isolation.specs.Calls.{AllOwn, Call, Handed, IsOwn, LogThings, RunThings, afterCall, foreign, handed, handedWorld, isRefused, leftIn, leftWorld, logCall, logQuestion, own, runAnswer, runCall, stepAnswer, stepCall, stepsAsked, stepsCounted, verdictOf}
+use Rattle.isolation.specs.Calls.{AllOwn, Call, Handed, IsOwn, LogThings, OwnAsked, OwnRun, RunThings, afterCall, foreign, handed, handedWorld, isRefused, leftIn, leftWorld, logCall, logQuestion, own, runAnswer, runCall, stepAnswer, stepCall, stepsAsked, stepsCounted, verdictOf}
 use Rattle.isolation.proofs.OneRun.Verdicts.{run-accepted, run-refused}
 
 -- a thing that a call left as it was handed leaves the list's own as it was
@@ -26,14 +26,7 @@ is-own (foreign other) owned = absurd owned
 abbrev pub ownThings : RunThings
 ownThings = record { plan = own; scripts = own; state = own; cache = own; boxes = own; log = own }
 
-pub all-own : (things : RunThings)
-    → IsOwn (things .plan)
-    × IsOwn (things .scripts)
-    × IsOwn (things .state)
-    × IsOwn (things .cache)
-    × IsOwn (things .boxes)
-    × IsOwn (things .log)
-    → things ≡ ownThings
+pub all-own : (things : RunThings) → OwnRun things → things ≡ ownThings
 all-own things owned =
     let plan = is-own (things .plan) (owned .0) in
     let scripts = is-own (things .scripts) (owned .1) in
@@ -47,7 +40,7 @@ all-own things owned =
 abbrev pub ownAsked : LogThings
 ownAsked = record { plan = own; state = own; log = own }
 
-pub all-own-asked : (things : LogThings) → IsOwn (things .plan) × IsOwn (things .state) × IsOwn (things .log) → things ≡ ownAsked
+pub all-own-asked : (things : LogThings) → OwnAsked things → things ≡ ownAsked
 all-own-asked things owned =
     let plan = is-own (things .plan) (owned .0) in
     let state = is-own (things .state) (owned .1) in

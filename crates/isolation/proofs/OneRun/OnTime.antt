@@ -1,4 +1,4 @@
--- Each window so far started at the tick that the plan alone gives. Assumes nothing.
+-- Every window that a run has come to started when the plan says. Assumes nothing.
 use Prim.Native.Nat.{ℕ, zero, suc, _+_, _≤_, _<_}
 use mathlib.Core.Bool.{Bool, true, false}
 use mathlib.Core.Logic.{inl, inr}
