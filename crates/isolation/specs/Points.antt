@@ -1,4 +1,5 @@
--- Document 01, "Two lists of calls": the windows of a run so far, their starts and their ops, and the points of two runs that correspond. Assumes nothing.
+-- Document 01, "Two lists of calls": the points of a run, its windows so far with their starts and their ops, and the boxes addressed to a domain.
+-- Assumes nothing.
 use Prim.Native.Nat.{ℕ, zero, suc, _+_, _<_}
 use mathlib.Core.Bool.{Bool, cond, _&&_}
 use mathlib.Core.List.{List}
@@ -28,12 +29,13 @@ worldAfter run count =
 abbrev pub windowsAfter : FreshRun → ℕ → ℕ
 windowsAfter run count = worldAfter run count .state .windows
 
--- after `count` steps window k has just started: as many windows are completed for the first time. That is the fresh start, or just after a switch.
+-- after so many steps a window has just started: for the first time as many windows are completed as come before it. That is the fresh start, or right
+-- after a switch.
 pub record Starts (run : FreshRun) (window count : ℕ) : Type 0 where
   pub reached : windowsAfter run count ≡ window
   pub first : (earlier : ℕ) → earlier < count → windowsAfter run earlier < window
 
--- step number `count`, counted from 0, is an op of window k
+-- the step after so many others is an op of a window: it begins and ends in that window, of a run that has not ended
 abbrev pub isOpOf : FreshRun → ℕ → ℕ → Bool
 isOpOf run window count =
     ltb window (windowsTotal (run .plan)) && eqb (windowsAfter run count) window && eqb (windowsAfter run (suc count)) window
