@@ -143,7 +143,8 @@ pub record IsolationOf (Kind : CallList → Type 0) : Type 0 where
       → (call : Call)
       → isRefused (verdictAfter list call) ≡ true
       → afterCall (list .plan) (list .scripts) call (leavesOf list) ≡ leavesOf list
-  -- a running that may do a + b steps is one that may do a, then one that may do b
+  -- a running that may do a + b steps is one that may do a, then one that may do b. The sum is a number like any other here, also where it is more than
+  -- the entry point's limit can hold.
   pub split :
       (list : CallList)
       → Kind list
