@@ -37,8 +37,8 @@ WindowsOnTime list =
 
 -- ---- (B): its premises, over a predicate that names the domains for which two lists must agree
 
--- two plans are the same to the named domains. Whoever is named, the plans are equal: scripts are stored apart, and no other part of a plan belongs
--- to one domain alone.
+-- two plans are the same to the named domains. Whoever is named, that is equality: what the unnamed may have of their own in one list and not in the
+-- other is their scripts, and a plan does not hold scripts.
 abbrev pub SamePlan : (ℕ → Type 0) → Plan → Plan → Type 0
 SamePlan Named one other = one ≡ other
 
@@ -55,7 +55,7 @@ pub record Correspond (Named : ℕ → Type 0) (one : FreshRun) (count : ℕ) (o
       Within Named one count
       → opsOf one (windowsAfter one count) count ≡ opsOf other (windowsAfter one count) count′
 
--- whenever a named domain's window started, in both runs and before these points, the boxes addressed to named domains were equal
+-- whenever a named domain's window started, in both runs and no later than these points, the boxes addressed to named domains were equal
 abbrev pub BoxesAgree : (ℕ → Type 0) → FreshRun → ℕ → FreshRun → ℕ → Type 0
 BoxesAgree Named one count other count′ =
     (window at at′ : ℕ)
