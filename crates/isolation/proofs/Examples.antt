@@ -1,6 +1,6 @@
--- Examples that compute. Two lists of calls that may be compared and that have something to see: rivals that run different ops, two messages received,
--- two windows of the observer, a limit that cuts the second, a refused call on mixed things. And that demand 3 needs what it assumes: without the premise
--- on boxes it fails, and so it does with masks that overlap. Assumes nothing.
+-- Examples that compute. Two lists of calls that may be compared and that have something to see: the rivals' ops differ, the observer gets a message in
+-- each of its two windows, a running's limit ends inside the second, and a call that was handed some things of others is refused. And that demand 3 needs
+-- what it assumes: without the premise on boxes it fails, and so it does with masks that overlap. Assumes nothing.
 use Prim.Native.Nat.{ℕ, zero, suc, _+_, _-_, _*_, _≤_, _<_}
 use mathlib.Core.Bool.{Bool, true}
 use mathlib.Core.List.{List, [], _∷_, _++_, map}
@@ -36,9 +36,9 @@ use Rattle.engine.specs.Asking.{logCallOf, logRefusalOf}
 use Rattle.engine.specs.Checks.{stateVerdict, freshVerdict, runVerdict, logVerdict}
 use Rattle.engine.specs.FreshStart.{freshStartOf, freshWorld}
 use Rattle.engine.specs.Running.{ranFrom, runCallOf, stepCallOf}
-use Rattle.isolation.specs.Calls.{CallList, IsList, LogThings, Proper, RunThings, afterCall, afterCalls, foreign, isRefused, leavesOf, logAnswer, logCall, logQuestion, own, pointOf, runAnswer, runCall, stepAnswer, stepCall, stepsCounted, stepsOfCalls, verdictOf}
-use Rattle.isolation.specs.Points.{Run, SameBoxesTo, Starts, Within, opsOf, windowsAfter, worldAfter}
-use Rattle.isolation.specs.Statement.{BoxesAgree, Comparable, Correspond, Only, SamePlan, SameSeen, ScriptsAgree, runOfList}
+use Rattle.isolation.specs.Calls.{CallList, IsList, LogThings, Proper, RunThings, afterCall, afterCalls, foreign, isRefused, leavesOf, logAnswer, logCall, logQuestion, own, pointOf, runAnswer, runCall, startWorld, stepAnswer, stepCall, stepsCounted, stepsOfCalls, verdictOf}
+use Rattle.isolation.specs.Points.{FreshRun, SameBoxesTo, Starts, Within, opsOf, windowsAfter, worldAfter}
+use Rattle.isolation.specs.Statement.{BoxesAgree, Comparable, Correspond, InCommon, Only, SamePlan, SameSeen, ScriptsAgree, runOfList}
 use Rattle.isolation.proofs.Isolation.{isolation}
 use Rattle.isolation.proofs.TwoRuns.{Same}
 use Rattle.isolation.proofs.TwoRuns.Progress.{no-fewer, one-start}
@@ -119,7 +119,7 @@ other =
 
 -- every definition that the examples compute with, named once
 computing : ℕ
-unfolding part splice opOf decodeOf fetchOf storedOf coloursOf sharesTotal firstColour maskFrom maskOf hasBit countsPossible declaredPossible undeclaredPossible domainPossible maskPossible windowPossible planPossible sumTo allBelow ownerOf lengthOf startOf endOf windowsTotal ticksTotal lookHit1 lookL2 lookOf lookAt accessOf countOf dirtyLines validLines kernelFlushTicks l1FlushTicks kernelFlushed l1Flushed has behind used lineAllowed l1EntrySound allEmpty waysSound setSound boxSound tablesSound clockPossible stateCountsPossible statePossible ownsLine touchOf deniedOf passedOf sendOf boxSeen receiveOf computeOf effectOf recordBytes partRecords stored logPart opStepOf closedOf fetchedStep activeStep stepOf steps runOf flushedClock paddedClock switchOf endedOf freshState logCallOf logRefusalOf stateVerdict freshVerdict runVerdict logVerdict freshStartOf freshWorld ranFrom runCallOf stepCallOf runAnswer stepAnswer logAnswer afterCall verdictOf stepsCounted afterCalls stepsOfCalls Proper worldAfter opsOf
+unfolding part splice opOf decodeOf fetchOf storedOf coloursOf sharesTotal firstColour maskFrom maskOf hasBit countsPossible declaredPossible undeclaredPossible domainPossible maskPossible windowPossible planPossible sumTo allBelow ownerOf lengthOf startOf endOf windowsTotal ticksTotal lookHit1 lookL2 lookOf lookAt accessOf countOf dirtyLines validLines kernelFlushTicks l1FlushTicks kernelFlushed l1Flushed has behind used lineAllowed l1EntrySound allEmpty waysSound setSound boxSound tablesSound clockPossible stateCountsPossible statePossible ownsLine touchOf deniedOf passedOf sendOf boxSeen receiveOf computeOf effectOf recordBytes partRecords stored logPart opStepOf closedOf fetchedStep activeStep stepOf steps runOf flushedClock paddedClock switchOf endedOf freshState logCallOf logRefusalOf stateVerdict freshVerdict runVerdict logVerdict freshStartOf freshWorld ranFrom runCallOf stepCallOf runAnswer stepAnswer logAnswer afterCall verdictOf stepsCounted afterCalls stepsOfCalls Proper startWorld worldAfter opsOf
 computing = 0
 
 one-is : IsList one
@@ -148,13 +148,14 @@ scripts-agree numbers rest rest′ long domain observer place below =
 -- boxes that pass eight tests
 boxes-by-test : (domain : ℕ) (world world′ : World)
     → allBelow (λ sender. eqb (getD (world .boxes) (boxPlace sender domain) 0) (getD (world′ .boxes) (boxPlace sender domain) 0)) 8 ≡ true
-    → SameBoxesTo domain world world′
-boxes-by-test domain world world′ tests sender below =
-    eqb-true _ _
-    (all-below (λ sender. eqb (getD (world .boxes) (boxPlace sender domain) 0) (getD (world′ .boxes) (boxPlace sender domain) 0)) 8 sender tests below)
+    → SameBoxesTo (Only domain) world world′
+boxes-by-test domain world world′ tests sender recipient below is =
+    rw is
+    (eqb-true _ _
+    (all-below (λ sender. eqb (getD (world .boxes) (boxPlace sender domain) 0) (getD (world′ .boxes) (boxPlace sender domain) 0)) 8 sender tests below))
 
 -- the step that completes a window starts the next
-starts-after : (run : Run) → planPossible (run .plan) ≡ true → (window last : ℕ) → windowsAfter run last ≡ window
+starts-after : (run : FreshRun) → planPossible (run .plan) ≡ true → (window last : ℕ) → windowsAfter run last ≡ window
     → windowsAfter run (suc last) ≡ suc window → Starts run (suc window) (suc last)
 starts-after run possible window last within past =
     record { reached = past; first = λ earlier below. omega (arith, no-fewer run possible earlier last (omega arith)) }
@@ -176,7 +177,7 @@ observed (suc (suc (suc (suc (suc (suc window)))))) room owner = absurd (omega a
 
 -- at their starts the boxes addressed to it are equal
 boxes-there : (window at at′ : ℕ) → Observed window → Starts (runOfList one) window at → Starts (runOfList other) window at′
-    → SameBoxesTo 0 (worldAfter (runOfList one) at) (worldAfter (runOfList other) at′)
+    → SameBoxesTo (Only 0) (worldAfter (runOfList one) at) (worldAfter (runOfList other) at′)
 unfolding computing
 boxes-there window at at′ second s s′ =
     rw (
@@ -195,11 +196,14 @@ pub comparable : Comparable 0 one other
 unfolding computing
 comparable =
     record {
-      plans = refl;
-      declared = omega arith;
-      scripts = scripts-agree mine rivals rivals′ refl;
-      logs = refl;
-      points = record { windows = refl; ops = λ within. refl };
+      common =
+          record {
+            plans = refl;
+            declared = λ domain is. omega arith;
+            scripts = scripts-agree mine rivals rivals′ refl;
+            logs = refl;
+            points = record { windows = refl; ops = λ within. refl };
+          };
       boxes = λ window at at′ room owner s soFar s′ soFar′. boxes-there window at at′ (observed window room owner) s s′;
     }
 
@@ -213,7 +217,7 @@ abbrev handedBack : CallList → ℕ → List ℕ
 handedBack list domain = logCallOf (list .plan) (leavesOf list .state) (leavesOf list .log) domain
 
 -- the lists end after 14 and after 15 steps, both in the observer's second window, after two of its ops there
-pub mid-window : (pointOf one ≡ 14) × (pointOf other ≡ 15) × Within (runOfList one) 0 (pointOf one) × (opsOf (runOfList one) 4 (pointOf one) ≡ 2)
+pub mid-window : (pointOf one ≡ 14) × (pointOf other ≡ 15) × Within (Only 0) (runOfList one) (pointOf one) × (opsOf (runOfList one) 4 (pointOf one) ≡ 2)
 unfolding computing
 mid-window = (refl, refl, record { notEnded = omega arith; owner = refl }, refl)
 
@@ -242,13 +246,6 @@ rivals-differ = (refl, refl, refl, refl)
 
 -- ---- without the premise on boxes it fails
 
-pub record ComparableButBoxes (observer : ℕ) (one other : CallList) : Type 0 where
-  pub plans : SamePlan (one .plan) (other .plan)
-  pub declared : observer < one .plan .domains
-  pub scripts : ScriptsAgree (Only observer) (one .scripts) (other .scripts)
-  pub logs : length (one .log) ≡ length (other .log)
-  pub points : Correspond observer (runOfList one) (pointOf one) (runOfList other) (pointOf other)
-
 -- a store in which the observer and its first rival have one op each
 abbrev rival : Op → List ℕ
 rival op = script (op ∷ []) ++ replicate 1_536 0
@@ -267,7 +264,7 @@ sends word =
     }
 
 pub boxes-needed :
-    ((observer : ℕ) (one other : CallList) → IsList one → IsList other → ComparableButBoxes observer one other → SameSeen observer one other)
+    ((observer : ℕ) (one other : CallList) → IsList one → IsList other → InCommon (Only observer) one other → SameSeen observer one other)
     → ⊥
 unfolding computing
 boxes-needed claim =
@@ -277,7 +274,7 @@ boxes-needed claim =
     (record { started = refl; proper = (inr (tt, tt, tt, tt, tt, tt), tt) })
     (record {
       plans = refl;
-      declared = omega arith;
+      declared = λ domain is. omega arith;
       scripts = scripts-agree (script (Receive 1 ∷ [])) (rival (Send 0 77)) (rival (Send 0 78)) refl;
       logs = refl;
       points = record { windows = refl; ops = λ within. refl };
@@ -304,27 +301,27 @@ overlapping =
     }
 
 -- the observer reads a line that its rival read before it, or did not
-abbrev reads : Op → Run
+abbrev reads : Op → FreshRun
 reads op = record { plan = overlapping; scripts = script (Read 3 ∷ []) ++ rival op; log = replicate 192 0 }
 
 -- no box is full in the first three steps
-abbrev boxEmpty : Run → ℕ → ℕ → Bool
+abbrev boxEmpty : FreshRun → ℕ → ℕ → Bool
 boxEmpty run count place = eqb (getD (worldAfter run count .boxes) place 0) 0
 
-no-mail : (run : Run) → allBelow (λ count. allBelow (boxEmpty run count) 64) 4 ≡ true
+no-mail : (run : FreshRun) → allBelow (λ count. allBelow (boxEmpty run count) 64) 4 ≡ true
     → (count place : ℕ) → count ≤ 3 → place < 64 → getD (worldAfter run count .boxes) place 0 ≡ 0
 no-mail run tests count place early below =
     eqb-true _ _
     (all-below (boxEmpty run count) 64 place (all-below (λ count. allBelow (boxEmpty run count) 64) 4 count tests (omega arith)) below)
 
 pub masks-needed :
-    ((observer : ℕ) (one : Run) (count : ℕ) (other : Run) (count′ : ℕ)
-    → SamePlan (one .plan) (other .plan)
+    ((observer : ℕ) (one : FreshRun) (count : ℕ) (other : FreshRun) (count′ : ℕ)
+    → SamePlan (Only observer) (one .plan) (other .plan)
     → observer < one .plan .domains
     → ScriptsAgree (Only observer) (one .scripts) (other .scripts)
     → length (one .log) ≡ length (other .log)
-    → Correspond observer one count other count′
-    → BoxesAgree observer one count other count′
+    → Correspond (Only observer) one count other count′
+    → BoxesAgree (Only observer) one count other count′
     → Same observer one count other count′)
     → ⊥
 unfolding computing
@@ -334,9 +331,9 @@ masks-needed claim =
     (scripts-agree (script (Read 3 ∷ [])) (rival (Read 3)) (rival (Compute 5)) refl)
     refl
     (record { windows = refl; ops = λ within. refl })
-    (λ window at at′ room owner s soFar s′ soFar′ sender below.
-    no-mail (reads (Read 3)) refl at (8 * sender + 0) soFar (omega arith)
-    ∙ sym (no-mail (reads (Compute 5)) refl at′ (8 * sender + 0) soFar′ (omega arith)))
+    (λ window at at′ room owner s soFar s′ soFar′ sender recipient below is.
+    no-mail (reads (Read 3)) refl at (boxPlace sender recipient) soFar (omega arith)
+    ∙ sym (no-mail (reads (Compute 5)) refl at′ (boxPlace sender recipient) soFar′ (omega arith)))
     in
     let kind : _≡_ {A = ℕ} 2 3 = ap (λ (log : List ℕ). getD log 0 0) (same .log) in
     omega arith

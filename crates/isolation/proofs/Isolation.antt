@@ -1,8 +1,9 @@
--- Demand 3: a list of calls leaves so many steps of its fresh start, its windows started when the plan alone says, and where two lists end at
--- corresponding points a domain sees the same, whatever its rivals' scripts hold. Assumes nothing.
+-- Demand 3, proved: what is said of one list of calls is put together, and (B) is brought from two runs of the machine to the two lists that they are
+-- the runs of. Assumes nothing.
 use Prim.Native.Nat.{ℕ, _<_}
 use mathlib.Core.List.{List}
-use mathlib.Core.Path.{_≡_, sym, ap, subst, subst₂, _∙_}
+use mathlib.Core.Path.{_≡_, refl, sym, ap, subst, subst₂, _∙_}
+use native.Mathlib.Decide.{ℕ-discrete}
 use lib.ListN.{length}
 use Rattle.plan.specs.declared.Plan.{Plan}
 use Rattle.records.specs.Records.{logPart, partRecords}
@@ -16,7 +17,7 @@ use Rattle.engine.specs.FreshStart.{freshWorld}
 use Rattle.isolation.specs.Calls.{CallList, IsList, leavesOf, pointOf}
 use Rattle.isolation.specs.Points.{worldAfter}
 use Rattle.isolation.specs.Statement.{Comparable, Isolation, SameSeen, SameSets, runOfList}
-use Rattle.isolation.proofs.OneRun.{asked, leaves, on-time}
+use Rattle.isolation.proofs.OneRun.{asked, leaves, on-time, own-accepted, own-refused, refused-stays, split}
 use Rattle.isolation.proofs.OneRun.Leaves.{list-possible}
 use Rattle.isolation.proofs.TwoRuns.{Same, two-runs}
 
@@ -49,20 +50,25 @@ module _ (observer : ℕ) (one other : CallList) (is : IsList one) (is′ : IsLi
 
   same : Same observer (runOfList one) (pointOf one) (runOfList other) (pointOf other)
   same =
-      two-runs observer (runOfList one) (pointOf one) (runOfList other) (pointOf other) (c .plans)
+      two-runs (runOfList one) (pointOf one) (runOfList other) (pointOf other) (c .common .plans)
       (record {
         possible = list-possible one is;
-        declared = c .declared;
-        scripts = c .scripts;
-        logs = c .logs;
+        isNamed = λ domain. ℕ-discrete domain observer;
+        declared = c .common .declared;
+        scripts = c .common .scripts;
+        logs = c .common .logs;
         onTime = on-time one is;
         onTime′ = on-time other is′;
-        points = c .points;
+        points = c .common .points;
         boxes = c .boxes;
       })
+      observer refl
+
+  declared : observer < one .plan .domains
+  declared = c .common .declared observer refl
 
   declared′ : observer < other .plan .domains
-  declared′ = subst (λ (plan : Plan). observer < plan .domains) (c .plans) (c .declared)
+  declared′ = subst (λ (plan : Plan). observer < plan .domains) (c .common .plans) declared
 
   -- a relation between the two worlds, of what the lists leave
   left : (Related : World → World → Type 0) → Related world world′ → Related (leavesOf one) (leavesOf other)
@@ -73,16 +79,16 @@ module _ (observer : ℕ) (one other : CallList) (is : IsList one) (is′ : IsLi
       ≡ logCallOf (other .plan) (leavesOf other .state) (leavesOf other .log) observer
   unfolding world′
   same-log =
-      log-after one is observer (c .declared)
+      log-after one is observer declared
       ∙ same .log
-      ∙ (λ i. logPart (partRecords (c .plans i) (c .logs i)) observer (recordsAt (world′ .state) observer) (world′ .log))
+      ∙ (λ i. logPart (partRecords (c .common .plans i) (c .common .logs i)) observer (recordsAt (world′ .state) observer) (world′ .log))
       ∙ sym (log-after other is′ observer declared′)
 
   isolated : SameSeen observer one other
   unfolding world world′
   isolated =
       record {
-        asked = asked one is observer (c .declared);
+        asked = asked one is observer declared;
         asked′ = asked other is′ observer declared′;
         log = same-log;
         position = left (λ w w′. positionAt (w .state) observer ≡ positionAt (w′ .state) observer) (same .position);
@@ -92,4 +98,13 @@ module _ (observer : ℕ) (one other : CallList) (is : IsList one) (is′ : IsLi
       }
 
 pub isolation : Isolation
-isolation = record { leaves = leaves; onTime = on-time; isolated = isolated }
+isolation =
+    record {
+      leaves = leaves;
+      accepted = own-accepted;
+      refused = own-refused;
+      unchanged = λ list is call. refused-stays (list .plan) (list .scripts) call (leavesOf list);
+      split = split;
+      onTime = on-time;
+      isolated = isolated;
+    }

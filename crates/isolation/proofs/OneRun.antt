@@ -1,10 +1,13 @@
--- One list of calls: what it leaves, which calls are refused after it, and that its windows started on time. Assumes nothing.
+-- One list of calls: what it leaves, which calls are refused after it, that a running after it may be split, and that its windows started on time.
+-- Assumes nothing.
 pub mod Accepted
 pub mod Calls
 pub mod Leaves
 pub mod OnTime
+pub mod Split
 pub mod Verdicts
-pub use Accepted.{asked, own-accepted, own-run-refused, own-step-refused}
+pub use Accepted.{asked, own-accepted, own-refused}
 pub use Calls.{refused-stays}
 pub use Leaves.{leaves}
 pub use OnTime.{on-time}
+pub use Split.{split}

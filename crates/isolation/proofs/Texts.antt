@@ -1,16 +1,18 @@
 -- Demand 3 of accepted plans, from demand 3 of plans that pass the check: a plan that some text gives passes it, so its fresh start is not refused.
 -- Assumes nothing.
-use mathlib.Core.Path.{_≡_, refl, ap, _∙_}
-use mathlib.Core.Bool.{Bool, false, true}
-use Prim.Native.Nat.{ℕ}
+use mathlib.Core.Path.{_≡_, refl, ap}
+use mathlib.Core.Bool.{true}
 use borrow.Author.Tests.{eq-eqb}
 use Rattle.plan.specs.Possible.{planPossible}
+use Rattle.cache.specs.Lines.{tableLength}
+use Rattle.ops.specs.Ops.{boxesLength}
 use Rattle.refusal.specs.declared.Verdict.{Verdict}
 use Rattle.refusal.specs.declared.Verdict.the-variants.{Accepted}
 use Rattle.engine.specs.Checks.{freshVerdict}
 use Rattle.engine.specs.FreshStart.{freshFrom, freshStartOf}
 use Rattle.written.proofs.Meaning.{given-possible}
 use Rattle.isolation.specs.Calls.{CallList, IsList, isRefused}
+use Rattle.isolation.specs.Statement.{IsolationOf}
 use Rattle.isolation.specs.Texts.{AcceptedIsolation, AcceptedList}
 use Rattle.isolation.proofs.Isolation.{isolation}
 
@@ -19,15 +21,24 @@ unfolding freshStartOf freshVerdict
 accepted-list list is =
     let possible : planPossible (list .plan) ≡ true = given-possible (list .plan) (is .accepted) in
     let verdict : freshVerdict (list .plan) (list .oldCache) (list .oldBoxes) ≡ Accepted =
-    rw (eq-eqb _ 272 (is .cache-fits), eq-eqb _ 64 (is .boxes-fit), possible) refl in
+    rw (eq-eqb _ tableLength (is .cache-fits), eq-eqb _ boxesLength (is .boxes-fit), possible) refl in
     record {
       started = ap (λ (v : Verdict). isRefused (freshFrom v (list .oldState) (list .oldCache) (list .oldBoxes) .verdict)) verdict;
       proper = is .proper;
     }
 
-pub accepted-isolation : AcceptedIsolation
-accepted-isolation =
+-- demand 3 of one kind of lists is demand 3 of any narrower kind
+narrower : {Narrow Kind : CallList → Type 0} → ((list : CallList) → Narrow list → Kind list) → IsolationOf Kind → IsolationOf Narrow
+narrower is i =
     record {
-      onTime = λ list is. isolation .onTime list (accepted-list list is);
-      isolated = λ observer one other is is′. isolation .isolated observer one other (accepted-list one is) (accepted-list other is′);
+      leaves = λ list n. i .leaves list (is list n);
+      accepted = λ list n. i .accepted list (is list n);
+      refused = λ list n. i .refused list (is list n);
+      unchanged = λ list n. i .unchanged list (is list n);
+      split = λ list n. i .split list (is list n);
+      onTime = λ list n. i .onTime list (is list n);
+      isolated = λ observer one other n n′. i .isolated observer one other (is one n) (is other n′);
     }
+
+pub accepted-isolation : AcceptedIsolation
+accepted-isolation = narrower accepted-list isolation

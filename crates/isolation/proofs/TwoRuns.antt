@@ -1,5 +1,5 @@
--- Two runs of one plan at corresponding points: what a domain sees is the same in both, whatever its rivals' scripts hold, if the boxes addressed to it
--- were equal at the start of each of its windows. Assumes nothing.
+-- Two runs at corresponding points, and domains that are named: what each of them sees is the same in both, whatever the others' scripts hold, if their
+-- windows began with the same in the boxes addressed to them. Assumes nothing.
 pub mod Access
 pub mod Places
 pub mod Relations
@@ -19,7 +19,6 @@ use Prim.Native.Nat.{ℕ, _≤_, _<_}
 use mathlib.Core.Bool.{true}
 use mathlib.Core.List.{List}
 use mathlib.Core.Path.{_≡_, refl, sym, ap, subst, _∙_}
-use native.Mathlib.Decide.{ℕ-discrete}
 use lib.ListN.{length}
 use Rattle.plan.specs.declared.Plan.{Plan}
 use Rattle.plan.specs.Possible.{planPossible}
@@ -30,7 +29,7 @@ use Rattle.state.specs.World.{positionAt, recordsAt}
 use Rattle.reached.proofs.Reached.{boxes-length}
 use Rattle.reached.proofs.Counts.{counted}
 use Rattle.engine.specs.FreshStart.{freshWorld}
-use Rattle.isolation.specs.Points.{Run, Within, opsOf, windowsAfter, worldAfter}
+use Rattle.isolation.specs.Points.{FreshRun, Within, opsOf, windowsAfter, worldAfter}
 use Rattle.isolation.specs.Statement.{BoxesAgree, Correspond, Only, SamePlan, SameSets, ScriptsAgree}
 use Corresponding.{locked-here, near-here, same-ops}
 use Lockstep.{Comparing}
@@ -40,25 +39,28 @@ use Ready.{BoxesKept, Given}
 use Relations.{same-position, same-records}
 use Windows.{OnTime, runBy}
 
--- the eight boxes addressed to a domain
-pub record BoxTo (recipient place : ℕ) : Type 0 where
+-- the boxes addressed to the named domains
+pub record BoxTo (Named : ℕ → Type 0) (place : ℕ) : Type 0 where
   pub sender : ℕ
+  pub recipient : ℕ
   pub known : sender < 8
+  pub named : Named recipient
   pub addressed : place ≡ boxPlace sender recipient
 
 -- what two runs must have in common at two points
-pub record Compared (observer : ℕ) (one : Run) (count : ℕ) (other : Run) (count′ : ℕ) : Type 0 where
+pub record Compared (Named : ℕ → Type 0) (one : FreshRun) (count : ℕ) (other : FreshRun) (count′ : ℕ) : Type 0 where
   pub possible : planPossible (one .plan) ≡ true
-  pub declared : observer < one .plan .domains
-  pub scripts : ScriptsAgree (Only observer) (one .scripts) (other .scripts)
+  pub isNamed : (domain : ℕ) → Dec (Named domain)
+  pub declared : (domain : ℕ) → Named domain → domain < one .plan .domains
+  pub scripts : ScriptsAgree Named (one .scripts) (other .scripts)
   pub logs : length (one .log) ≡ length (other .log)
   pub onTime : OnTime one count
   pub onTime′ : OnTime other count′
-  pub points : Correspond observer one count other count′
-  pub boxes : BoxesAgree observer one count other count′
+  pub points : Correspond Named one count other count′
+  pub boxes : BoxesAgree Named one count other count′
 
--- what the observer sees there
-pub record Same (observer : ℕ) (one : Run) (count : ℕ) (other : Run) (count′ : ℕ) : Type 0 where
+-- what a domain sees there
+pub record Same (observer : ℕ) (one : FreshRun) (count : ℕ) (other : FreshRun) (count′ : ℕ) : Type 0 where
   pub records : recordsAt (worldAfter one count .state) observer ≡ recordsAt (worldAfter other count′ .state) observer
   pub log :
       logPart (partRecords (one .plan) (length (one .log))) observer (recordsAt (worldAfter one count .state) observer)
@@ -72,76 +74,79 @@ pub record Same (observer : ℕ) (one : Run) (count : ℕ) (other : Run) (count�
       → window < windowsAfter one count
       → ownerOf (one .plan) window ≡ observer
       → opsOf one window count ≡ opsOf other window count′
-  pub clock : Within one observer count → worldAfter one count .state .clock ≡ worldAfter other count′ .state .clock
+  pub clock : Within (Only observer) one count → worldAfter one count .state .clock ≡ worldAfter other count′ .state .clock
 
 -- ---- runs of one plan
 
-module _ (observer : ℕ) (plan : Plan) (scripts scripts′ log log′ : List ℕ) (count count′ : ℕ)
-    (compared : Compared observer (runBy plan scripts log) count (runBy plan scripts′ log′) count′) where
-  -- the observer alone is named, and the boxes addressed to it are kept
-  comparing : Comparing plan (Only observer) (BoxTo observer) scripts scripts′ log log′
+module _ {Named : ℕ → Type 0} (plan : Plan) (scripts scripts′ log log′ : List ℕ) (count count′ : ℕ)
+    (compared : Compared Named (runBy plan scripts log) count (runBy plan scripts′ log′) count′) where
+  -- the boxes addressed to the named domains are kept
+  comparing : Comparing plan Named (BoxTo Named) scripts scripts′ log log′
   comparing =
       record {
         watched =
             record {
               possible = compared .possible;
-              isNamed = λ domain. ℕ-discrete domain observer;
-              declared = λ domain e. rw e (compared .declared);
-              to = λ domain e sender known. record { sender = sender; known = known; addressed = ap (boxPlace sender) e };
+              isNamed = compared .isNamed;
+              declared = compared .declared;
+              to = λ domain n sender known. record { sender = sender; recipient = domain; known = known; named = n; addressed = refl };
             };
         agree = compared .scripts;
         logs = compared .logs;
       }
 
-  -- equal boxes to the observer are boxes that agree, since they are as many
+  -- equal boxes to them are boxes that agree, since they are as many
   kept : BoxesKept comparing count count′
   unfolding worldAfter freshWorld
   kept window at at′ room owner s soFar s′ soFar′ =
       record {
         len = boxes-length plan scripts log at (compared .possible) ∙ sym (boxes-length plan scripts′ log′ at′ (compared .possible));
-        at = λ place p. rw (p .addressed) (compared .boxes window at at′ room owner s soFar s′ soFar′ (p .sender) (p .known));
+        at = λ place p.
+            rw (p .addressed) (compared .boxes window at at′ room owner s soFar s′ soFar′ (p .sender) (p .recipient) (p .known) (p .named));
       }
 
   given : Given comparing count count′
   given = record { onTime = compared .onTime; onTime′ = compared .onTime′; boxes = kept }
 
-  -- no domain has more records than its part of the log holds
-  few : recordsAt (worldAfter (runBy plan scripts log) count .state) observer ≤ partRecords plan (length log)
-  unfolding worldAfter freshWorld
-  few = counted plan scripts (partRecords plan (length log)) (compared .possible) count log .records observer
-
-  -- the current window, where it is the observer's
+  -- the current window, where it is a named domain's
   as-many : windowsAfter (runBy plan scripts log) count < windowsTotal plan
-      → ownerOf plan (windowsAfter (runBy plan scripts log) count) ≡ observer
+      → Named (ownerOf plan (windowsAfter (runBy plan scripts log) count))
       → opsOf (runBy plan scripts log) (windowsAfter (runBy plan scripts log) count) count
       ≡ opsOf (runBy plan scripts′ log′) (windowsAfter (runBy plan scripts log) count) count′
   as-many room owner = compared .points .ops (record { notEnded = room; owner = owner })
 
-  one-plan : Same observer (runBy plan scripts log) count (runBy plan scripts′ log′) count′
-  one-plan =
-      let windows = compared .points .windows in
-      let quota = partRecords plan (length log) in
-      let near = near-here comparing count count′ given windows as-many observer refl in
-      record {
-        records = same-records plan quota observer near;
-        log =
-            part-of-log quota observer _ few (near .log)
-            ∙ ap (λ (number : ℕ). logPart quota observer number (worldAfter (runBy plan scripts′ log′) count′ .log))
-            (same-records plan quota observer near);
-        position = same-position plan quota observer near;
-        sets = λ set way inTable inSet owns. near .sets .at _ (own-set plan observer set way inSet owns);
-        ops = λ window past owner. same-ops comparing count count′ given window past (rw (← windows) past) owner;
-        clock = λ w. locked-here comparing count count′ given windows as-many (w .notEnded) (w .owner) .close .clock;
-      }
+  module _ (observer : ℕ) (named : Named observer) where
+    -- no domain has more records than its part of the log holds
+    few : recordsAt (worldAfter (runBy plan scripts log) count .state) observer ≤ partRecords plan (length log)
+    unfolding worldAfter freshWorld
+    few = counted plan scripts (partRecords plan (length log)) (compared .possible) count log .records observer
 
--- ---- runs of plans that mean the same
+    one-plan : Same observer (runBy plan scripts log) count (runBy plan scripts′ log′) count′
+    one-plan =
+        let windows = compared .points .windows in
+        let quota = partRecords plan (length log) in
+        let near = near-here comparing count count′ given windows as-many observer named in
+        record {
+          records = same-records plan quota observer near;
+          log =
+              part-of-log quota observer _ few (near .log)
+              ∙ ap (λ (number : ℕ). logPart quota observer number (worldAfter (runBy plan scripts′ log′) count′ .log))
+              (same-records plan quota observer near);
+          position = same-position plan quota observer near;
+          sets = λ set way inTable inSet owns. near .sets .at _ (own-set plan observer set way inSet owns);
+          ops = λ window past owner. same-ops comparing count count′ given window past (rw (← windows) past) (subst Named (sym owner) named);
+          clock = λ w.
+              locked-here comparing count count′ given windows as-many (w .notEnded) (subst Named (sym (w .owner)) named) .close .clock;
+        }
 
-pub two-runs : (observer : ℕ) (one : Run) (count : ℕ) (other : Run) (count′ : ℕ) → SamePlan (one .plan) (other .plan)
-    → Compared observer one count other count′ → Same observer one count other count′
-two-runs observer one count other count′ plans =
+-- ---- runs of plans that are the same to the named domains
+
+pub two-runs : {Named : ℕ → Type 0} (one : FreshRun) (count : ℕ) (other : FreshRun) (count′ : ℕ) → SamePlan Named (one .plan) (other .plan)
+    → Compared Named one count other count′ → (observer : ℕ) → Named observer → Same observer one count other count′
+two-runs {Named} one count other count′ plans =
     subst
     (λ (plan : Plan).
-    Compared observer one count (runBy plan (other .scripts) (other .log)) count′
-    → Same observer one count (runBy plan (other .scripts) (other .log)) count′)
+    Compared Named one count (runBy plan (other .scripts) (other .log)) count′
+    → (observer : ℕ) → Named observer → Same observer one count (runBy plan (other .scripts) (other .log)) count′)
     plans
-    (one-plan observer (one .plan) (one .scripts) (other .scripts) (one .log) (other .log) count count′)
+    (one-plan (one .plan) (one .scripts) (other .scripts) (one .log) (other .log) count count′)

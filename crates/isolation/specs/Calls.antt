@@ -1,18 +1,20 @@
 -- Document 01, "Two lists of calls": a list of calls after a fresh start, what each call was handed, and what it answers and leaves, read off the
 -- definitions that the entry points' contracts cite. Assumes nothing.
-use Prim.Native.Nat.{ℕ, _+_}
+use Prim.Native.Nat.{ℕ, _+_, _<_}
 use mathlib.Core.Bool.{Bool, true, false, cond, not}
 use mathlib.Core.List.{List, [], _∷_}
 use mathlib.Core.Logic.{_⊎_}
 use mathlib.Core.Path.{_≡_}
 use lib.Dec.{eqb}
+use lib.ListN.{length}
 use Rattle.plan.specs.declared.Plan.{Plan}
 use Rattle.state.specs.declared.State.{State}
 use Rattle.state.specs.World.{World}
 use Rattle.refusal.specs.declared.Verdict.{Verdict}
 use Rattle.refusal.specs.Code.{codeOf}
 use Rattle.engine.specs.Asking.{logRefusalOf}
-use Rattle.engine.specs.FreshStart.{freshStartOf, freshWorld}
+use Rattle.engine.specs.Checks.{scriptsLength}
+use Rattle.engine.specs.FreshStart.{Fresh, freshStartOf}
 use Rattle.engine.specs.Running.{Run, runCallOf, stepCallOf}
 
 -- a call was handed the list's own thing, as the last call left it, or any other
@@ -50,7 +52,7 @@ pub record LogThings : Type 0 where
   pub state : Handed State
   pub log : Handed (List ℕ)
 
--- single step, running with any limit, asking for a log, the second question about it
+-- the four calls that may follow: a single step; a running, with its limit; an asking for a domain's log; the second question about such an asking
 pub data Call : Type 0 where
   stepCall : RunThings → Call
   runCall : RunThings → ℕ → Call
@@ -71,18 +73,64 @@ pub record CallList : Type 0 where
 abbrev pub isRefused : Verdict → Bool
 isRefused verdict = not (eqb (codeOf verdict .number) 0)
 
-module _ (plan : Plan) (scripts : List ℕ) where
-  -- the world that a step or a run was handed, beside the list's own
-  abbrev pub handedWorld : RunThings → World → World
-  handedWorld things world =
-      record {
-        state = handed (things .state) (world .state);
-        cache = handed (things .cache) (world .cache);
-        boxes = handed (things .boxes) (world .boxes);
-        log = handed (things .log) (world .log);
-      }
+-- the world that a step or a run was handed, beside the list's own
+abbrev pub handedWorld : RunThings → World → World
+handedWorld things world =
+    record {
+      state = handed (things .state) (world .state);
+      cache = handed (things .cache) (world .cache);
+      boxes = handed (things .boxes) (world .boxes);
+      log = handed (things .log) (world .log);
+    }
 
-  -- what the entry points answer, by their contracts' definitions
+-- the list's own world after a step or a run: what it was handed of its own is as that call left it
+abbrev pub leftWorld : RunThings → World → World → World
+leftWorld things world left =
+    record {
+      state = leftIn (things .state) (world .state) (left .state);
+      cache = leftIn (things .cache) (world .cache) (left .cache);
+      boxes = leftIn (things .boxes) (world .boxes) (left .boxes);
+      log = leftIn (things .log) (world .log) (left .log);
+    }
+
+-- how many steps a call asks for: a single step one, a running as many as its limit, the askings none
+abbrev pub stepsAsked : Call → ℕ
+stepsAsked (stepCall things) = 1
+stepsAsked (runCall things limit) = limit
+stepsAsked (logCall things domain) = 0
+stepsAsked (logQuestion things domain) = 0
+
+-- everything that a step or a run was handed is the list's own
+abbrev pub OwnRun : RunThings → Type 0
+OwnRun things =
+    IsOwn (things .plan)
+    × IsOwn (things .scripts)
+    × IsOwn (things .state)
+    × IsOwn (things .cache)
+    × IsOwn (things .boxes)
+    × IsOwn (things .log)
+
+-- everything that an asking or its second question was handed
+abbrev pub OwnAsked : LogThings → Type 0
+OwnAsked things = IsOwn (things .plan) × IsOwn (things .state) × IsOwn (things .log)
+
+-- everything that a call was handed
+abbrev pub AllOwn : Call → Type 0
+AllOwn (stepCall things) = OwnRun things
+AllOwn (runCall things limit) = OwnRun things
+AllOwn (logCall things domain) = OwnAsked things
+AllOwn (logQuestion things domain) = OwnAsked things
+
+-- what a call on the list's own things must still bring, not to be refused: a single step and a running want a script store of 2,048 numbers, an
+-- asking and its second question the number of a declared domain
+abbrev pub Admissible : Plan → List ℕ → Call → Type 0
+Admissible plan scripts (stepCall things) = length scripts ≡ scriptsLength
+Admissible plan scripts (runCall things limit) = length scripts ≡ scriptsLength
+Admissible plan scripts (logCall things domain) = domain < plan .domains
+Admissible plan scripts (logQuestion things domain) = domain < plan .domains
+
+module _ (plan : Plan) (scripts : List ℕ) where
+  -- what the entry points answer, by their contracts' definitions: running, the single step, and the second question about an asking
   unfoldable pub runAnswer : RunThings → ℕ → World → Run
   runAnswer things limit world = runCallOf (handed (things .plan) plan) (handed (things .scripts) scripts) (handedWorld things world) limit
 
@@ -93,38 +141,22 @@ module _ (plan : Plan) (scripts : List ℕ) where
   logAnswer things domain world =
       logRefusalOf (handed (things .plan) plan) (handed (things .state) (world .state)) (handed (things .log) (world .log)) domain
 
-  -- the list's own world after a step or a run: what it was handed of its own is as that call left it
-  abbrev pub leftWorld : RunThings → World → World → World
-  leftWorld things world left =
-      record {
-        state = leftIn (things .state) (world .state) (left .state);
-        cache = leftIn (things .cache) (world .cache) (left .cache);
-        boxes = leftIn (things .boxes) (world .boxes) (left .boxes);
-        log = leftIn (things .log) (world .log) (left .log);
-      }
-
-  -- the list's own world after a call; the askings leave everything
+  -- the list's own world after a call; the two askings are lent nothing that they could write to
   unfoldable pub afterCall : Call → World → World
   afterCall (stepCall things) world = leftWorld things world (stepAnswer things world .world)
   afterCall (runCall things limit) world = leftWorld things world (runAnswer things limit world .world)
   afterCall (logCall things domain) world = world
   afterCall (logQuestion things domain) world = world
 
-  -- a call's verdict on the list's own world; an asking's is had by the second question about it, and a second question is never refused itself:
-  -- what it answers is the asking's verdict
+  -- a call's verdict, on the list's own world. An asking answers bytes and no number: its number is what the second question about it answers. So the
+  -- two share one verdict, and a second question counts as refused where the asking would be.
   unfoldable pub verdictOf : Call → World → Verdict
   verdictOf (stepCall things) world = stepAnswer things world .verdict
   verdictOf (runCall things limit) world = runAnswer things limit world .verdict
   verdictOf (logCall things domain) world = logAnswer things domain world
   verdictOf (logQuestion things domain) world = logAnswer things domain world
 
-  -- how many steps a call asks for: one for a single step, a running's limit; none where it is refused
-  abbrev pub stepsAsked : Call → ℕ
-  stepsAsked (stepCall things) = 1
-  stepsAsked (runCall things limit) = limit
-  stepsAsked (logCall things domain) = 0
-  stepsAsked (logQuestion things domain) = 0
-
+  -- the steps that a call adds to its list's run: those it asks for, and none where it is refused
   unfoldable pub stepsCounted : Call → World → ℕ
   stepsCounted call world = cond (isRefused (verdictOf call world)) 0 (stepsAsked call)
 
@@ -137,44 +169,43 @@ module _ (plan : Plan) (scripts : List ℕ) where
   stepsOfCalls [] world = 0
   stepsOfCalls (call ∷ calls) world = stepsCounted call world + stepsOfCalls calls (afterCall call world)
 
-  -- every thing that a call was handed is the list's own
-  abbrev pub AllOwn : Call → Type 0
-  AllOwn (stepCall things) =
-      IsOwn (things .plan)
-      × IsOwn (things .scripts)
-      × IsOwn (things .state)
-      × IsOwn (things .cache)
-      × IsOwn (things .boxes)
-      × IsOwn (things .log)
-  AllOwn (runCall things limit) =
-      IsOwn (things .plan)
-      × IsOwn (things .scripts)
-      × IsOwn (things .state)
-      × IsOwn (things .cache)
-      × IsOwn (things .boxes)
-      × IsOwn (things .log)
-  AllOwn (logCall things domain) = IsOwn (things .plan) × IsOwn (things .state) × IsOwn (things .log)
-  AllOwn (logQuestion things domain) = IsOwn (things .plan) × IsOwn (things .state) × IsOwn (things .log)
-
-  -- each call gets the list's own things as the last one left them; a refused call may have been handed anything else
+  -- every call was refused, and then whatever it was handed will do, or it was handed the list's own things, as the calls before it left them
   unfoldable pub Proper : List Call → World → Type 0
   Proper [] world = Unit {0}
   Proper (call ∷ calls) world =
       ((isRefused (verdictOf call world) ≡ true) ⊎ AllOwn call) × Proper calls (afterCall call world)
 
--- the world from which the calls of a list start
-abbrev pub startWorld : CallList → World
-startWorld list = freshWorld (list .log)
+-- what the fresh start of a list answered and left
+abbrev pub freshOf : CallList → Fresh
+freshOf list = freshStartOf (list .plan) (list .oldState) (list .oldCache) (list .oldBoxes)
+
+-- the world from which the calls of a list start: what the fresh start left, and the log, which it does not take
+unfoldable pub startWorld : CallList → World
+startWorld list =
+    let fresh = freshOf list in
+    record { state = fresh .state; cache = fresh .cache; boxes = fresh .boxes; log = list .log }
 
 -- a list begins with a fresh start that was not refused, and its calls are as above
 pub record IsList (list : CallList) : Type 0 where
-  pub started : isRefused (freshStartOf (list .plan) (list .oldState) (list .oldCache) (list .oldBoxes) .verdict) ≡ false
+  pub started : isRefused (freshOf list .verdict) ≡ false
   pub proper : Proper (list .plan) (list .scripts) (list .calls) (startWorld list)
 
 -- what a list leaves
 abbrev pub leavesOf : CallList → World
 leavesOf list = afterCalls (list .plan) (list .scripts) (list .calls) (startWorld list)
 
--- the number of steps of a list's run: as many as its unrefused single steps and the limits of its unrefused runnings add up to
+-- a list's point: how many steps its run is, which is what its calls counted together. That may be more than there are up to the last switch: a step
+-- past it changes nothing.
 abbrev pub pointOf : CallList → ℕ
 pointOf list = stepsOfCalls (list .plan) (list .scripts) (list .calls) (startWorld list)
+
+-- the verdict on one more call after a list
+abbrev pub verdictAfter : CallList → Call → Verdict
+verdictAfter list call = verdictOf (list .plan) (list .scripts) call (leavesOf list)
+
+-- two runnings, one after the other, as one answer: the steps that both did, and for the rest what the second answered and left
+unfoldable pub runTwice : Plan → List ℕ → World → ℕ → ℕ → Run
+runTwice plan scripts world first second =
+    let one = runCallOf plan scripts world first in
+    let two = runCallOf plan scripts (one .world) second in
+    record { verdict = two .verdict; steps = one .steps + two .steps; ending = two .ending; world = two .world }

@@ -1,5 +1,6 @@
--- Document 01, "Two lists of calls": the windows of a run so far, their starts and their ops, and the points of two runs that correspond. Assumes nothing.
-use Prim.Native.Nat.{ℕ, zero, suc, _+_, _*_, _<_, _≤_}
+-- Document 01, "Two lists of calls": the points of a run, its windows so far with their starts and their ops, and the boxes addressed to a domain.
+-- Assumes nothing.
+use Prim.Native.Nat.{ℕ, zero, suc, _+_, _<_}
 use mathlib.Core.Bool.{Bool, cond, _&&_}
 use mathlib.Core.List.{List}
 use mathlib.Core.Path.{_≡_}
@@ -13,42 +14,46 @@ use Rattle.state.specs.World.{World}
 use Rattle.machine.specs.Steps.{steps}
 use Rattle.engine.specs.FreshStart.{freshWorld}
 
--- a run from a fresh start: a plan, a script store and a log
-pub record Run : Type 0 where
+-- a run from a fresh start, by what decides it: a plan, a script store and a log
+pub record FreshRun : Type 0 where
   pub plan : Plan
   pub scripts : List ℕ
   pub log : List ℕ
 
 -- the world after so many of its steps
-unfoldable pub worldAfter : Run → ℕ → World
+unfoldable pub worldAfter : FreshRun → ℕ → World
 worldAfter run count =
     steps (run .plan) (run .scripts) (partRecords (run .plan) (length (run .log))) count (freshWorld (run .log))
 
 -- the windows completed after so many steps
-abbrev pub windowsAfter : Run → ℕ → ℕ
+abbrev pub windowsAfter : FreshRun → ℕ → ℕ
 windowsAfter run count = worldAfter run count .state .windows
 
--- after `count` steps window k has just started: as many windows are completed for the first time. That is the fresh start, or just after a switch.
-pub record Starts (run : Run) (window count : ℕ) : Type 0 where
+-- after so many steps a window has just started: for the first time as many windows are completed as come before it. That is the fresh start, or right
+-- after a switch.
+pub record Starts (run : FreshRun) (window count : ℕ) : Type 0 where
   pub reached : windowsAfter run count ≡ window
   pub first : (earlier : ℕ) → earlier < count → windowsAfter run earlier < window
 
--- step number `count`, counted from 0, is an op of window k
-abbrev pub isOpOf : Run → ℕ → ℕ → Bool
+-- the step after so many others is an op of a window: it begins and ends in that window, of a run that has not ended
+abbrev pub isOpOf : FreshRun → ℕ → ℕ → Bool
 isOpOf run window count =
     ltb window (windowsTotal (run .plan)) && eqb (windowsAfter run count) window && eqb (windowsAfter run (suc count)) window
 
 -- a window's ops within so many steps: those done from its start to its own switch, or so far
-unfoldable pub opsOf : Run → ℕ → ℕ → ℕ
+unfoldable pub opsOf : FreshRun → ℕ → ℕ → ℕ
 opsOf run window zero = 0
 opsOf run window (suc count) = opsOf run window count + cond (isOpOf run window count) 1 0
 
--- a run is within a window of a domain after so many steps
-pub record Within (run : Run) (domain count : ℕ) : Type 0 where
+-- after so many steps a run is within a window of a domain that a predicate names
+pub record Within (Named : ℕ → Type 0) (run : FreshRun) (count : ℕ) : Type 0 where
   pub notEnded : windowsAfter run count < windowsTotal (run .plan)
-  pub owner : ownerOf (run .plan) (windowsAfter run count) ≡ domain
+  pub owner : Named (ownerOf (run .plan) (windowsAfter run count))
 
--- the boxes addressed to a domain, the eight at 8a + its number, are equal
-abbrev pub SameBoxesTo : ℕ → World → World → Type 0
-SameBoxesTo domain one other =
-    (sender : ℕ) → sender < 8 → getD (one .boxes) (boxPlace sender domain) 0 ≡ getD (other .boxes) (boxPlace sender domain) 0
+-- the boxes addressed to a domain are the eight at 8a + its number: those addressed to named domains are equal
+abbrev pub SameBoxesTo : (ℕ → Type 0) → World → World → Type 0
+SameBoxesTo Named one other =
+    (sender recipient : ℕ)
+    → sender < 8
+    → Named recipient
+    → getD (one .boxes) (boxPlace sender recipient) 0 ≡ getD (other .boxes) (boxPlace sender recipient) 0

@@ -1,5 +1,5 @@
 -- Document 01, "Two lists of calls": demand 3. (A) Windows start when the plan alone says. (B) Where two lists end at corresponding points, a domain
--- sees the same, whatever its rivals' scripts hold, if the boxes addressed to it were the same at the start of each of its windows. Assumes nothing.
+-- sees the same, whatever its rivals' scripts hold, if each of its windows began with the same in the boxes addressed to it. Assumes nothing.
 use Prim.Native.Nat.{ℕ, _+_, _*_, _<_, _≤_}
 use mathlib.Core.Bool.{true}
 use mathlib.Core.List.{List}
@@ -8,87 +8,99 @@ use lib.ListN.{getD, length}
 use Rattle.plan.specs.declared.Plan.{Plan}
 use Rattle.plan.specs.Colours.{ownsColour}
 use Rattle.plan.specs.Windows.{ownerOf, startOf, windowsTotal}
-use Rattle.cache.specs.Lines.{setColour, setPlace}
-use Rattle.state.specs.World.{World, positionAt}
+use Rattle.cache.specs.Lines.{setColour, setPlace, waysOfSet}
+use Rattle.state.specs.World.{positionAt}
 use Rattle.refusal.specs.declared.Verdict.the-variants.{Accepted}
 use Rattle.engine.specs.Asking.{logCallOf, logRefusalOf}
-use Rattle.isolation.specs.Calls.{CallList, IsList, leavesOf, pointOf}
-use Rattle.isolation.specs.Points.{Run, SameBoxesTo, Starts, Within, opsOf, windowsAfter, worldAfter}
+use Rattle.engine.specs.Running.{runCallOf}
+use Rattle.isolation.specs.Calls.{Admissible, AllOwn, Call, CallList, IsList, afterCall, isRefused, leavesOf, pointOf, runTwice, verdictAfter}
+use Rattle.isolation.specs.Points.{FreshRun, SameBoxesTo, Starts, Within, opsOf, windowsAfter, worldAfter}
 
 -- the run of a list
-abbrev pub runOfList : CallList → Run
+abbrev pub runOfList : CallList → FreshRun
 runOfList list = record { plan = list .plan; scripts = list .scripts; log = list .log }
 
 -- ---- (A)
 
--- after so many steps, each window so far, the current one too, started at the tick that the plan alone gives
-pub record StartedOnTime (run : Run) (count window : ℕ) : Type 0 where
+-- a window started within so many steps of a run, and its start was at the tick that the plan gives
+pub record StartedOnTime (run : FreshRun) (count window : ℕ) : Type 0 where
   pub at : ℕ
   pub soFar : at ≤ count
   pub starts : Starts run window at
   pub onTime : worldAfter run at .state .clock ≡ startOf (run .plan) window
 
+-- windows so far: those that a list's run has completed and the one it is in. Each started on time; of an ended run the end itself is counted in,
+-- which is where a next window would start.
 abbrev pub WindowsOnTime : CallList → Type 0
 WindowsOnTime list =
     (window : ℕ) → window ≤ windowsAfter (runOfList list) (pointOf list) → StartedOnTime (runOfList list) (pointOf list) window
 
--- ---- (B): its premises
+-- ---- (B): its premises, over a predicate that names the domains for which two lists must agree
 
--- two plans that mean the same for what a domain may notice: equal
-abbrev pub SamePlan : Plan → Plan → Type 0
-SamePlan one other = one ≡ other
+-- two plans are the same to the named domains. Whoever is named, that is equality: what the unnamed may have of their own in one list and not in the
+-- other is their scripts, and a plan does not hold scripts.
+abbrev pub SamePlan : (ℕ → Type 0) → Plan → Plan → Type 0
+SamePlan Named one other = one ≡ other
 
--- two script stores agree on the numbers of the domains that a predicate names
+-- two script stores hold the same 256 numbers for each named domain
 abbrev pub ScriptsAgree : (ℕ → Type 0) → List ℕ → List ℕ → Type 0
 ScriptsAgree Named one other =
     (domain : ℕ) → Named domain → (place : ℕ) → place < 256 → getD one (256 * domain + place) 0 ≡ getD other (256 * domain + place) 0
 
--- the observer alone
-abbrev pub Only : ℕ → ℕ → Type 0
-Only observer domain = domain ≡ observer
+-- points of two runs correspond: the same number of windows is completed, and where the current one is a named domain's, the same number of ops
+-- was done in it
+pub record Correspond (Named : ℕ → Type 0) (one : FreshRun) (count : ℕ) (other : FreshRun) (count′ : ℕ) : Type 0 where
+  pub windows : windowsAfter one count ≡ windowsAfter other count′
+  pub ops :
+      Within Named one count
+      → opsOf one (windowsAfter one count) count ≡ opsOf other (windowsAfter one count) count′
 
--- the boxes addressed to the observer were equal at the start of each of its windows so far, the current one included
-abbrev pub BoxesAgree : ℕ → Run → ℕ → Run → ℕ → Type 0
-BoxesAgree observer one count other count′ =
+-- whenever a named domain's window started, in both runs and no later than these points, the boxes addressed to named domains were equal
+abbrev pub BoxesAgree : (ℕ → Type 0) → FreshRun → ℕ → FreshRun → ℕ → Type 0
+BoxesAgree Named one count other count′ =
     (window at at′ : ℕ)
     → window < windowsTotal (one .plan)
-    → ownerOf (one .plan) window ≡ observer
+    → Named (ownerOf (one .plan) window)
     → Starts one window at
     → at ≤ count
     → Starts other window at′
     → at′ ≤ count′
-    → SameBoxesTo observer (worldAfter one at) (worldAfter other at′)
+    → SameBoxesTo Named (worldAfter one at) (worldAfter other at′)
 
--- points correspond: as many windows completed and, in the observer's own window, after as many of its ops in that window
-pub record Correspond (observer : ℕ) (one : Run) (count : ℕ) (other : Run) (count′ : ℕ) : Type 0 where
-  pub windows : windowsAfter one count ≡ windowsAfter other count′
-  pub ops :
-      Within one observer count
-      → opsOf one (windowsAfter one count) count ≡ opsOf other (windowsAfter one count) count′
-
--- what two lists have in common
-pub record Comparable (observer : ℕ) (one other : CallList) : Type 0 where
-  pub plans : SamePlan (one .plan) (other .plan)
-  pub declared : observer < one .plan .domains
-  pub scripts : ScriptsAgree (Only observer) (one .scripts) (other .scripts)
+-- what two lists must have in common, boxes aside
+pub record InCommon (Named : ℕ → Type 0) (one other : CallList) : Type 0 where
+  pub plans : SamePlan Named (one .plan) (other .plan)
+  pub declared : (domain : ℕ) → Named domain → domain < one .plan .domains
+  pub scripts : ScriptsAgree Named (one .scripts) (other .scripts)
   pub logs : length (one .log) ≡ length (other .log)
-  pub points : Correspond observer (runOfList one) (pointOf one) (runOfList other) (pointOf other)
-  pub boxes : BoxesAgree observer (runOfList one) (pointOf one) (runOfList other) (pointOf other)
+  pub points : Correspond Named (runOfList one) (pointOf one) (runOfList other) (pointOf other)
+
+-- and boxes
+pub record ComparableFor (Named : ℕ → Type 0) (one other : CallList) : Type 0 where
+  pub common : InCommon Named one other
+  pub boxes : BoxesAgree Named (runOfList one) (pointOf one) (runOfList other) (pointOf other)
+
+-- the observer alone is named
+abbrev pub Only : ℕ → ℕ → Type 0
+Only observer domain = domain ≡ observer
+
+abbrev pub Comparable : ℕ → CallList → CallList → Type 0
+Comparable observer one other = ComparableFor (Only observer) one other
 
 -- ---- (B): its conclusion
 
--- a domain's part of the partitioned cache, the L2 sets of its colours, entry by entry
+-- every number of the L2 sets that have one of a domain's colours is equal
 abbrev pub SameSets : Plan → ℕ → List ℕ → List ℕ → Type 0
 SameSets plan domain one other =
     (set way : ℕ)
     → set < 64
-    → way < 4
+    → way < waysOfSet
     → ownsColour plan domain (setColour set) ≡ true
     → getD one (setPlace set + way) 0 ≡ getD other (setPlace set + way) 0
 
 -- what the observer sees is equal after two lists
 pub record SameSeen (observer : ℕ) (one other : CallList) : Type 0 where
-  -- its log, in every byte, as an asking hands it back, and no asking is refused
+  -- an asking for its log is refused after neither, and hands back the same bytes
   pub asked : logRefusalOf (one .plan) (leavesOf one .state) (leavesOf one .log) observer ≡ Accepted
   pub asked′ : logRefusalOf (other .plan) (leavesOf other .state) (leavesOf other .log) observer ≡ Accepted
   pub log :
@@ -98,19 +110,52 @@ pub record SameSeen (observer : ℕ) (one other : CallList) : Type 0 where
   pub position : positionAt (leavesOf one .state) observer ≡ positionAt (leavesOf other .state) observer
   -- its part of the partitioned cache
   pub sets : SameSets (one .plan) observer (leavesOf one .cache) (leavesOf other .cache)
-  -- each of its completed windows held as many ops in one run as in the other
+  -- the number of ops in each window that it has completed
   pub ops :
       (window : ℕ)
       → window < leavesOf one .state .windows
       → ownerOf (one .plan) window ≡ observer
       → opsOf (runOfList one) window (pointOf one) ≡ opsOf (runOfList other) window (pointOf other)
   -- in its own window, the clocks
-  pub clock : Within (runOfList one) observer (pointOf one) → leavesOf one .state .clock ≡ leavesOf other .state .clock
+  pub clock : Within (Only observer) (runOfList one) (pointOf one) → leavesOf one .state .clock ≡ leavesOf other .state .clock
 
--- demand 3
-pub record Isolation : Type 0 where
+-- ---- demand 3
+
+-- said of all lists of some kind
+pub record IsolationOf (Kind : CallList → Type 0) : Type 0 where
   -- what a list leaves is so many steps of its fresh start
-  pub leaves : (list : CallList) → IsList list → leavesOf list ≡ worldAfter (runOfList list) (pointOf list)
-  pub onTime : (list : CallList) → IsList list → WindowsOnTime list
+  pub leaves : (list : CallList) → Kind list → leavesOf list ≡ worldAfter (runOfList list) (pointOf list)
+  -- one more call, on the list's own things: if it is admissible it is not refused
+  pub accepted :
+      (list : CallList) → Kind list → (call : Call) → AllOwn call → Admissible (list .plan) (list .scripts) call → verdictAfter list call ≡ Accepted
+  -- and else it is
+  pub refused :
+      (list : CallList)
+      → Kind list
+      → (call : Call)
+      → AllOwn call
+      → (Admissible (list .plan) (list .scripts) call → ⊥)
+      → isRefused (verdictAfter list call) ≡ true
+  -- a refused call, whatever it was handed, leaves the list's own world as it was
+  pub unchanged :
+      (list : CallList)
+      → Kind list
+      → (call : Call)
+      → isRefused (verdictAfter list call) ≡ true
+      → afterCall (list .plan) (list .scripts) call (leavesOf list) ≡ leavesOf list
+  -- a running that may do a + b steps is one that may do a, then one that may do b. The sum is a number like any other here, also where it is more than
+  -- the entry point's limit can hold.
+  pub split :
+      (list : CallList)
+      → Kind list
+      → (first second : ℕ)
+      → runCallOf (list .plan) (list .scripts) (leavesOf list) (first + second) ≡ runTwice (list .plan) (list .scripts) (leavesOf list) first second
+  -- (A)
+  pub onTime : (list : CallList) → Kind list → WindowsOnTime list
+  -- (B)
   pub isolated :
-      (observer : ℕ) (one other : CallList) → IsList one → IsList other → Comparable observer one other → SameSeen observer one other
+      (observer : ℕ) (one other : CallList) → Kind one → Kind other → Comparable observer one other → SameSeen observer one other
+
+-- of every list whose fresh start was not refused
+abbrev pub Isolation : Type 0
+Isolation = IsolationOf IsList

@@ -1,1 +1,1 @@
-// Lists of calls, and the theorem about two of them: what a domain sees does not depend on its rivals' scripts. No code.
+// What a list of calls leaves; and that two lists show a domain the same, whichever scripts its rivals run. No code.

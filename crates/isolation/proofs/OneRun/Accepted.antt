@@ -1,5 +1,5 @@
--- Which calls are refused after a list: with a script store of 2,048 numbers no step or run that is handed the list's own things, and no asking for a
--- declared domain; with a store of another length every own step and run. Assumes nothing.
+-- Which calls on a list's own things are refused after it: a step or a run where the script store has not 2,048 numbers, an asking where the domain is
+-- not declared, and no other. Assumes nothing.
 use Prim.Native.Nat.{ℕ, _<_}
 use mathlib.Core.Bool.{true}
 use mathlib.Core.List.{List}
@@ -11,22 +11,22 @@ use Rattle.records.specs.Records.{partRecords}
 use Rattle.state.specs.Impossible.{statePossible}
 use Rattle.state.specs.World.{World}
 use Rattle.reached.proofs.Reached.{boxes-length, cache-length, log-length, state-possible, tables-sound}
-use Rattle.refusal.specs.declared.Refusal.the-variants.{WrongLength}
+use Rattle.refusal.specs.declared.Refusal.the-variants.{WrongDomain}
 use Rattle.refusal.specs.declared.Verdict.the-variants.{Accepted, Refused}
 use Rattle.engine.specs.Asking.{logRefusalOf}
 use Rattle.engine.specs.Checks.{runVerdict, scriptsLength}
 use Rattle.engine.specs.FreshStart.{freshWorld}
 use Rattle.engine.specs.Running.{stepCallOf}
-use Rattle.isolation.specs.Calls.{AllOwn, Call, CallList, IsList, LogThings, RunThings, leavesOf, logAnswer, logCall, logQuestion, pointOf, runAnswer, runCall, stepAnswer, stepCall, verdictOf}
-use Rattle.isolation.specs.Points.{Run, worldAfter}
+use Rattle.isolation.specs.Calls.{Admissible, AllOwn, Call, CallList, IsList, LogThings, RunThings, isRefused, leavesOf, logAnswer, logCall, logQuestion, pointOf, runAnswer, runCall, stepAnswer, stepCall, verdictAfter, verdictOf}
+use Rattle.isolation.specs.Points.{FreshRun, worldAfter}
 use Rattle.isolation.specs.Statement.{runOfList}
 use Rattle.isolation.proofs.OneRun.Calls.{all-own, all-own-asked}
 use Rattle.isolation.proofs.OneRun.Leaves.{leaves, list-possible}
-use Rattle.isolation.proofs.OneRun.Verdicts.{asking-passes, run-passes, run-verdict, wrong-store}
+use Rattle.isolation.proofs.OneRun.Verdicts.{asking-passes, run-passes, run-verdict, wrong-domain, wrong-store}
 
 -- ---- a world of a run passes the checks
 
-module _ (run : Run) (count : ℕ) (possible : planPossible (run .plan) ≡ true) where
+module _ (run : FreshRun) (count : ℕ) (possible : planPossible (run .plan) ≡ true) where
   state-passes : statePossible (run .plan) (partRecords (run .plan) (length (worldAfter run count .log))) (worldAfter run count .state) ≡ true
   unfolding worldAfter freshWorld
   state-passes =
@@ -34,7 +34,7 @@ module _ (run : Run) (count : ℕ) (possible : planPossible (run .plan) ≡ true
       (sym (log-length (run .plan) (run .scripts) (run .log) count possible))
       (state-possible (run .plan) (run .scripts) (run .log) count possible)
 
-  run-verdict-accepted : length (run .scripts) ≡ scriptsLength → runVerdict (run .plan) (run .scripts) (worldAfter run count) ≡ Accepted
+  pub run-verdict-accepted : length (run .scripts) ≡ scriptsLength → runVerdict (run .plan) (run .scripts) (worldAfter run count) ≡ Accepted
   unfolding worldAfter freshWorld
   run-verdict-accepted store =
       run-passes (run .plan) (run .scripts) (worldAfter run count) store
@@ -48,34 +48,31 @@ module _ (run : Run) (count : ℕ) (possible : planPossible (run .plan) ≡ true
       → logRefusalOf (run .plan) (worldAfter run count .state) (worldAfter run count .log) domain ≡ Accepted
   asking-accepted domain declared = asking-passes (run .plan) _ _ domain possible state-passes declared
 
+  asking-refused : (domain : ℕ) → (domain < run .plan .domains → ⊥)
+      → logRefusalOf (run .plan) (worldAfter run count .state) (worldAfter run count .log) domain ≡ Refused (WrongDomain 0)
+  asking-refused domain undeclared = wrong-domain (run .plan) _ _ domain possible state-passes undeclared
+
 -- ---- a call that is handed the list's own things
 
 -- its verdict on a world is that of the checks on that world
 module _ (plan : Plan) (scripts : List ℕ) (world : World) where
-  own-step : (things : RunThings) → AllOwn plan scripts (stepCall things) → verdictOf plan scripts (stepCall things) world ≡ runVerdict plan scripts world
+  own-step : (things : RunThings) → AllOwn (stepCall things) → verdictOf plan scripts (stepCall things) world ≡ runVerdict plan scripts world
   unfolding verdictOf stepAnswer stepCallOf
   own-step things owned =
       ap (λ handed-things. verdictOf plan scripts (stepCall handed-things) world) (all-own things owned) ∙ run-verdict plan scripts world 1
 
-  own-run : (things : RunThings) (limit : ℕ) → AllOwn plan scripts (runCall things limit)
+  own-run : (things : RunThings) (limit : ℕ) → AllOwn (runCall things limit)
       → verdictOf plan scripts (runCall things limit) world ≡ runVerdict plan scripts world
   unfolding verdictOf runAnswer
   own-run things limit owned =
       ap (λ handed-things. verdictOf plan scripts (runCall handed-things limit) world) (all-own things owned) ∙ run-verdict plan scripts world limit
 
-  own-asking : (things : LogThings) (domain : ℕ) → AllOwn plan scripts (logCall things domain)
+  own-asking : (things : LogThings) (domain : ℕ) → AllOwn (logCall things domain)
       → logAnswer plan scripts things domain world ≡ logRefusalOf plan (world .state) (world .log) domain
   unfolding logAnswer
   own-asking things domain owned = ap (λ handed-things. logAnswer plan scripts handed-things domain world) (all-own-asked things owned)
 
 -- ---- a call after a list
-
--- a step and a run want a script store of 2,048 numbers, an asking a declared domain
-abbrev pub Acceptable : Plan → List ℕ → Call → Type 0
-Acceptable plan scripts (stepCall things) = length scripts ≡ scriptsLength
-Acceptable plan scripts (runCall things limit) = length scripts ≡ scriptsLength
-Acceptable plan scripts (logCall things domain) = domain < plan .domains
-Acceptable plan scripts (logQuestion things domain) = domain < plan .domains
 
 module _ (list : CallList) (is : IsList list) where
   -- an asking for a declared domain's log is not refused after any list
@@ -90,9 +87,15 @@ module _ (list : CallList) (is : IsList list) where
       subst (λ world. runVerdict (list .plan) (list .scripts) world ≡ Accepted) (sym (leaves list is))
       (run-verdict-accepted (runOfList list) (pointOf list) (list-possible list is) store)
 
-  -- such a call that is handed the list's own things is not refused
-  pub own-accepted : (call : Call) → AllOwn (list .plan) (list .scripts) call → Acceptable (list .plan) (list .scripts) call
-      → verdictOf (list .plan) (list .scripts) call (leavesOf list) ≡ Accepted
+  -- and for an undeclared one's it is
+  not-asked : (domain : ℕ) → (domain < list .plan .domains → ⊥)
+      → logRefusalOf (list .plan) (leavesOf list .state) (leavesOf list .log) domain ≡ Refused (WrongDomain 0)
+  not-asked domain undeclared =
+      subst (λ world. logRefusalOf (list .plan) (world .state) (world .log) domain ≡ Refused (WrongDomain 0)) (sym (leaves list is))
+      (asking-refused (runOfList list) (pointOf list) (list-possible list is) domain undeclared)
+
+  -- an admissible call on the list's own things is not refused
+  pub own-accepted : (call : Call) → AllOwn call → Admissible (list .plan) (list .scripts) call → verdictAfter list call ≡ Accepted
   unfolding verdictOf
   own-accepted (stepCall things) owned store = own-step (list .plan) (list .scripts) (leavesOf list) things owned ∙ own-verdict store
   own-accepted (runCall things limit) owned store = own-run (list .plan) (list .scripts) (leavesOf list) things limit owned ∙ own-verdict store
@@ -101,10 +104,16 @@ module _ (list : CallList) (is : IsList list) where
   own-accepted (logQuestion things domain) owned declared =
       own-asking (list .plan) (list .scripts) (leavesOf list) things domain owned ∙ asked domain declared
 
--- with a store of another length every step and run that is handed the list's own things is refused, whatever the world
-module _ (plan : Plan) (scripts : List ℕ) (differs : length scripts ≡ scriptsLength → ⊥) (world : World) (things : RunThings) where
-  pub own-step-refused : AllOwn plan scripts (stepCall things) → verdictOf plan scripts (stepCall things) world ≡ Refused WrongLength
-  own-step-refused owned = own-step plan scripts world things owned ∙ wrong-store plan scripts world differs
-
-  pub own-run-refused : (limit : ℕ) → AllOwn plan scripts (runCall things limit) → verdictOf plan scripts (runCall things limit) world ≡ Refused WrongLength
-  own-run-refused limit owned = own-run plan scripts world things limit owned ∙ wrong-store plan scripts world differs
+  -- and any other is
+  pub own-refused : (call : Call) → AllOwn call → (Admissible (list .plan) (list .scripts) call → ⊥) → isRefused (verdictAfter list call) ≡ true
+  unfolding verdictOf
+  own-refused (stepCall things) owned differs =
+      ap isRefused
+      (own-step (list .plan) (list .scripts) (leavesOf list) things owned ∙ wrong-store (list .plan) (list .scripts) (leavesOf list) differs)
+  own-refused (runCall things limit) owned differs =
+      ap isRefused
+      (own-run (list .plan) (list .scripts) (leavesOf list) things limit owned ∙ wrong-store (list .plan) (list .scripts) (leavesOf list) differs)
+  own-refused (logCall things domain) owned undeclared =
+      ap isRefused (own-asking (list .plan) (list .scripts) (leavesOf list) things domain owned ∙ not-asked domain undeclared)
+  own-refused (logQuestion things domain) owned undeclared =
+      ap isRefused (own-asking (list .plan) (list .scripts) (leavesOf list) things domain owned ∙ not-asked domain undeclared)

@@ -10,7 +10,7 @@ use Rattle.records.specs.Records.{partRecords}
 use Rattle.state.specs.World.{World}
 use Rattle.machine.specs.Steps.{steps}
 use Rattle.engine.specs.Running.{stepCallOf}
-use Rattle.isolation.specs.Calls.{AllOwn, Call, Handed, IsOwn, LogThings, RunThings, afterCall, foreign, handed, handedWorld, isRefused, leftIn, leftWorld, logCall, logQuestion, own, runAnswer, runCall, stepAnswer, stepCall, stepsAsked, stepsCounted, verdictOf}
+use Rattle.isolation.specs.Calls.{AllOwn, Call, Handed, IsOwn, LogThings, OwnAsked, OwnRun, RunThings, afterCall, foreign, handed, handedWorld, isRefused, leftIn, leftWorld, logCall, logQuestion, own, runAnswer, runCall, stepAnswer, stepCall, stepsAsked, stepsCounted, verdictOf}
 use Rattle.isolation.proofs.OneRun.Verdicts.{run-accepted, run-refused}
 
 -- a thing that a call left as it was handed leaves the list's own as it was
@@ -26,14 +26,7 @@ is-own (foreign other) owned = absurd owned
 abbrev pub ownThings : RunThings
 ownThings = record { plan = own; scripts = own; state = own; cache = own; boxes = own; log = own }
 
-pub all-own : (things : RunThings)
-    → IsOwn (things .plan)
-    × IsOwn (things .scripts)
-    × IsOwn (things .state)
-    × IsOwn (things .cache)
-    × IsOwn (things .boxes)
-    × IsOwn (things .log)
-    → things ≡ ownThings
+pub all-own : (things : RunThings) → OwnRun things → things ≡ ownThings
 all-own things owned =
     let plan = is-own (things .plan) (owned .0) in
     let scripts = is-own (things .scripts) (owned .1) in
@@ -47,7 +40,7 @@ all-own things owned =
 abbrev pub ownAsked : LogThings
 ownAsked = record { plan = own; state = own; log = own }
 
-pub all-own-asked : (things : LogThings) → IsOwn (things .plan) × IsOwn (things .state) × IsOwn (things .log) → things ≡ ownAsked
+pub all-own-asked : (things : LogThings) → OwnAsked things → things ≡ ownAsked
 all-own-asked things owned =
     let plan = is-own (things .plan) (owned .0) in
     let state = is-own (things .state) (owned .1) in
@@ -57,9 +50,9 @@ all-own-asked things owned =
 module _ (plan : Plan) (scripts : List ℕ) where
   -- ---- a refused call leaves the list's own world
 
-  left-handed : (things : RunThings) (world left : World) → left ≡ handedWorld plan scripts things world → leftWorld plan scripts things world left ≡ world
+  left-handed : (things : RunThings) (world left : World) → left ≡ handedWorld things world → leftWorld things world left ≡ world
   left-handed things world left same =
-      ap (leftWorld plan scripts things world) same
+      ap (leftWorld things world) same
       ∙ (λ i.
       record {
         state = left-same (things .state) (world .state) i;
@@ -92,8 +85,8 @@ module _ (plan : Plan) (scripts : List ℕ) where
   own-run limit world accepted = run-accepted plan scripts world limit accepted
 
   -- a call that was not refused was handed the list's own things
-  accepted-steps : (call : Call) (world : World) → isRefused (verdictOf plan scripts call world) ≡ false → AllOwn plan scripts call
-      → afterCall plan scripts call world ≡ steps plan scripts (quotaOf world) (stepsAsked plan scripts call) world
+  accepted-steps : (call : Call) (world : World) → isRefused (verdictOf plan scripts call world) ≡ false → AllOwn call
+      → afterCall plan scripts call world ≡ steps plan scripts (quotaOf world) (stepsAsked call) world
   unfolding afterCall steps
   accepted-steps (stepCall things) world accepted owned =
       subst (λ handed-things. isRefused (verdictOf plan scripts (stepCall handed-things) world) ≡ false
@@ -108,14 +101,14 @@ module _ (plan : Plan) (scripts : List ℕ) where
 
   -- a call leaves as many steps as it counts
   pub call-steps : (call : Call) (world : World)
-      → (isRefused (verdictOf plan scripts call world) ≡ true) ⊎ AllOwn plan scripts call
+      → (isRefused (verdictOf plan scripts call world) ≡ true) ⊎ AllOwn call
       → afterCall plan scripts call world ≡ steps plan scripts (quotaOf world) (stepsCounted plan scripts call world) world
   unfolding stepsCounted steps
   call-steps call world proper = go (isRefused (verdictOf plan scripts call world)) refl proper
     where
       go : (refused : Bool) → isRefused (verdictOf plan scripts call world) ≡ refused
-          → (isRefused (verdictOf plan scripts call world) ≡ true) ⊎ AllOwn plan scripts call
-          → afterCall plan scripts call world ≡ steps plan scripts (quotaOf world) (cond refused 0 (stepsAsked plan scripts call)) world
+          → (isRefused (verdictOf plan scripts call world) ≡ true) ⊎ AllOwn call
+          → afterCall plan scripts call world ≡ steps plan scripts (quotaOf world) (cond refused 0 (stepsAsked call)) world
       go true test proper′ = refused-stays call world test
       go false test (inl refused) = absurd (false≢true (sym test ∙ refused))
       go false test (inr owned) = accepted-steps call world test owned

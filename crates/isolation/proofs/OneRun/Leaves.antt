@@ -3,7 +3,7 @@ use Prim.Native.Nat.{ℕ, _+_}
 use mathlib.Core.Bool.{true}
 use mathlib.Core.List.{List, [], _∷_}
 use mathlib.Core.Logic.{_⊎_}
-use mathlib.Core.Path.{_≡_, refl, sym, ap, _∙_}
+use mathlib.Core.Path.{_≡_, sym, ap, _∙_}
 use native.Mathlib.Nat.{add-assoc, add-zero, zero-add}
 use lib.ListN.{length}
 use Rattle.plan.specs.Possible.{planPossible}
@@ -13,24 +13,29 @@ use Rattle.machine.specs.Steps.{steps}
 use Rattle.machine.proofs.Runs.{steps-add}
 use Rattle.reached.proofs.Reached.{log-length}
 use Rattle.engine.specs.FreshStart.{freshWorld}
-use Rattle.isolation.specs.Calls.{AllOwn, Call, CallList, IsList, Proper, afterCall, afterCalls, isRefused, leavesOf, pointOf, stepsCounted, stepsOfCalls, verdictOf}
-use Rattle.isolation.specs.Points.{Run, worldAfter}
+use Rattle.isolation.specs.Calls.{AllOwn, Call, CallList, IsList, Proper, afterCall, afterCalls, isRefused, leavesOf, pointOf, startWorld, stepsCounted, stepsOfCalls, verdictOf}
+use Rattle.isolation.specs.Points.{FreshRun, worldAfter}
 use Rattle.isolation.specs.Statement.{runOfList}
 use Rattle.isolation.proofs.OneRun.Calls.{call-steps}
-use Rattle.isolation.proofs.OneRun.Verdicts.{fresh-possible}
+use Rattle.isolation.proofs.OneRun.Verdicts.{fresh-possible, fresh-started}
 
 -- the plan of a list is a possible one
 pub list-possible : (list : CallList) → IsList list → planPossible (list .plan) ≡ true
 list-possible list is = fresh-possible (list .plan) (list .oldState) (list .oldCache) (list .oldBoxes) (is .started)
 
-module _ (run : Run) (possible : planPossible (run .plan) ≡ true) where
+-- its calls start from the machine's fresh world
+pub list-start : (list : CallList) → IsList list → startWorld list ≡ freshWorld (list .log)
+unfolding startWorld
+list-start list is = fresh-started (list .plan) (list .oldState) (list .oldCache) (list .oldBoxes) (list .log) (is .started)
+
+module _ (run : FreshRun) (possible : planPossible (run .plan) ≡ true) where
   -- the log keeps its length, and so do its parts
-  quota-kept : (count : ℕ) → partRecords (run .plan) (length (worldAfter run count .log)) ≡ partRecords (run .plan) (length (run .log))
+  pub quota-kept : (count : ℕ) → partRecords (run .plan) (length (worldAfter run count .log)) ≡ partRecords (run .plan) (length (run .log))
   unfolding worldAfter freshWorld
   quota-kept count = ap (partRecords (run .plan)) (log-length (run .plan) (run .scripts) (run .log) count possible)
 
   -- steps from a world of the run lead to a later one
-  steps-later : (count more : ℕ)
+  pub steps-later : (count more : ℕ)
       → steps (run .plan) (run .scripts) (partRecords (run .plan) (length (worldAfter run count .log))) more (worldAfter run count)
       ≡ worldAfter run (count + more)
   unfolding worldAfter
@@ -41,7 +46,7 @@ module _ (run : Run) (possible : planPossible (run .plan) ≡ true) where
   -- so a call leads from a world of the run to the one that is as many steps later as the call counts
   call-later : (call : Call) (count : ℕ) (world : World)
       → world ≡ worldAfter run count
-      → (isRefused (verdictOf (run .plan) (run .scripts) call world) ≡ true) ⊎ AllOwn (run .plan) (run .scripts) call
+      → (isRefused (verdictOf (run .plan) (run .scripts) call world) ≡ true) ⊎ AllOwn call
       → afterCall (run .plan) (run .scripts) call world ≡ worldAfter run (count + stepsCounted (run .plan) (run .scripts) call world)
   call-later call count world reached proper =
       let counted = stepsCounted (run .plan) (run .scripts) call world in
@@ -65,5 +70,5 @@ module _ (run : Run) (possible : planPossible (run .plan) ≡ true) where
 pub leaves : (list : CallList) → IsList list → leavesOf list ≡ worldAfter (runOfList list) (pointOf list)
 unfolding worldAfter steps
 leaves list is =
-    calls-later (runOfList list) (list-possible list is) (list .calls) 0 (freshWorld (list .log)) refl (is .proper)
+    calls-later (runOfList list) (list-possible list is) (list .calls) 0 (startWorld list) (list-start list is) (is .proper)
     ∙ ap (worldAfter (runOfList list)) (zero-add (pointOf list))

@@ -1,4 +1,4 @@
--- Each window so far started at the tick that the plan alone gives. Assumes nothing.
+-- Every window that a run has come to started when the plan says. Assumes nothing.
 use Prim.Native.Nat.{ℕ, zero, suc, _+_, _≤_, _<_}
 use mathlib.Core.Bool.{Bool, true, false}
 use mathlib.Core.Logic.{inl, inr}
@@ -17,11 +17,11 @@ use Rattle.machine.specs.Steps.{steps}
 use Rattle.machine.proofs.Schedule.{NextStarts, NextWindow, Scheduled, scheduled, step-windows}
 use Rattle.engine.specs.FreshStart.{freshWorld}
 use Rattle.isolation.specs.Calls.{CallList, IsList, pointOf}
-use Rattle.isolation.specs.Points.{Run, windowsAfter, worldAfter}
+use Rattle.isolation.specs.Points.{FreshRun, windowsAfter, worldAfter}
 use Rattle.isolation.specs.Statement.{StartedOnTime, WindowsOnTime, runOfList}
 use Rattle.isolation.proofs.OneRun.Leaves.{list-possible}
 
-module _ (run : Run) (possible : planPossible (run .plan) ≡ true) where
+module _ (run : FreshRun) (possible : planPossible (run .plan) ≡ true) where
   -- every world of a run is on schedule
   pub scheduled-after : (count : ℕ) → Scheduled (run .plan) (worldAfter run count)
   unfolding worldAfter freshWorld

@@ -3,8 +3,9 @@ use Prim.Native.Nat.{ℕ, _<_}
 use mathlib.Core.Bool.{Bool, true, false, false≢true}
 use mathlib.Core.List.{List}
 use mathlib.Core.Path.{_≡_, refl, sym, _∙_}
+use native.Mathlib.Omega.{arith}
 use lib.ListN.{length}
-use borrow.Author.Tests.{eq-eqb, lt-ltb, ne-eqb}
+use borrow.Author.Tests.{eq-eqb, le-ltb, lt-ltb, ne-eqb}
 use Rattle.plan.specs.declared.Plan.{Plan}
 use Rattle.plan.specs.Possible.{planPossible}
 use Rattle.cache.specs.Lines.{tableLength}
@@ -24,7 +25,7 @@ use Rattle.refusal.specs.declared.Verdict.{Verdict}
 use Rattle.refusal.specs.declared.Verdict.the-variants.{Accepted, Refused}
 use Rattle.engine.specs.Asking.{logRefusalOf}
 use Rattle.engine.specs.Checks.{freshVerdict, logVerdict, runVerdict, scriptsLength, stateVerdict, tablesFit, unless}
-use Rattle.engine.specs.FreshStart.{freshFrom, freshStartOf}
+use Rattle.engine.specs.FreshStart.{Fresh, freshFrom, freshStartOf, freshWorld}
 use Rattle.engine.specs.Running.{ranFrom, runCallOf, runFrom}
 use Rattle.isolation.specs.Calls.{isRefused}
 
@@ -113,6 +114,20 @@ unfolding logRefusalOf logVerdict
 asking-passes plan state log domain possible passes declared =
     rw (possible, state-accepted plan state (length log) passes, lt-ltb domain (plan .domains) declared, logVerdict)
 
+-- but an undeclared one's is not
+pub wrong-domain : (plan : Plan) (state : State) (log : List ℕ) (domain : ℕ)
+    → planPossible plan ≡ true
+    → statePossible plan (partRecords plan (length log)) state ≡ true
+    → (domain < plan .domains → ⊥)
+    → logRefusalOf plan state log domain ≡ Refused (WrongDomain 0)
+unfolding logRefusalOf logVerdict
+wrong-domain plan state log domain possible passes undeclared =
+    rw (possible, state-accepted plan state (length log) passes, le-ltb domain (plan .domains) (omega arith), logVerdict)
+
+-- what a fresh start leaves, and a log, as a world
+abbrev beside : Fresh → List ℕ → World
+beside fresh log = record { state = fresh .state; cache = fresh .cache; boxes = fresh .boxes; log = log }
+
 -- a fresh start that is not refused was handed a possible plan
 pub fresh-possible : (plan : Plan) (state : State) (cache boxes : List ℕ) → isRefused (freshStartOf plan state cache boxes .verdict) ≡ false → planPossible plan ≡ true
 unfolding freshStartOf freshVerdict
@@ -122,3 +137,14 @@ fresh-possible plan state cache boxes started = go (tablesFit cache boxes) (plan
     go true true accepted = refl
     go true false accepted = sym accepted
     go false possible accepted = absurd (false≢true (sym accepted))
+
+-- and it left the machine's fresh world, beside any log
+pub fresh-started : (plan : Plan) (state : State) (cache boxes log : List ℕ) → isRefused (freshStartOf plan state cache boxes .verdict) ≡ false
+    → beside (freshStartOf plan state cache boxes) log ≡ freshWorld log
+unfolding freshStartOf freshWorld
+fresh-started plan state cache boxes log started = go (freshVerdict plan cache boxes) started
+  where
+    go : (verdict : Verdict) → isRefused (freshFrom verdict state cache boxes .verdict) ≡ false
+        → beside (freshFrom verdict state cache boxes) log ≡ freshWorld log
+    go Accepted started′ = refl
+    go (Refused refusal) started′ = absurd (false≢true (sym started′ ∙ refused-number refusal))

@@ -1,5 +1,5 @@
--- Two runs at corresponding points: as many windows completed and, in a named domain's own window, after as many of its ops. There the worlds are the
--- same for every named domain, and each of their completed windows held as many ops. Assumes nothing.
+-- Two runs at corresponding points: the same number of windows is completed and, where a named domain has the current one, the same number of its ops is
+-- done. There the worlds are the same for every named domain, and so are the op counts of their completed windows. Assumes nothing.
 use Prim.Native.Nat.{ℕ, suc, _+_, _≤_, _<_}
 use mathlib.Core.List.{List}
 use mathlib.Core.Path.{_≡_, refl, sym, ap, subst₂, _∙_}

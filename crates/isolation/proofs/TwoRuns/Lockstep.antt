@@ -12,7 +12,7 @@ use Rattle.plan.specs.Windows.{ownerOf}
 use Rattle.records.specs.Records.{partRecords}
 use Rattle.state.specs.World.{World}
 use Rattle.machine.specs.Switch.{switchOf}
-use Rattle.isolation.specs.Points.{Run, windowsAfter, worldAfter}
+use Rattle.isolation.specs.Points.{FreshRun, windowsAfter, worldAfter}
 use Rattle.isolation.specs.Statement.{ScriptsAgree}
 use Rattle.isolation.proofs.TwoRuns.Near.{Locked, Paired, locked-step, switched, worked}
 use Rattle.isolation.proofs.TwoRuns.Progress.{lasts, no-fewer}
@@ -26,10 +26,10 @@ pub record Comparing (plan : Plan) (Named Kept : ℕ → Type 0) (scripts script
 
 module _ {plan : Plan} {Named Kept : ℕ → Type 0} {scripts scripts′ log log′ : List ℕ}
     (c : Comparing plan Named Kept scripts scripts′ log log′) where
-  abbrev pub one : Run
+  abbrev pub one : FreshRun
   one = runBy plan scripts log
 
-  abbrev pub other : Run
+  abbrev pub other : FreshRun
   other = runBy plan scripts′ log′
 
   abbrev pub quota : ℕ
@@ -53,7 +53,7 @@ module _ {plan : Plan} {Named Kept : ℕ → Type 0} {scripts scripts′ log log
       (whole one (c .watched .possible) count) (whole other (c .watched .possible) count′) lock)
 
   -- a switch completes a window
-  completes : (run : Run) (count : ℕ) → worldAfter run (suc count) ≡ switchOf plan (worldAfter run count)
+  completes : (run : FreshRun) (count : ℕ) → worldAfter run (suc count) ≡ switchOf plan (worldAfter run count)
       → windowsAfter run (suc count) ≡ windowsAfter run count + 1
   unfolding switchOf
   completes run count e = ap (λ (world : World). world .state .windows) e

@@ -17,7 +17,7 @@ use Rattle.machine.specs.Switch.{switchOf}
 use Rattle.machine.proofs.Invariant.{step-cases}
 use Rattle.machine.proofs.Runs.{steps-add, steps-ended}
 use Rattle.engine.specs.FreshStart.{freshWorld}
-use Rattle.isolation.specs.Points.{Run, Starts, windowsAfter, worldAfter}
+use Rattle.isolation.specs.Points.{FreshRun, Starts, windowsAfter, worldAfter}
 use Rattle.isolation.proofs.OneRun.OnTime.{windows-grow}
 
 -- a step completes no window, or it is the switch that completes one
@@ -27,14 +27,14 @@ data Turned (plan : Plan) (world next : World) : Type 0 where
       → Turned plan world next
 
 -- the step before a later window's start: the switch of the window before
-pub record Before (run : Run) (window count : ℕ) : Type 0 where
+pub record Before (run : FreshRun) (window count : ℕ) : Type 0 where
   pub last : ℕ
   pub follows : count ≡ suc last
   pub within : windowsAfter run last ≡ window
   pub room : window < windowsTotal (run .plan)
   pub switched : worldAfter run count ≡ switchOf (run .plan) (worldAfter run last)
 
-module _ (run : Run) where
+module _ (run : FreshRun) where
   pub one-more : (count : ℕ)
       → worldAfter run (suc count) ≡ stepOf (run .plan) (run .scripts) (partRecords (run .plan) (length (run .log))) (worldAfter run count)
   unfolding worldAfter steps
@@ -82,7 +82,7 @@ module _ (run : Run) where
           let in-window : windowsAfter run last ≡ window = omega (arith, s .reached) in
           record { last = last; follows = refl; within = in-window; room = rw (← in-window) room; switched = n }
 
-module _ (run : Run) (possible : planPossible (run .plan) ≡ true) where
+module _ (run : FreshRun) (possible : planPossible (run .plan) ≡ true) where
   -- windows are never undone
   pub no-fewer : (earlier later : ℕ) → earlier ≤ later → windowsAfter run earlier ≤ windowsAfter run later
   no-fewer earlier later h = windows-grow run possible earlier later (omega arith)

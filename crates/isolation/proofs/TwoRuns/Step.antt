@@ -16,37 +16,14 @@ use Rattle.script.specs.declared.Fetched.the-variants.{Op as Fetch, End}
 use Rattle.script.specs.Fetch.{decodeOf, fetchOf}
 use Rattle.ops.specs.Ops.{boxPlace}
 use Rattle.state.specs.World.{World, endedOf, positionAt, runningOf}
-use Rattle.machine.specs.Steps.{activeStep, closedOf, fetchedStep, nextOf, opStepOf, stepOf}
+use Rattle.machine.specs.Steps.{activeStep, closedOf, nextOf, stepOf}
 use Rattle.machine.specs.Switch.{switchOf}
 use Rattle.machine.proofs.Fetched.{fetched-within}
 use Rattle.machine.proofs.Invariant.{step-cases}
+use Rattle.machine.proofs.Runs.{step-active, step-ended}
+use Rattle.machine.proofs.Turns.{active-closed, active-end, active-op}
 use Rattle.isolation.proofs.TwoRuns.OpStep.{Whole, op-alike, op-away, switch-away}
 use Rattle.isolation.proofs.TwoRuns.Relations.{Alike, Close, alike-refl, same-position, same-records}
-
--- what a step does, by what it tests: two worlds that pass the same tests take the same branch
-module _ (plan : Plan) (quota : ℕ) where
-  stepBy : Bool → Bool → Fetched → World → World
-  stepBy true closed next world = world
-  stepBy false true next world = switchOf plan world
-  stepBy false false (Fetch op) world = opStepOf plan quota (runningOf plan (world .state)) op world
-  stepBy false false End world = switchOf plan world
-
-  step-by : (scripts : List ℕ) (world : World)
-      → stepOf plan scripts quota world
-      ≡ stepBy (endedOf plan (world .state)) (closedOf plan quota (world .state)) (nextOf plan scripts (world .state)) world
-  unfolding stepOf activeStep fetchedStep stepBy
-  step-by scripts world = go (endedOf plan (world .state)) (closedOf plan quota (world .state)) (nextOf plan scripts (world .state))
-    where
-      go : (ended closed : Bool) (next : Fetched)
-          → elim ended as (λ (_ : Bool). World) [
-            | true ↦ world
-            | false ↦ elim closed as (λ (_ : Bool). World) [ true ↦ switchOf plan world | false ↦ fetchedStep plan quota next world ]
-          ]
-          ≡ stepBy ended closed next world
-      go true closed next = refl
-      go false true next = refl
-      go false false (Fetch op) = refl
-      go false false End = refl
 
 -- ---- two worlds in the domain's own window
 
@@ -88,23 +65,39 @@ module _ (plan : Plan) (quota domain : ℕ) {Kept : ℕ → Type 0} (to : (sende
       rw (running, same-running, same-position plan quota domain (a .outside))
       (fetch-alike scripts scripts′ domain (positionAt (other .state) domain) same)
 
+  -- two worlds that pass the same tests take the same way
   pub step-alike : (scripts scripts′ : List ℕ)
       → ((place : ℕ) → place < 256 → getD scripts (256 * domain + place) 0 ≡ getD scripts′ (256 * domain + place) 0)
       → Whole one
       → Together plan quota domain Kept one other (stepOf plan scripts quota one) (stepOf plan scripts′ quota other)
-  unfolding stepBy
   step-alike scripts scripts′ same whole =
-      rw (step-by plan quota scripts one, step-by plan quota scripts′ other, ← same-ended, ← same-closed, ← (same-next scripts scripts′ same))
-      (go (endedOf plan (one .state)) (closedOf plan quota (one .state)) (nextOf plan scripts (one .state)) refl)
+      by-end (endedOf plan (one .state)) refl
+      (λ active.
+      by-tests (closedOf plan quota (one .state)) refl (nextOf plan scripts (one .state)) refl
+      (step-active plan scripts quota one active) (step-active plan scripts′ quota other (sym same-ended ∙ active)))
     where
-      go : (ended closed : Bool) (next : Fetched) → nextOf plan scripts (one .state) ≡ next
-          → Together plan quota domain Kept one other (stepBy plan quota ended closed next one) (stepBy plan quota ended closed next other)
-      go true closed next e = still a
-      go false true next e = both refl refl
-      go false false (Fetch op) e =
-          rw (running, same-running)
+      Goal : Type 0
+      Goal = Together plan quota domain Kept one other (stepOf plan scripts quota one) (stepOf plan scripts′ quota other)
+
+      by-end : (ended : Bool) → endedOf plan (one .state) ≡ ended → (endedOf plan (one .state) ≡ false → Goal) → Goal
+      by-end true over active = rw (step-ended plan scripts quota one over, step-ended plan scripts′ quota other (sym same-ended ∙ over)) (still a)
+      by-end false not-over active = active not-over
+
+      by-tests : (closed : Bool) → closedOf plan quota (one .state) ≡ closed → (next : Fetched) → nextOf plan scripts (one .state) ≡ next
+          → stepOf plan scripts quota one ≡ activeStep plan scripts quota one
+          → stepOf plan scripts′ quota other ≡ activeStep plan scripts′ quota other
+          → Goal
+      by-tests true shut next e active active′ =
+          both (active ∙ active-closed plan scripts quota one shut)
+          (active′ ∙ active-closed plan scripts′ quota other (sym same-closed ∙ shut))
+      by-tests false room End e active active′ =
+          both (active ∙ active-end plan scripts quota one room e)
+          (active′ ∙ active-end plan scripts′ quota other (sym same-closed ∙ room) (sym (same-next scripts scripts′ same) ∙ e))
+      by-tests false room (Fetch op) e active active′ =
+          let did = active ∙ active-op plan scripts quota one op room e in
+          let did′ = active′ ∙ active-op plan scripts′ quota other op (sym same-closed ∙ room) (sym (same-next scripts scripts′ same) ∙ e) in
+          rw (did, did′, running, same-running)
           (still (op-alike plan quota domain to op (fetched-within scripts _ (positionAt (one .state) _) op e) whole a))
-      go false false End e = both refl refl
 
 -- ---- one world in another's window
 

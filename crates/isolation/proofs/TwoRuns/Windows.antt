@@ -17,14 +17,14 @@ use Rattle.machine.specs.Steps.{stepOf}
 use Rattle.machine.specs.Switch.{switchOf}
 use Rattle.reached.proofs.Reached.{cache-length}
 use Rattle.engine.specs.FreshStart.{freshWorld}
-use Rattle.isolation.specs.Points.{Run, Starts, windowsAfter, worldAfter}
+use Rattle.isolation.specs.Points.{FreshRun, Starts, windowsAfter, worldAfter}
 use Rattle.isolation.specs.Statement.{StartedOnTime}
 use Rattle.isolation.proofs.TwoRuns.Near.{Near, near-refl, near-step, near-trans}
 use Rattle.isolation.proofs.TwoRuns.OpStep.{Whole}
 use Rattle.isolation.proofs.TwoRuns.Progress.{before, lasts, no-fewer, one-more, one-start}
 
 -- a run by its parts
-abbrev pub runBy : Plan → List ℕ → List ℕ → Run
+abbrev pub runBy : Plan → List ℕ → List ℕ → FreshRun
 runBy plan scripts log = record { plan = plan; scripts = scripts; log = log }
 
 -- a plan, and the domains and boxes that are watched: the boxes that a named domain may receive from are kept
@@ -37,14 +37,14 @@ pub record Watched (plan : Plan) (Named Kept : ℕ → Type 0) : Type 0 where
 -- ---- a window of one run
 
 -- the start of a window so far, and the steps since
-pub record Began (run : Run) (window count : ℕ) : Type 0 where
+pub record Began (run : FreshRun) (window count : ℕ) : Type 0 where
   pub at : ℕ
   pub more : ℕ
   pub starts : Starts run window at
   pub point : count ≡ at + more
 
 -- a completed window, by the start of the next
-pub record Completed (run : Run) (window next : ℕ) : Type 0 where
+pub record Completed (run : FreshRun) (window next : ℕ) : Type 0 where
   pub at : ℕ
   pub more : ℕ
   pub starts : Starts run window at
@@ -55,10 +55,10 @@ pub record Completed (run : Run) (window next : ℕ) : Type 0 where
   pub switched : worldAfter run next ≡ switchOf (run .plan) (worldAfter run (at + more))
 
 -- after so many steps every window so far started when the plan says
-abbrev pub OnTime : Run → ℕ → Type 0
+abbrev pub OnTime : FreshRun → ℕ → Type 0
 OnTime run count = (window : ℕ) → window ≤ windowsAfter run count → StartedOnTime run count window
 
-module _ (run : Run) (possible : planPossible (run .plan) ≡ true) (count : ℕ) (onTime : OnTime run count) where
+module _ (run : FreshRun) (possible : planPossible (run .plan) ≡ true) (count : ℕ) (onTime : OnTime run count) where
   -- the start of a window that a point of the run has come to
   pub began : (window point : ℕ) → point ≤ count → window ≤ windowsAfter run point → Began run window point
   began window point soFar reached =
@@ -95,11 +95,11 @@ module _ (run : Run) (possible : planPossible (run .plan) ≡ true) (count : ℕ
       rw (one-start run window start (t .at) s (t .starts)) (t .onTime)
 
 -- the cache table keeps its length
-pub whole : (run : Run) → planPossible (run .plan) ≡ true → (count : ℕ) → Whole (worldAfter run count)
+pub whole : (run : FreshRun) → planPossible (run .plan) ≡ true → (count : ℕ) → Whole (worldAfter run count)
 unfolding worldAfter freshWorld
 whole run possible count = cache-length (run .plan) (run .scripts) (run .log) count possible
 
-module _ {Named Kept : ℕ → Type 0} (run : Run) (w : Watched (run .plan) Named Kept) (quota : ℕ)
+module _ {Named Kept : ℕ → Type 0} (run : FreshRun) (w : Watched (run .plan) Named Kept) (quota : ℕ)
     (quotaIs : partRecords (run .plan) (length (run .log)) ≡ quota) where
   pub next-world : (count : ℕ) → worldAfter run (suc count) ≡ stepOf (run .plan) (run .scripts) quota (worldAfter run count)
   next-world count = one-more run count ∙ ap (λ (q : ℕ). stepOf (run .plan) (run .scripts) q (worldAfter run count)) quotaIs
