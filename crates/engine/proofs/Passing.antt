@@ -19,7 +19,7 @@ use Rattle.engine.specs.Asking.{logRefusalOf}
 use Rattle.engine.specs.Checks.{logVerdict, runVerdict, scriptsLength, stateVerdict}
 
 -- a state
-state-passes : (plan : Plan) (state : State) (logLength : ℕ)
+pub state-passes : (plan : Plan) (state : State) (logLength : ℕ)
     → statePossible plan (partRecords plan logLength) state ≡ true
     → stateVerdict plan state logLength ≡ Accepted
 unfolding stateVerdict

@@ -8,7 +8,7 @@ use lib.ListN.{getD, length}
 use Rattle.plan.specs.declared.Plan.{Plan}
 use Rattle.plan.specs.Colours.{ownsColour}
 use Rattle.plan.specs.Windows.{ownerOf, startOf, windowsTotal}
-use Rattle.cache.specs.Lines.{setColour, setPlace, waysOfSet}
+use Rattle.cache.specs.Lines.{setColour, setPlace, setsCount, waysOfSet}
 use Rattle.state.specs.World.{positionAt}
 use Rattle.refusal.specs.declared.Verdict.the-variants.{Accepted}
 use Rattle.engine.specs.Asking.{logCallOf, logRefusalOf}
@@ -93,7 +93,7 @@ Comparable observer one other = ComparableFor (Only observer) one other
 abbrev pub SameSets : Plan → ℕ → List ℕ → List ℕ → Type 0
 SameSets plan domain one other =
     (set way : ℕ)
-    → set < 64
+    → set < setsCount
     → way < waysOfSet
     → ownsColour plan domain (setColour set) ≡ true
     → getD one (setPlace set + way) 0 ≡ getD other (setPlace set + way) 0

@@ -1,6 +1,6 @@
--- Two lists of numbers that agree at the places which a predicate names, and what stores leave of that. Three laws carry everything: the same
--- store in both keeps any agreement; a store outside the named places changes nothing there; and after the same store the stored places agree
--- even if they did not before. Assumes nothing.
+-- Two lists of numbers that agree at the places which a predicate names, and what stores leave of that: what agreed before agrees after one store made
+-- to both lists; a store elsewhere touches no named place; and the place to which both were given one number agrees, whatever stood there.
+-- Assumes nothing.
 use Prim.Native.Nat.{ℕ, suc, _+_, _≤_, _<_}
 use mathlib.Core.List.{List, [], _∷_, _++_, append-assoc}
 use mathlib.Core.Path.{_≡_, refl, sym, ap, subst, _∙_}

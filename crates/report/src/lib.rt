@@ -1,4 +1,4 @@
-// The printed lines of a run or of a refusal, as bytes in a lent buffer. What lies past the buffer's end is left out.
+// The printed lines: a run's and a refusal's, written into a buffer that the caller lends. What has no room there is left out.
 mod fields;
 mod lines;
 pub mod program;

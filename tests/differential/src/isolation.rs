@@ -1,9 +1,9 @@
 //! What one domain can tell of the others: document 01, "Two lists of calls".
 //!
-//! Two runs of one plan, whose script stores are equal for the observer, are at
-//! corresponding points when as many windows are completed and, in a window of
-//! the observer's own, as many of its ops are done. As long as the boxes
-//! addressed to it were equal at the start of each of its windows so far, its
+//! Two runs of one plan, whose script stores are equal for the observer, are
+//! compared where both have completed the same number of windows and, in a
+//! window of the observer's own, where both have done the same number of its
+//! ops. If each of its windows began with equal boxes addressed to it, then its
 //! log, its script position, the L2 sets of its colours, and in its own window
 //! the clock, must be equal.
 

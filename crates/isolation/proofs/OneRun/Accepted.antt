@@ -17,12 +17,13 @@ use Rattle.engine.specs.Asking.{logRefusalOf}
 use Rattle.engine.specs.Checks.{runVerdict, scriptsLength}
 use Rattle.engine.specs.FreshStart.{freshWorld}
 use Rattle.engine.specs.Running.{stepCallOf}
+use Rattle.engine.proofs.Passing.{asking-passes, run-passes}
 use Rattle.isolation.specs.Calls.{Admissible, AllOwn, Call, CallList, IsList, LogThings, RunThings, isRefused, leavesOf, logAnswer, logCall, logQuestion, pointOf, runAnswer, runCall, stepAnswer, stepCall, verdictAfter, verdictOf}
 use Rattle.isolation.specs.Points.{FreshRun, worldAfter}
 use Rattle.isolation.specs.Statement.{runOfList}
 use Rattle.isolation.proofs.OneRun.Calls.{all-own, all-own-asked}
 use Rattle.isolation.proofs.OneRun.Leaves.{leaves, list-possible}
-use Rattle.isolation.proofs.OneRun.Verdicts.{asking-passes, run-passes, run-verdict, wrong-domain, wrong-store}
+use Rattle.isolation.proofs.OneRun.Verdicts.{run-verdict, wrong-domain, wrong-store}
 
 -- ---- a world of a run passes the checks
 

@@ -27,6 +27,7 @@ use Rattle.engine.specs.Asking.{logRefusalOf}
 use Rattle.engine.specs.Checks.{freshVerdict, logVerdict, runVerdict, scriptsLength, stateVerdict, tablesFit, unless}
 use Rattle.engine.specs.FreshStart.{Fresh, freshFrom, freshStartOf, freshWorld}
 use Rattle.engine.specs.Running.{ranFrom, runCallOf, runFrom}
+use Rattle.engine.proofs.Passing.{state-passes}
 use Rattle.isolation.specs.Calls.{isRefused}
 
 -- every refusal has a number that is not 0
@@ -85,35 +86,6 @@ pub wrong-store : (plan : Plan) (scripts : List ℕ) (world : World) → (length
 unfolding runVerdict
 wrong-store plan scripts world differs = rw (ne-eqb (length scripts) scriptsLength differs, runVerdict)
 
--- a state that passes its check
-state-accepted : (plan : Plan) (state : State) (logLength : ℕ) → statePossible plan (partRecords plan logLength) state ≡ true → stateVerdict plan state logLength ≡ Accepted
-unfolding stateVerdict
-state-accepted plan state logLength passes = rw passes
-
--- tables and a state that pass the checks are accepted by a run
-pub run-passes : (plan : Plan) (scripts : List ℕ) (world : World)
-    → length scripts ≡ scriptsLength
-    → length (world .cache) ≡ tableLength
-    → length (world .boxes) ≡ boxesLength
-    → planPossible plan ≡ true
-    → tablesSound plan (world .state) (world .cache) (world .boxes) ≡ true
-    → statePossible plan (partRecords plan (length (world .log))) (world .state) ≡ true
-    → runVerdict plan scripts world ≡ Accepted
-unfolding runVerdict
-run-passes plan scripts world store cache boxes possible sound passes =
-    rw (eq-eqb (length scripts) scriptsLength store, eq-eqb (length (world .cache)) tableLength cache, eq-eqb (length (world .boxes)) boxesLength boxes, possible, sound, runVerdict)
-    (state-accepted plan (world .state) (length (world .log)) passes)
-
--- and by an asking for a declared domain's log
-pub asking-passes : (plan : Plan) (state : State) (log : List ℕ) (domain : ℕ)
-    → planPossible plan ≡ true
-    → statePossible plan (partRecords plan (length log)) state ≡ true
-    → domain < plan .domains
-    → logRefusalOf plan state log domain ≡ Accepted
-unfolding logRefusalOf logVerdict
-asking-passes plan state log domain possible passes declared =
-    rw (possible, state-accepted plan state (length log) passes, lt-ltb domain (plan .domains) declared, logVerdict)
-
 -- but an undeclared one's is not
 pub wrong-domain : (plan : Plan) (state : State) (log : List ℕ) (domain : ℕ)
     → planPossible plan ≡ true
@@ -122,7 +94,7 @@ pub wrong-domain : (plan : Plan) (state : State) (log : List ℕ) (domain : ℕ)
     → logRefusalOf plan state log domain ≡ Refused (WrongDomain 0)
 unfolding logRefusalOf logVerdict
 wrong-domain plan state log domain possible passes undeclared =
-    rw (possible, state-accepted plan state (length log) passes, le-ltb domain (plan .domains) (omega arith), logVerdict)
+    rw (possible, state-passes plan state (length log) passes, le-ltb domain (plan .domains) (omega arith), logVerdict)
 
 -- what a fresh start leaves, and a log, as a world
 abbrev beside : Fresh → List ℕ → World

@@ -6,7 +6,7 @@ use pirkvezo_differential::timeline::Timeline;
 #[derive(Clone, Copy, Debug, PartialEq, Eq)]
 pub enum Fault {
     None,
-    /// Switches rightly but only pretends to run ops after the first window.
+    /// Its switches are right; of the ops, only those of the first window are run.
     PretendsLater,
     /// Reports a step count of its own.
     InventsSteps,

@@ -1,6 +1,7 @@
 //! Texts that could be taken in two ways, and how they are taken: document 01,
-//! "The plan text". Tokens are judged one after the other, each fully (2, then
-//! 3, 4, 8) before the next; 5 and 10 wait for a whole good line.
+//! "The plan text". Everything that can be wrong with a token (2, 3, 4, 8) is
+//! found before the next is looked at, and 5 and 10 only at a faultless line's
+//! end.
 
 use super::desk::{assert_refused_at, reading, OPENING};
 use crate::read_plan;
