@@ -1,7 +1,9 @@
 -- Document 01, "The core and its tables": a line, its set, its colour and its L1 index; the numbers that stand for it. Assumes nothing.
 use Prim.Native.Nat.{ℕ, _+_, _*_, _/_, _%_}
 use mathlib.Core.Bool.{Bool, cond, _||_}
+use mathlib.Core.List.{List}
 use lib.Dec.{eqb, ltb}
+use lib.ListN.{replicate}
 
 -- a line's set is line mod 64
 abbrev pub setOf : ℕ → ℕ
@@ -60,6 +62,10 @@ waysOfSet = 4
 -- 16 numbers of L1 and 64 × 4 of L2
 abbrev pub tableLength : ℕ
 tableLength = 272
+
+-- the empty table
+abbrev pub emptyTable : List ℕ
+emptyTable = replicate tableLength 0
 
 -- the kernel's sets, those of colour 15, are 60 to 63: their 16 numbers are the table's last
 abbrev pub kernelPlace : ℕ

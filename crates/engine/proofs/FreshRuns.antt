@@ -20,7 +20,8 @@ use Rattle.refusal.specs.declared.Verdict.the-variants.{Accepted, Refused}
 use Rattle.engine.specs.Answers.{freshWith}
 use Rattle.engine.specs.declared.Ending.the-variants.{Ended}
 use Rattle.engine.specs.Checks.{freshVerdict, runVerdict, scriptsLength}
-use Rattle.engine.specs.FreshStart.{Fresh, freshFrom, freshStartOf, freshWorld}
+use Rattle.machine.specs.Fresh.{freshWorld}
+use Rattle.engine.specs.FreshStart.{Fresh, freshFrom, freshStartOf}
 use Rattle.engine.specs.Running.{Run, endingOf, ranFrom, runCallOf, runFrom}
 use Rattle.engine.proofs.Passing.{run-passes}
 
@@ -54,12 +55,12 @@ run-left plan scripts log limit possible = go (runVerdict plan scripts (freshWor
     go (Refused refusal) = reached 0
 
 -- a run from a fresh start, beside a script store of the right length, is not refused
-pub fresh-accepted : (plan : Plan) (scripts log : List ℕ)
+pub fresh-run-accepted : (plan : Plan) (scripts log : List ℕ)
     → planPossible plan ≡ true
     → length scripts ≡ scriptsLength
     → runVerdict plan scripts (freshWorld log) ≡ Accepted
 unfolding freshWorld steps
-fresh-accepted plan scripts log possible store =
+fresh-run-accepted plan scripts log possible store =
     run-passes plan scripts (freshWorld log) store
     (cache-length plan scripts log 0 possible)
     (boxes-length plan scripts log 0 possible)
@@ -68,14 +69,14 @@ fresh-accepted plan scripts log possible store =
     (state-possible plan scripts log 0 possible)
 
 -- and it ends, where its limit is large enough for every plan
-pub fresh-ends : (plan : Plan) (scripts log : List ℕ) (limit : ℕ)
+pub fresh-run-ends : (plan : Plan) (scripts log : List ℕ) (limit : ℕ)
     → planPossible plan ≡ true
     → length scripts ≡ scriptsLength
     → 4_294_969_343 ≤ limit
     → runCallOf plan scripts (freshWorld log) limit .ending ≡ Ended
 unfolding runCallOf ranFrom freshWorld
-fresh-ends plan scripts log limit possible store large =
+fresh-run-ends plan scripts log limit possible store large =
     let quota = partRecords plan (length log) in
-    ap (λ (verdict : Verdict). runFrom verdict plan scripts (freshWorld log) limit .ending) (fresh-accepted plan scripts log possible store)
+    ap (λ (verdict : Verdict). runFrom verdict plan scripts (freshWorld log) limit .ending) (fresh-run-accepted plan scripts log possible store)
     ∙ ap (λ (world : World). endingOf (endedOf plan (world .state))) (run-world plan scripts quota limit (freshWorld log))
     ∙ ap endingOf (ends plan scripts quota possible limit log large)

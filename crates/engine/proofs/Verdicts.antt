@@ -43,14 +43,6 @@ pub unless-passed : (test : Bool) (refusal : Refusal) (rest : Verdict) → unles
 unless-passed true refusal rest passed = (refl, passed)
 unless-passed false refusal rest passed = absurd (not-refused refusal passed)
 
--- the same of a check that chooses between a refusal and a rest
-pub chosen-passed :
-    (test : Bool) (refusal : Refusal) (rest : Verdict)
-    → (elim test as (λ b. Verdict) [ false ↦ Refused refusal | true ↦ rest ]) ≡ Accepted
-    → (test ≡ true) × (rest ≡ Accepted)
-chosen-passed true refusal rest passed = (refl, passed)
-chosen-passed false refusal rest passed = absurd (not-refused refusal passed)
-
 -- a lent state, beside a log of some length
 pub state-accepted :
     (plan : Plan) (state : State) (size : ℕ) → stateVerdict plan state size ≡ Accepted → statePossible plan (partRecords plan size) state ≡ true
@@ -82,9 +74,9 @@ pub record RunAccepted (plan : Plan) (scripts : List ℕ) (world : World) : Type
 pub run-accepted : (plan : Plan) (scripts : List ℕ) (world : World) → runVerdict plan scripts world ≡ Accepted → RunAccepted plan scripts world
 unfolding runVerdict
 run-accepted plan scripts world passed =
-    let first = chosen-passed (eqb (length scripts) scriptsLength && tablesFit (world .cache) (world .boxes)) _ _ passed in
-    let second = chosen-passed (planPossible plan) _ _ (first .1) in
-    let third = chosen-passed (tablesSound plan (world .state) (world .cache) (world .boxes)) _ _ (second .1) in
+    let first = unless-passed (eqb (length scripts) scriptsLength && tablesFit (world .cache) (world .boxes)) _ _ passed in
+    let second = unless-passed (planPossible plan) _ _ (first .1) in
+    let third = unless-passed (tablesSound plan (world .state) (world .cache) (world .boxes)) _ _ (second .1) in
     let fits = and-eq-true-iff _ _ .0 (first .0) in
     let long = and-eq-true-iff _ _ .0 (fits .1) in
     record {
@@ -111,7 +103,7 @@ pub log-accepted :
     (plan : Plan) (state : State) (log : List ℕ) (domain : ℕ) → logVerdict plan state log domain ≡ Accepted → LogAccepted plan state log domain
 unfolding logVerdict
 log-accepted plan state log domain passed =
-    let first = chosen-passed (planPossible plan) _ _ passed in
+    let first = unless-passed (planPossible plan) _ _ passed in
     let second = declared-accepted plan domain (stateVerdict plan state (length log)) (first .1) in
     record { possible = first .0; state-is = state-accepted plan state _ (second .0); declared = second .1 }
 

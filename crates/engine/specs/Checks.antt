@@ -43,18 +43,10 @@ freshVerdict plan cache boxes = unless (tablesFit cache boxes) WrongLength (unle
 -- a step and a run take everything: 11, 12, 13, 14
 unfoldable pub runVerdict : Plan → List ℕ → World → Verdict
 runVerdict plan scripts world =
-    elim (eqb (length scripts) scriptsLength && tablesFit (world .cache) (world .boxes)) [
-      | false ↦ Refused WrongLength
-      | true ↦
-          elim (planPossible plan) [
-            | false ↦ Refused ImpossiblePlan
-            | true ↦
-                elim (tablesSound plan (world .state) (world .cache) (world .boxes)) [
-                  | false ↦ Refused DamagedTable
-                  | true ↦ stateVerdict plan (world .state) (length (world .log))
-                ]
-          ]
-    ]
+    unless (eqb (length scripts) scriptsLength && tablesFit (world .cache) (world .boxes)) WrongLength
+    (unless (planPossible plan) ImpossiblePlan
+    (unless (tablesSound plan (world .state) (world .cache) (world .boxes)) DamagedTable
+    (stateVerdict plan (world .state) (length (world .log)))))
 
 -- 4, offset 0, last: an undeclared domain's log
 abbrev pub declaredVerdict : Plan → ℕ → Verdict → Verdict
@@ -64,7 +56,4 @@ declaredVerdict plan domain (Refused refusal) = Refused refusal
 -- asking for a log takes plan, state, log and a domain: 12, 14, then 4
 unfoldable pub logVerdict : Plan → State → List ℕ → ℕ → Verdict
 logVerdict plan state log domain =
-    elim (planPossible plan) [
-      | false ↦ Refused ImpossiblePlan
-      | true ↦ declaredVerdict plan domain (stateVerdict plan state (length log))
-    ]
+    unless (planPossible plan) ImpossiblePlan (declaredVerdict plan domain (stateVerdict plan state (length log)))

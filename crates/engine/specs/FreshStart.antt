@@ -1,12 +1,11 @@
 -- Document 01, "Window, switch, run": a fresh start. Assumes nothing.
 use Prim.Native.Nat.{ℕ}
 use mathlib.Core.List.{List}
-use lib.ListN.{replicate}
 use Rattle.plan.specs.declared.Plan.{Plan}
-use Rattle.cache.specs.Lines.{tableLength}
-use Rattle.ops.specs.Ops.{boxesLength}
+use Rattle.cache.specs.Lines.{emptyTable}
+use Rattle.ops.specs.Ops.{emptyBoxes}
 use Rattle.state.specs.declared.State.{State}
-use Rattle.state.specs.World.{World, freshState}
+use Rattle.state.specs.World.{freshState}
 use Rattle.refusal.specs.declared.Refusal.{Refusal}
 use Rattle.refusal.specs.declared.Verdict.{Verdict}
 use Rattle.refusal.specs.declared.Verdict.the-variants.{Accepted, Refused}
@@ -22,13 +21,9 @@ pub record Fresh : Type 0 where
 -- where it is not refused, state, cache table and boxes are all zeros; a refused one leaves them
 abbrev pub freshFrom : Verdict → State → List ℕ → List ℕ → Fresh
 freshFrom Accepted state cache boxes =
-    record { verdict = Accepted; state = freshState; cache = replicate tableLength 0; boxes = replicate boxesLength 0 }
+    record { verdict = Accepted; state = freshState; cache = emptyTable; boxes = emptyBoxes }
 freshFrom (Refused refusal) state cache boxes = record { verdict = Refused refusal; state = state; cache = cache; boxes = boxes }
 
 -- a fresh start, for every input
 unfoldable pub freshStartOf : Plan → State → List ℕ → List ℕ → Fresh
 freshStartOf plan state cache boxes = freshFrom (freshVerdict plan cache boxes) state cache boxes
-
--- the world from which a run starts: a fresh start beside a log, which it leaves as it is
-unfoldable pub freshWorld : List ℕ → World
-freshWorld log = record { state = freshState; cache = replicate tableLength 0; boxes = replicate boxesLength 0; log = log }

@@ -13,7 +13,7 @@ use Rattle.reached.proofs.Reached.{log-length}
 use Rattle.refusal.specs.declared.Verdict.{Verdict}
 use Rattle.refusal.specs.declared.Verdict.the-variants.{Accepted}
 use Rattle.engine.specs.Asking.{logCallOf, logFrom, logRefusalOf}
-use Rattle.engine.specs.FreshStart.{freshWorld}
+use Rattle.machine.specs.Fresh.{freshWorld}
 use Rattle.isolation.specs.Calls.{CallList, IsList, leavesOf, pointOf}
 use Rattle.isolation.specs.Points.{worldAfter}
 use Rattle.isolation.specs.Statement.{Comparable, Isolation, SameSeen, SameSets, runOfList}

@@ -28,7 +28,7 @@ use Rattle.ops.specs.Ops.{boxPlace}
 use Rattle.state.specs.World.{positionAt, recordsAt}
 use Rattle.reached.proofs.Reached.{boxes-length}
 use Rattle.reached.proofs.Counts.{counted}
-use Rattle.engine.specs.FreshStart.{freshWorld}
+use Rattle.machine.specs.Fresh.{freshWorld}
 use Rattle.isolation.specs.Points.{FreshRun, Within, opsOf, windowsAfter, worldAfter}
 use Rattle.isolation.specs.Statement.{BoxesAgree, Correspond, Only, SamePlan, SameSets, ScriptsAgree}
 use Corresponding.{locked-here, near-here, same-ops}

@@ -12,7 +12,7 @@ use Rattle.records.specs.Records.{partRecords}
 use Rattle.ops.specs.Ops.{boxPlace}
 use Rattle.state.specs.World.{World}
 use Rattle.machine.specs.Steps.{steps}
-use Rattle.engine.specs.FreshStart.{freshWorld}
+use Rattle.machine.specs.Fresh.{freshWorld}
 
 -- a run from a fresh start, by what decides it: a plan, a script store and a log
 pub record FreshRun : Type 0 where

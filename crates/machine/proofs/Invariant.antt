@@ -3,24 +3,17 @@ use Prim.Native.Nat.{ℕ, zero, suc, _<_}
 use mathlib.Core.Bool.{Bool, true, false}
 use mathlib.Core.List.{List}
 use mathlib.Core.Path.{_≡_, refl}
-use lib.ListN.{replicate}
 use borrow.Author.Tests.{leb-false}
 use Rattle.plan.specs.declared.Plan.{Plan}
 use Rattle.plan.specs.Windows.{endOf, windowsTotal}
 use Rattle.script.specs.declared.Op.{Op}
 use Rattle.script.specs.declared.Fetched.{Fetched}
 use Rattle.script.specs.declared.Fetched.the-variants.{Op as Fetch, End}
-use Rattle.cache.specs.Lines.{tableLength}
-use Rattle.ops.specs.Ops.{boxesLength}
 use Rattle.state.specs.declared.State.{State}
-use Rattle.state.specs.World.{World, endedOf, freshState, recordsAt, runningOf}
+use Rattle.state.specs.World.{World, endedOf, recordsAt, runningOf}
 use Rattle.machine.specs.Steps.{activeStep, closedOf, fetchedStep, nextOf, opStepOf, stepOf, steps}
 use Rattle.machine.specs.Switch.{switchOf}
 use Rattle.machine.proofs.Tests.{neither}
-
--- the world that a fresh start beside a log leaves
-abbrev pub freshBeside : List ℕ → World
-freshBeside log = record { state = freshState; cache = replicate tableLength 0; boxes = replicate boxesLength 0; log = log }
 
 -- an op begins: in a window, before its end, with room in the domain's part of the log, where an op stands next in its script
 pub record Begins (plan : Plan) (scripts : List ℕ) (quota : ℕ) (world : World) (op : Op) : Type 0 where

@@ -18,10 +18,11 @@ use Rattle.cache.proofs.Ticks.{flush-ticks}
 use Rattle.ops.proofs.Ticks.{effect-ticks}
 use Rattle.state.specs.Impossible.{clockPossible, statePossible}
 use Rattle.state.specs.World.{World, freshState, positionAt, runningOf}
+use Rattle.machine.specs.Fresh.{freshWorld}
 use Rattle.machine.specs.Steps.{opStepOf, stepOf, steps}
 use Rattle.machine.specs.Switch.{flushedClock, paddedClock, switchOf}
 use Rattle.machine.proofs.Fetched.{fetched-within}
-use Rattle.machine.proofs.Invariant.{Begins, freshBeside, step-cases, steps-hold}
+use Rattle.machine.proofs.Invariant.{Begins, step-cases, steps-hold}
 
 -- windows at most the total; in a window the clock is from its start to its end + 212; ended, it is the start that a next window would have
 pub record Scheduled (plan : Plan) (world : World) : Type 0 where
@@ -74,15 +75,15 @@ module _ (plan : Plan) (possible : planPossible plan ≡ true) where
       in
       record { windows = scheduled .windows; started = omega arith; soon = λ h. omega arith; ended = λ h. omega arith }
 
-  at-start : (log : List ℕ) → Scheduled plan (freshBeside log)
-  unfolding freshState startOf
+  at-start : (log : List ℕ) → Scheduled plan (freshWorld log)
+  unfolding freshWorld freshState startOf
   at-start log = record { windows = omega arith; started = omega arith; soon = λ h. omega arith; ended = λ h. refl }
 
 -- every world that a run reaches from a fresh start is on schedule
 pub scheduled : (plan : Plan) (scripts : List ℕ) (quota count : ℕ) (log : List ℕ) → planPossible plan ≡ true
-    → Scheduled plan (steps plan scripts quota count (freshBeside log))
+    → Scheduled plan (steps plan scripts quota count (freshWorld log))
 scheduled plan scripts quota count log possible =
-    steps-hold plan scripts quota (Scheduled plan) (after-switch plan possible) (after-op plan possible scripts quota) (freshBeside log)
+    steps-hold plan scripts quota (Scheduled plan) (after-switch plan possible) (after-op plan possible scripts quota) (freshWorld log)
     (at-start plan possible log)
     count
 

@@ -26,7 +26,7 @@ use Rattle.ops.proofs.Ticks.{effect-ticks}
 use Rattle.state.specs.declared.State.{State}
 use Rattle.state.specs.World.{World, positionAt, recordsAt, runningOf}
 use Rattle.machine.specs.Steps.{activeStep, closedOf, fetchedStep, nextOf, opStepOf}
-use Rattle.machine.specs.Switch.{flushedClock, paddedClock, switchOf}
+use Rattle.machine.specs.Switch.{flushedClock, paddedClock, switchOf, switchedCache}
 use Rattle.machine.specs.View.{InWindow, turned, worldWith}
 use Rattle.machine.proofs.Tests.{neither}
 
@@ -39,7 +39,8 @@ module _ (cache flushed : List ℕ) (kernel l1 : ℕ) (first : kernel ≡ kernel
       (clock begun end pad answer : ℕ)
       → begun ≡ max clock end
       → answer ≡ max (begun + kernel + l1) (end + pad)
-      → answer ≡ max (max clock end + kernelFlushTicks cache + l1FlushTicks (kernelFlushed cache)) (end + pad)
+      → answer ≡ paddedClock end pad (flushedClock clock end cache)
+  unfolding paddedClock flushedClock
   switch-clocks clock begun end pad answer raised so = rw (so, raised, first, second, between) refl
 
 -- an answer's ticks are at most 213
@@ -71,8 +72,8 @@ pub switch-stepped :
     (plan : Plan) (state : State) (cache boxes log : List ℕ) (end pad clock : ℕ) (cache′ : List ℕ)
     → endOf plan (state .windows) ≡ end
     → plan .pad ≡ pad
-    → clock ≡ max (max (state .clock) end + kernelFlushTicks cache + l1FlushTicks (kernelFlushed cache)) (end + pad)
-    → cache′ ≡ l1Flushed (kernelFlushed cache)
+    → clock ≡ paddedClock end pad (flushedClock (state .clock) end cache)
+    → cache′ ≡ switchedCache cache
     → worldWith
     (record { windows = state .windows + 1; clock = clock; positions = state .positions; records = state .records })
     cache′ boxes log

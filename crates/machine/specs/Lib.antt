@@ -1,3 +1,4 @@
+pub mod Fresh
 pub mod Switch
 pub mod Steps
 pub mod View

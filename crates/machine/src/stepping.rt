@@ -18,11 +18,11 @@ ghost use Prim.Native.Nat.{ℕ, _+_, _*_, _^_, _<_, _≤_, max};
 ghost use lib.ListN.{length};
 ghost use Rattle.plan.specs.Possible.{planPossible};
 ghost use Rattle.script.specs.Limits.{Within};
-ghost use Rattle.cache.specs.Flush.{kernelFlushTicks, kernelFlushed, l1FlushTicks, l1Flushed};
 ghost use Rattle.ops.specs.View.{viewOf};
 ghost use Rattle.state.specs.Impossible.{statePossible};
 ghost use Rattle.state.specs.World.{positionAt, recordsAt};
 ghost use Rattle.machine.specs.Steps.{opStepOf, runOf};
+ghost use Rattle.machine.specs.Switch.{flushedClock, paddedClock, switchedCache};
 ghost use Rattle.machine.specs.View.{InTurn, InWindow, WindowRan, ranWith, turned, worldWith};
 
 fn later(one: u64, other: u64) -> u64
@@ -34,7 +34,9 @@ fn later(one: u64, other: u64) -> u64
 // The switch: the clock raised to the window's end if lower, both flushes, and the pad. Answers the clock at the next window's start.
 fn switch(cache: &mut [u16], clock: u64, end: u64, pad: u64) -> u64
     requires { ⌜ (length (now cache) ≡ 272) × (clock ≤ 2 ^ 62) × (end ≤ 2 ^ 62) × (pad ≤ 2 ^ 62) ⌝ }
-    ensures { λ r. ⌜ (r ≡ max (max clock end + kernelFlushTicks (now (cache .entry)) + l1FlushTicks (kernelFlushed (now (cache .entry)))) (end + pad)) × (now (cache .exit) ≡ l1Flushed (kernelFlushed (now (cache .entry)))) ⌝ }
+    ensures { λ r.
+        ⌜ (r ≡ paddedClock end pad (flushedClock clock end (now (cache .entry))))
+        × (now (cache .exit) ≡ switchedCache (now (cache .entry))) ⌝ }
 {
     let begun = later(clock, end);
     let kernel = flush_kernel(cache);

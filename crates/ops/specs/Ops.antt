@@ -3,7 +3,7 @@ use Prim.Native.Nat.{ℕ, _+_, _*_, _-_}
 use mathlib.Core.Bool.{Bool, true, false, cond, not, _&&_, _||_}
 use mathlib.Core.List.{List}
 use lib.Dec.{eqb, leb, ltb}
-use lib.ListN.{getD, set}
+use lib.ListN.{getD, replicate, set}
 use Rattle.plan.specs.declared.Plan.{Plan}
 use Rattle.plan.specs.Colours.{ownsColour}
 use Rattle.plan.specs.Rights.{maySend}
@@ -42,6 +42,10 @@ boxLine sender recipient = 61 + 64 * boxPlace sender recipient
 -- how many boxes there are: eight senders by eight recipients
 abbrev pub boxesLength : ℕ
 boxesLength = 64
+
+-- all boxes empty
+abbrev pub emptyBoxes : List ℕ
+emptyBoxes = replicate boxesLength 0
 
 -- a box holds 0 for empty, else word + 1
 abbrev pub fullBox : ℕ → ℕ

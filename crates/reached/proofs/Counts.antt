@@ -11,10 +11,11 @@ use Rattle.plan.specs.Windows.{windowsTotal}
 use Rattle.plan.proofs.Windows.{owner-declared}
 use Rattle.script.specs.declared.Op.{Op}
 use Rattle.state.specs.World.{World, freshState, positionAt, recordsAt, runningOf}
+use Rattle.machine.specs.Fresh.{freshWorld}
 use Rattle.machine.specs.Steps.{opStepOf, steps}
 use Rattle.machine.specs.Switch.{switchOf}
 use Rattle.machine.proofs.Fetched.{fetched-below}
-use Rattle.machine.proofs.Invariant.{Begins, freshBeside, steps-hold}
+use Rattle.machine.proofs.Invariant.{Begins, steps-hold}
 use Rattle.reached.proofs.Cells.{cell-holds, cell-zeros}
 
 pub record Counted (plan : Plan) (quota : ℕ) (world : World) : Type 0 where
@@ -50,8 +51,8 @@ module _ (plan : Plan) (scripts : List ℕ) (quota : ℕ) (possible : planPossib
             λ domain past. cell-holds (λ n. n ≡ 0) records running domain (count + 1) (counted .noRecords domain past) (λ same. omega arith);
       }
 
-  at-start : (log : List ℕ) → Counted plan quota (freshBeside log)
-  unfolding freshState
+  at-start : (log : List ℕ) → Counted plan quota (freshWorld log)
+  unfolding freshWorld freshState
   at-start log =
       record {
         position = λ domain. omega (arith, cell-zeros 8 domain);
@@ -61,5 +62,5 @@ module _ (plan : Plan) (scripts : List ℕ) (quota : ℕ) (possible : planPossib
       }
 
   -- every world that a run reaches from a fresh start has possible counts
-  pub counted : (count : ℕ) (log : List ℕ) → Counted plan quota (steps plan scripts quota count (freshBeside log))
-  counted count log = steps-hold plan scripts quota (Counted plan quota) after-switch after-op (freshBeside log) (at-start log) count
+  pub counted : (count : ℕ) (log : List ℕ) → Counted plan quota (steps plan scripts quota count (freshWorld log))
+  counted count log = steps-hold plan scripts quota (Counted plan quota) after-switch after-op (freshWorld log) (at-start log) count

@@ -19,17 +19,13 @@ use Rattle.cache.specs.Lines.{colourOf, kernelColour}
 use Rattle.records.specs.declared.Seen.{Seen}
 use Rattle.ops.specs.Ops.{Effect, boxLine, boxPlace, boxesLength, computeOf, deniedOf, effectOf, fullBox, gateLine, ownsLine, passedOf, receiveOf, sendOf, touchOf}
 use Rattle.state.specs.declared.State.{State}
-use Rattle.state.specs.Damage.{lineAllowed}
+use Rattle.state.specs.Damage.{boxHolds, lineAllowed}
 use Rattle.state.specs.World.{endedOf, runningOf}
 use Rattle.machine.proofs.Tests.{both-pass, first-passes, second-passes}
 use Rattle.reached.proofs.Cells.{cell-holds}
 use Rattle.reached.proofs.Lines.{CacheSound, access-sound}
 
 -- ---- boxes
-
--- a number that a box may hold
-abbrev pub boxHolds : Plan → ℕ → ℕ → Bool
-boxHolds plan place box = eqb box 0 || leb box 65_536 && maySend plan (place / 8) (place % 8)
 
 pub record BoxesSound (plan : Plan) (boxes : List ℕ) : Type 0 where
   pub long : length boxes ≡ boxesLength

@@ -18,9 +18,10 @@ use Rattle.plan.proofs.Sums.{sum-most, sum-same}
 use Rattle.plan.proofs.Windows.{domains-most, owner-declared, pad-least, start-fits}
 use Rattle.script.specs.declared.Op.{Op}
 use Rattle.state.specs.World.{World, endedOf, freshState, positionAt, runningOf}
+use Rattle.machine.specs.Fresh.{freshWorld}
 use Rattle.machine.specs.Steps.{opStepOf, stepOf, steps}
 use Rattle.machine.specs.Switch.{switchOf}
-use Rattle.machine.proofs.Invariant.{freshBeside, in-window, step-cases}
+use Rattle.machine.proofs.Invariant.{in-window, step-cases}
 use Rattle.machine.proofs.Runs.{step-ended}
 use Rattle.machine.proofs.Schedule.{next-start, start-end}
 use Rattle.reached.proofs.Cells.{zeros-length}
@@ -101,8 +102,8 @@ module _ (plan : Plan) (scripts : List ℕ) (quota : ℕ) (possible : planPossib
           (λ inWindow. after-switch world count (advanced .eight) far)
           (λ op begins. after-op world op count (advanced .eight) far)
 
-  advanced : (count : ℕ) (log : List ℕ) → Advanced plan count (steps plan scripts quota count (freshBeside log))
-  unfolding steps freshState sumTo
+  advanced : (count : ℕ) (log : List ℕ) → Advanced plan count (steps plan scripts quota count (freshWorld log))
+  unfolding steps freshWorld freshState sumTo
   advanced zero log = record { eight = zeros-length 8; far = inr refl }
   advanced (suc count) log = advance _ count (advanced count log)
 
@@ -117,11 +118,11 @@ module _ (plan : Plan) (scripts : List ℕ) (quota : ℕ) (possible : planPossib
       omega (arith, next-start plan window)
 
   -- after 4,294,967,295 + 2,048 steps every run has ended
-  pub ends : (count : ℕ) (log : List ℕ) → 4_294_969_343 ≤ count → endedOf plan (steps plan scripts quota count (freshBeside log) .state) ≡ true
+  pub ends : (count : ℕ) (log : List ℕ) → 4_294_969_343 ≤ count → endedOf plan (steps plan scripts quota count (freshWorld log) .state) ≡ true
   ends count log many = go (endedOf plan (world .state)) refl (advanced count log .far)
     where
       world : World
-      world = steps plan scripts quota count (freshBeside log)
+      world = steps plan scripts quota count (freshWorld log)
 
       go :
           (ended : Bool)

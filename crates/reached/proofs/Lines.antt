@@ -15,21 +15,12 @@ use Rattle.cache.specs.Access.{accessOf}
 use Rattle.cache.specs.Lines.{cleanEntry, dirtyEntry, indexOf, setOf, setPlace, tableLength, waysOfSet}
 use Rattle.cache.proofs.Laws.{access-length}
 use Rattle.state.specs.declared.State.{State}
-use Rattle.state.specs.Damage.{allEmpty, lineAllowed, lineOf, setSound, standsForLine, unmarked}
+use Rattle.state.specs.Damage.{allEmpty, entrySound, lineAllowed, lineOf, setSound, standsForLine, unmarked}
 use Rattle.state.specs.World.{endedOf, runningOf}
 use Rattle.machine.proofs.Tests.{both-pass, first-passes, second-passes}
 use Rattle.reached.proofs.Accesses.{access-index, access-sets}
 use Rattle.reached.proofs.Cells.{cell-zeros, zeros-length}
 use Rattle.reached.proofs.Ways.{empty-sound}
-
--- an L1 number is empty, or a line of this index that the running domain may have there
-abbrev pub entrySound : Plan → State → ℕ → ℕ → Bool
-entrySound plan state index entry =
-    eqb entry 0
-    || standsForLine (unmarked entry)
-    && eqb (indexOf (lineOf (unmarked entry))) index
-    && not (endedOf plan state)
-    && lineAllowed plan (runningOf plan state) (lineOf (unmarked entry))
 
 pub record CacheSound (plan : Plan) (state : State) (cache : List ℕ) : Type 0 where
   pub long : length cache ≡ tableLength

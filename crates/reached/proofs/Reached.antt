@@ -13,8 +13,8 @@ use Rattle.ops.specs.Ops.{boxesLength}
 use Rattle.state.specs.Damage.{tablesSound}
 use Rattle.state.specs.Impossible.{statePossible}
 use Rattle.state.specs.World.{World}
+use Rattle.machine.specs.Fresh.{freshWorld}
 use Rattle.machine.specs.Steps.{steps}
-use Rattle.machine.proofs.Invariant.{freshBeside}
 use Rattle.machine.proofs.Schedule.{scheduled}
 use Rattle.reached.proofs.Counts.{counted}
 use Rattle.reached.proofs.Possible.{passes-state}
@@ -22,7 +22,7 @@ use Rattle.reached.proofs.Tables.{Sound, passes-tables, sound}
 
 -- the world after so many steps from a fresh start beside a log, which is divided into the domains' parts
 abbrev pub reachedWorld : Plan → List ℕ → List ℕ → ℕ → World
-reachedWorld plan scripts log count = steps plan scripts (partRecords plan (length log)) count (freshBeside log)
+reachedWorld plan scripts log count = steps plan scripts (partRecords plan (length log)) count (freshWorld log)
 
 module _ (plan : Plan) (scripts log : List ℕ) (count : ℕ) (possible : planPossible plan ≡ true) where
   reached-sound : Sound plan (length log) (reachedWorld plan scripts log count)

@@ -18,10 +18,11 @@ use Rattle.records.specs.Records.{recordBytes, recordPlace, stored}
 use Rattle.ops.specs.Ops.{boxesLength}
 use Rattle.state.specs.Damage.{boxSound, l1EntrySound, tablesSound}
 use Rattle.state.specs.World.{World, endedOf, positionAt, recordsAt, runningOf}
+use Rattle.machine.specs.Fresh.{freshWorld}
 use Rattle.machine.specs.Steps.{opStepOf, steps}
 use Rattle.machine.specs.Switch.{switchOf}
 use Rattle.machine.proofs.Fetched.{fetched-within}
-use Rattle.machine.proofs.Invariant.{Begins, freshBeside, steps-hold}
+use Rattle.machine.proofs.Invariant.{Begins, steps-hold}
 use Rattle.machine.proofs.Tests.{both-pass, first-passes}
 use Rattle.reached.proofs.Cells.{cell-zeros, zeros-length}
 use Rattle.reached.proofs.Effects.{BoxesSound, effect-sound}
@@ -67,7 +68,8 @@ module _ (plan : Plan) (scripts : List ℕ) (quota logLength : ℕ) (possible : 
         log = stored-length quota running (recordsAt (world .state) running) _ _ (world .log) ∙ sound .log;
       }
 
-  at-start : (log : List ℕ) → length log ≡ logLength → Sound plan logLength (freshBeside log)
+  at-start : (log : List ℕ) → length log ≡ logLength → Sound plan logLength (freshWorld log)
+  unfolding freshWorld
   at-start log long =
       record {
         cache = zeros-sound plan _;
@@ -76,8 +78,8 @@ module _ (plan : Plan) (scripts : List ℕ) (quota logLength : ℕ) (possible : 
       }
 
   -- every world that a run reaches from a fresh start is sound
-  pub sound : (count : ℕ) (log : List ℕ) → length log ≡ logLength → Sound plan logLength (steps plan scripts quota count (freshBeside log))
-  sound count log long = steps-hold plan scripts quota (Sound plan logLength) after-switch after-op (freshBeside log) (at-start log long) count
+  pub sound : (count : ℕ) (log : List ℕ) → length log ≡ logLength → Sound plan logLength (steps plan scripts quota count (freshWorld log))
+  sound count log long = steps-hold plan scripts quota (Sound plan logLength) after-switch after-op (freshWorld log) (at-start log long) count
 
 -- a sound world passes the check
 pub passes-tables : (plan : Plan) (logLength : ℕ) (world : World) → Sound plan logLength world

@@ -10,9 +10,9 @@ use Rattle.reader.specs.Draft.{noOps, storeLength}
 use Rattle.reader.specs.Read.{readOf}
 use Rattle.reader.proofs.Accepted.{accepted-possible, read-store}
 use Rattle.engine.specs.Checks.{scriptsLength}
-use Rattle.engine.specs.FreshStart.{freshWorld}
+use Rattle.machine.specs.Fresh.{freshWorld}
 use Rattle.engine.specs.Running.{ranFrom, runCallOf, runFrom}
-use Rattle.engine.proofs.FreshRuns.{fresh-accepted, fresh-ends}
+use Rattle.engine.proofs.FreshRuns.{fresh-run-accepted, fresh-run-ends}
 use Rattle.report.specs.Planrun.{RunsToTheEnd, largestLimit, lentLog}
 
 pub planrun-ends :
@@ -28,6 +28,6 @@ planrun-ends text accepted =
     record {
       accepted =
           ap (λ (verdict : Verdict). runFrom verdict plan scripts (freshWorld lentLog) largestLimit .verdict)
-          (fresh-accepted plan scripts lentLog possible store);
-      ended = fresh-ends plan scripts lentLog largestLimit possible store (omega arith);
+          (fresh-run-accepted plan scripts lentLog possible store);
+      ended = fresh-run-ends plan scripts lentLog largestLimit possible store (omega arith);
     }

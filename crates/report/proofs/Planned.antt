@@ -10,7 +10,7 @@ use Rattle.refusal.specs.declared.Verdict.the-variants.{Accepted, Refused}
 use Rattle.refusal.specs.Code.{codeOf}
 use Rattle.reader.specs.Draft.{noOps}
 use Rattle.reader.specs.Read.{readOf}
-use Rattle.engine.specs.FreshStart.{freshWorld}
+use Rattle.machine.specs.Fresh.{freshWorld}
 use Rattle.engine.specs.Running.{runCallOf}
 use Rattle.report.specs.Lines.{refusedLine}
 use Rattle.report.specs.Planrun.{largestLimit, lentLog, planrunOf, ranLines, readLines}

@@ -11,7 +11,7 @@ use Rattle.refusal.specs.declared.Verdict.the-variants.{Accepted, Refused}
 use Rattle.refusal.specs.Code.{refusalCode}
 use Rattle.reader.specs.Draft.{noOps}
 use Rattle.reader.specs.Read.{Read, readOf}
-use Rattle.engine.specs.FreshStart.{freshWorld}
+use Rattle.machine.specs.Fresh.{freshWorld}
 use Rattle.engine.specs.declared.Ending.the-variants.{Ended}
 use Rattle.engine.specs.Running.{Run, runCallOf}
 use Rattle.report.specs.Lines.{refusedLine, runLines}

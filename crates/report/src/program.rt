@@ -13,7 +13,7 @@ ghost use mathlib.Core.Bool.{true};
 ghost use lib.ListN.{length};
 ghost use lib.Seq.{sets};
 ghost use Rattle.plan.specs.Possible.{planPossible};
-ghost use Rattle.engine.specs.FreshStart.{freshWorld};
+ghost use Rattle.machine.specs.Fresh.{freshWorld};
 ghost use Rattle.engine.specs.Running.{runCallOf};
 ghost use Rattle.report.specs.Planrun.{largestLimit, lentLog, planrunOf, ranLines};
 

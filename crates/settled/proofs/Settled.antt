@@ -34,7 +34,8 @@ use Rattle.machine.specs.Steps.{opStepOf, closedOf, fetchedStep, activeStep, st
 use Rattle.machine.specs.Switch.{flushedClock, paddedClock, switchOf}
 use Rattle.engine.specs.Asking.{logCallOf, logRefusalOf}
 use Rattle.engine.specs.Checks.{stateVerdict, freshVerdict, runVerdict, logVerdict}
-use Rattle.engine.specs.FreshStart.{freshStartOf, freshWorld}
+use Rattle.machine.specs.Fresh.{freshWorld}
+use Rattle.engine.specs.FreshStart.{freshStartOf}
 use Rattle.engine.specs.Running.{ranFrom, runCallOf, stepCallOf}
 use Rattle.report.specs.Lines.{seenLine, domainLines, seenLines, endLine, runLines, refusedLine}
 use Rattle.report.specs.Planrun.{ranLines, planrunOf}

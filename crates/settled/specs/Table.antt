@@ -14,7 +14,7 @@ use Rattle.cache.specs.declared.Found.{Found}
 use Rattle.cache.specs.declared.Found.the-variants.{Hit1, Hit2, Miss}
 use Rattle.cache.specs.Access.{accessOf}
 use Rattle.cache.specs.Flush.{l1FlushTicks}
-use Rattle.cache.specs.Lines.{cleanEntry, colourOf, dirtyEntry, indexOf, setOf, setPlace, tableLength, waysOfSet}
+use Rattle.cache.specs.Lines.{cleanEntry, colourOf, dirtyEntry, emptyTable, indexOf, setOf, setPlace, waysOfSet}
 use Rattle.ops.specs.Ops.{boxLine}
 use Rattle.state.specs.declared.State.{State}
 use Rattle.state.specs.World.{World, positionAt}
@@ -24,7 +24,7 @@ use Rattle.refusal.specs.Code.{codeOf}
 use Rattle.taking.specs.Tokens.{sameBytes}
 use Rattle.reader.specs.Draft.{noOps}
 use Rattle.reader.specs.Read.{Read, readOf}
-use Rattle.engine.specs.FreshStart.{freshWorld}
+use Rattle.machine.specs.Fresh.{freshWorld}
 use Rattle.report.specs.Planrun.{planrunOf}
 use Rattle.settled.specs.Example.{afterPad, output, padded}
 
@@ -56,9 +56,6 @@ unfoldable pub leastPad : Bool
 leastPad = answers (padVerdict "(pad 275)\n") 3 5 && answers (padVerdict "(pad 276)\n") 0 0
 
 -- ---- 6: empty L1 flush 8, sixteen dirty 40
-abbrev pub emptyTable : List ℕ
-emptyTable = replicate tableLength 0
-
 -- a table whose L1 holds the lines 0 to count - 1, all dirty
 unfoldable pub dirtyTo : ℕ → List ℕ
 dirtyTo zero = emptyTable

@@ -30,16 +30,19 @@ unmarked entry = cond (leb 32_768 entry) (entry - 32_768) entry
 unfoldable pub lineAllowed : Plan → ℕ → ℕ → Bool
 lineAllowed plan domain line = ownsColour plan domain (colourOf line) || eqb (colourOf line) kernelColour
 
--- an L1 number is empty, or a line of this index that the running domain may have there; after the end it is empty
-unfoldable pub l1EntrySound : Plan → State → List ℕ → ℕ → Bool
-l1EntrySound plan state cache index =
-    let entry = getD cache index 0 in
+-- a number at an index of L1 is empty, or a line of this index that the running domain may have there; after the end it is empty
+abbrev pub entrySound : Plan → State → ℕ → ℕ → Bool
+entrySound plan state index entry =
     let line = lineOf (unmarked entry) in
     eqb entry 0
     || standsForLine (unmarked entry)
     && eqb (indexOf line) index
     && not (endedOf plan state)
     && lineAllowed plan (runningOf plan state) line
+
+-- an index of L1
+unfoldable pub l1EntrySound : Plan → State → List ℕ → ℕ → Bool
+l1EntrySound plan state cache index = entrySound plan state index (getD cache index 0)
 
 -- the numbers of a set behind an empty one are empty
 unfoldable pub allEmpty : List ℕ → Bool
@@ -57,11 +60,13 @@ waysSound set (way ∷ ways) =
 unfoldable pub setSound : List ℕ → ℕ → Bool
 setSound cache set = waysSound set (part (setPlace set) waysOfSet cache)
 
--- a box is empty, or holds a word of at most 65,535 that its sender had the right to send
+-- a number that a box may hold: none, or a word of at most 65,535 that its sender has the right to send
+abbrev pub boxHolds : Plan → ℕ → ℕ → Bool
+boxHolds plan place box = eqb box 0 || leb box 65_536 && maySend plan (place / 8) (place % 8)
+
+-- a box
 unfoldable pub boxSound : Plan → List ℕ → ℕ → Bool
-boxSound plan boxes place =
-    let box = getD boxes place 0 in
-    eqb box 0 || leb box 65_536 && maySend plan (place / 8) (place % 8)
+boxSound plan boxes place = boxHolds plan place (getD boxes place 0)
 
 -- the check for 13: nothing but these clauses counts
 unfoldable pub tablesSound : Plan → State → List ℕ → List ℕ → Bool

@@ -15,7 +15,7 @@ use Rattle.refusal.specs.declared.Refusal.the-variants.{WrongDomain}
 use Rattle.refusal.specs.declared.Verdict.the-variants.{Accepted, Refused}
 use Rattle.engine.specs.Asking.{logRefusalOf}
 use Rattle.engine.specs.Checks.{runVerdict, scriptsLength}
-use Rattle.engine.specs.FreshStart.{freshWorld}
+use Rattle.machine.specs.Fresh.{freshWorld}
 use Rattle.engine.specs.Running.{stepCallOf}
 use Rattle.engine.proofs.Passing.{asking-passes, run-passes}
 use Rattle.isolation.specs.Calls.{Admissible, AllOwn, Call, CallList, IsList, LogThings, RunThings, isRefused, leavesOf, logAnswer, logCall, logQuestion, pointOf, runAnswer, runCall, stepAnswer, stepCall, verdictAfter, verdictOf}

@@ -12,7 +12,7 @@ use Rattle.state.specs.World.{World}
 use Rattle.machine.specs.Steps.{steps}
 use Rattle.machine.proofs.Runs.{steps-add}
 use Rattle.reached.proofs.Reached.{log-length}
-use Rattle.engine.specs.FreshStart.{freshWorld}
+use Rattle.machine.specs.Fresh.{freshWorld}
 use Rattle.isolation.specs.Calls.{AllOwn, Call, CallList, IsList, Proper, afterCall, afterCalls, isRefused, leavesOf, pointOf, startWorld, stepsCounted, stepsOfCalls, verdictOf}
 use Rattle.isolation.specs.Points.{FreshRun, worldAfter}
 use Rattle.isolation.specs.Statement.{runOfList}

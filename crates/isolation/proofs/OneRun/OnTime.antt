@@ -15,7 +15,7 @@ use Rattle.records.specs.Records.{partRecords}
 use Rattle.state.specs.World.{freshState}
 use Rattle.machine.specs.Steps.{steps}
 use Rattle.machine.proofs.Schedule.{NextStarts, NextWindow, Scheduled, scheduled, step-windows}
-use Rattle.engine.specs.FreshStart.{freshWorld}
+use Rattle.machine.specs.Fresh.{freshWorld}
 use Rattle.isolation.specs.Calls.{CallList, IsList, pointOf}
 use Rattle.isolation.specs.Points.{FreshRun, windowsAfter, worldAfter}
 use Rattle.isolation.specs.Statement.{StartedOnTime, WindowsOnTime, runOfList}

@@ -25,7 +25,8 @@ use Rattle.refusal.specs.declared.Verdict.{Verdict}
 use Rattle.refusal.specs.declared.Verdict.the-variants.{Accepted, Refused}
 use Rattle.engine.specs.Asking.{logRefusalOf}
 use Rattle.engine.specs.Checks.{freshVerdict, logVerdict, runVerdict, scriptsLength, stateVerdict, tablesFit, unless}
-use Rattle.engine.specs.FreshStart.{Fresh, freshFrom, freshStartOf, freshWorld}
+use Rattle.machine.specs.Fresh.{freshWorld}
+use Rattle.engine.specs.FreshStart.{Fresh, freshFrom, freshStartOf}
 use Rattle.engine.specs.Running.{ranFrom, runCallOf, runFrom}
 use Rattle.engine.proofs.Passing.{state-passes}
 use Rattle.isolation.specs.Calls.{isRefused}

@@ -16,7 +16,7 @@ use Rattle.machine.specs.Steps.{opStepOf, stepOf, steps}
 use Rattle.machine.specs.Switch.{switchOf}
 use Rattle.machine.proofs.Invariant.{step-cases}
 use Rattle.machine.proofs.Runs.{steps-add, steps-ended}
-use Rattle.engine.specs.FreshStart.{freshWorld}
+use Rattle.machine.specs.Fresh.{freshWorld}
 use Rattle.isolation.specs.Points.{FreshRun, Starts, windowsAfter, worldAfter}
 use Rattle.isolation.proofs.OneRun.OnTime.{windows-grow}
 

@@ -12,7 +12,7 @@ use Rattle.state.specs.World.{World, freshState}
 use Rattle.machine.specs.Steps.{steps}
 use Rattle.machine.specs.Switch.{switchOf}
 use Rattle.reached.proofs.Cells.{cell-zeros}
-use Rattle.engine.specs.FreshStart.{freshWorld}
+use Rattle.machine.specs.Fresh.{freshWorld}
 use Rattle.isolation.specs.Points.{Starts, windowsAfter, worldAfter}
 use Rattle.isolation.proofs.TwoRuns.Lockstep.{Comparing, LockedAt, lockstep, one, other, quota, quota-other, same-end}
 use Rattle.isolation.proofs.TwoRuns.Near.{Near, near-both, near-switch}

@@ -16,7 +16,7 @@ use Rattle.ops.specs.Ops.{boxPlace}
 use Rattle.machine.specs.Steps.{stepOf}
 use Rattle.machine.specs.Switch.{switchOf}
 use Rattle.reached.proofs.Reached.{cache-length}
-use Rattle.engine.specs.FreshStart.{freshWorld}
+use Rattle.machine.specs.Fresh.{freshWorld}
 use Rattle.isolation.specs.Points.{FreshRun, Starts, windowsAfter, worldAfter}
 use Rattle.isolation.specs.Statement.{StartedOnTime}
 use Rattle.isolation.proofs.TwoRuns.Near.{Near, near-refl, near-step, near-trans}

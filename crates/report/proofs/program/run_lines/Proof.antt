@@ -6,7 +6,7 @@ use lib.ListN.{length, length-replicate}
 use lib.Seq.{sets}
 use borrow.Author.Needs.{needs}
 use Rattle.engine.proofs.FreshRuns.{Left, run-left, started-fresh}
-use Rattle.engine.specs.FreshStart.{freshWorld}
+use Rattle.machine.specs.Fresh.{freshWorld}
 use Rattle.engine.specs.Running.{Run, runCallOf}
 use Rattle.records.specs.Records.{partRecords}
 use Rattle.state.specs.Impossible.{statePossible}
