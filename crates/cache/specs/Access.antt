@@ -1,6 +1,6 @@
 -- Document 01, "What an op costs": an *access*. Assumes nothing.
 use Prim.Native.Nat.{ℕ, _+_}
-use mathlib.Core.Bool.{Bool, true, false, cond, _||_}
+use mathlib.Core.Bool.{Bool, cond}
 use mathlib.Core.List.{List}
 use lib.ListN.{getD, set}
 use Rattle.lists.specs.Part.{part, splice}

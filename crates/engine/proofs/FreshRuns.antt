@@ -10,7 +10,7 @@ use Rattle.records.specs.Records.{partRecords}
 use Rattle.state.specs.declared.State.{State}
 use Rattle.state.specs.Impossible.{statePossible}
 use Rattle.state.specs.World.{World, endedOf}
-use Rattle.machine.specs.Steps.{runOf, steps}
+use Rattle.machine.specs.Steps.{steps}
 use Rattle.machine.specs.View.{worldWith}
 use Rattle.machine.proofs.Runs.{run-world}
 use Rattle.reached.proofs.Ending.{ends}
@@ -22,7 +22,7 @@ use Rattle.engine.specs.declared.Ending.the-variants.{Ended}
 use Rattle.engine.specs.Checks.{freshVerdict, runVerdict, scriptsLength}
 use Rattle.machine.specs.Fresh.{freshWorld}
 use Rattle.engine.specs.FreshStart.{Fresh, freshFrom, freshStartOf}
-use Rattle.engine.specs.Running.{Run, endingOf, ranFrom, runCallOf, runFrom}
+use Rattle.engine.specs.Running.{endingOf, ranFrom, runCallOf, runFrom}
 use Rattle.engine.proofs.Passing.{run-passes}
 
 -- a fresh start under a possible plan, on tables of the right lengths, gives the world from which runs start

@@ -1,11 +1,11 @@
 -- What an accepted call is known to have been lent, and each verdict from the tests that give it. Assumes nothing.
 use mathlib.Core.Path.{_≡_, refl, sym, ap, _∙_}
-use mathlib.Core.Bool.{Bool, false, true, and-eq-true-iff, _&&_, _||_}
+use mathlib.Core.Bool.{Bool, false, true, and-eq-true-iff, _&&_}
 use mathlib.Core.List.{List, []}
 use Prim.Native.Nat.{ℕ, _+_, _*_, _-_, _≤_, _<_}
 use native.Mathlib.Nat.{add-zero}
 use native.Mathlib.Omega.{arith}
-use lib.Dec.{eqb, leb, ltb}
+use lib.Dec.{eqb, leb}
 use lib.ListN.{drop, length, replicate, take}
 use borrow.Author.Tests.{eqb-true, leb-true, lt-ltb, ltb-true}
 use Rattle.lists.specs.Part.{part}
@@ -23,15 +23,15 @@ use Rattle.machine.proofs.Going.{part-room}
 use Rattle.machine.specs.Steps.{runOf}
 use Rattle.machine.specs.View.{ranWith}
 use Rattle.refusal.specs.declared.Refusal.{Refusal}
-use Rattle.refusal.specs.declared.Refusal.the-variants.{DamagedTable, ImpossiblePlan, ImpossibleState, WrongDomain, WrongLength}
+use Rattle.refusal.specs.declared.Refusal.the-variants.{DamagedTable, ImpossiblePlan, WrongLength}
 use Rattle.refusal.specs.declared.Verdict.{Verdict}
 use Rattle.refusal.specs.declared.Verdict.the-variants.{Accepted, Refused}
 use Rattle.engine.specs.Answers.{answered, freshWith}
 use Rattle.engine.specs.declared.Ending.{Ending}
 use Rattle.engine.specs.declared.Ending.the-variants.{Stopped}
-use Rattle.engine.specs.Running.{Run, endingOf, ranFrom, runCallOf, runFrom}
+use Rattle.engine.specs.Running.{endingOf, ranFrom, runCallOf, runFrom}
 use Rattle.engine.specs.Asking.{logCallOf, logFrom}
-use Rattle.engine.specs.FreshStart.{Fresh, freshFrom, freshStartOf}
+use Rattle.engine.specs.FreshStart.{freshFrom, freshStartOf}
 use Rattle.engine.specs.Checks.{declaredVerdict, freshVerdict, logVerdict, runVerdict, scriptsLength, stateVerdict, tablesFit, unless}
 
 -- acceptance is no refusal

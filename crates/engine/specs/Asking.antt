@@ -6,7 +6,6 @@ use Rattle.plan.specs.declared.Plan.{Plan}
 use Rattle.records.specs.Records.{logPart, partRecords}
 use Rattle.state.specs.declared.State.{State}
 use Rattle.state.specs.World.{recordsAt}
-use Rattle.refusal.specs.declared.Refusal.{Refusal}
 use Rattle.refusal.specs.declared.Verdict.{Verdict}
 use Rattle.refusal.specs.declared.Verdict.the-variants.{Accepted, Refused}
 use Rattle.engine.specs.Checks.{logVerdict}

@@ -6,7 +6,6 @@ use Rattle.cache.specs.Lines.{emptyTable}
 use Rattle.ops.specs.Ops.{emptyBoxes}
 use Rattle.state.specs.declared.State.{State}
 use Rattle.state.specs.World.{freshState}
-use Rattle.refusal.specs.declared.Refusal.{Refusal}
 use Rattle.refusal.specs.declared.Verdict.{Verdict}
 use Rattle.refusal.specs.declared.Verdict.the-variants.{Accepted, Refused}
 use Rattle.engine.specs.Checks.{freshVerdict}

@@ -7,7 +7,6 @@ use Rattle.plan.specs.declared.Plan.{Plan}
 use Rattle.records.specs.Records.{partRecords}
 use Rattle.state.specs.World.{World, endedOf}
 use Rattle.machine.specs.Steps.{Ran, runOf}
-use Rattle.refusal.specs.declared.Refusal.{Refusal}
 use Rattle.refusal.specs.declared.Verdict.{Verdict}
 use Rattle.refusal.specs.declared.Verdict.the-variants.{Accepted, Refused}
 use Rattle.engine.specs.declared.Ending.{Ending}

@@ -9,8 +9,6 @@ use state::states::state_possible;
 use state::tables::tables_sound;
 ghost use mathlib.Core.Path.{_≡_};
 ghost use mathlib.Core.Bool.{true};
-ghost use Prim.Native.Nat.{ℕ};
-ghost use lib.ListN.{length};
 ghost use Rattle.plan.specs.Possible.{planPossible};
 ghost use Rattle.machine.specs.View.{worldWith};
 ghost use Rattle.engine.specs.Checks.{freshVerdict, logVerdict, runVerdict, stateVerdict};

@@ -5,7 +5,6 @@ use mathlib.Core.List.{List}
 use Prim.Native.Nat.{ℕ, _+_, _*_, _^_, _≤_, _<_, max}
 use native.Mathlib.Omega.{arith}
 use lib.Dec.{leb}
-use lib.ListN.{set}
 use borrow.Author.Tests.{leb-false}
 use Rattle.plan.specs.declared.Plan.{Plan}
 use Rattle.plan.specs.Windows.{endOf, ownerOf}
@@ -15,9 +14,8 @@ use Rattle.script.specs.declared.Op.{Op}
 use Rattle.script.specs.declared.Op.the-variants.{Compute, Read, Receive, Send, Write}
 use Rattle.script.specs.Fetch.{fetchOf}
 use Rattle.script.specs.Limits.{Within}
-use Rattle.cache.specs.Flush.{kernelFlushTicks, kernelFlushed, l1FlushTicks, l1Flushed}
+use Rattle.cache.specs.Flush.{kernelFlushTicks, kernelFlushed, l1FlushTicks}
 use Rattle.cache.proofs.Ticks.{flush-ticks}
-use Rattle.records.specs.declared.Seen.{Seen}
 use Rattle.records.specs.Records.{stored}
 use Rattle.ops.specs.declared.Done.{Done}
 use Rattle.ops.specs.Ops.{Effect, effectOf, ownsLine, receiveOf, sendOf, touchOf}

@@ -1,6 +1,6 @@
 -- Document 01, "Window, switch, run": one step, so many steps, a run under a limit. Assumes nothing.
-use Prim.Native.Nat.{ℕ, zero, suc, _+_, _*_}
-use mathlib.Core.Bool.{Bool, true, false, cond, _||_}
+use Prim.Native.Nat.{ℕ, zero, suc, _+_}
+use mathlib.Core.Bool.{Bool, true, false, _||_}
 use mathlib.Core.List.{List}
 use lib.Dec.{leb}
 use lib.ListN.{set}
@@ -11,7 +11,7 @@ use Rattle.script.specs.declared.Fetched.{Fetched}
 use Rattle.script.specs.declared.Fetched.the-variants.{Op as Fetch, End}
 use Rattle.script.specs.Fetch.{fetchOf}
 use Rattle.records.specs.Records.{stored}
-use Rattle.ops.specs.Ops.{Effect, effectOf}
+use Rattle.ops.specs.Ops.{effectOf}
 use Rattle.state.specs.declared.State.{State}
 use Rattle.state.specs.World.{World, endedOf, positionAt, recordsAt, runningOf}
 use Rattle.machine.specs.Switch.{switchOf}

@@ -1,12 +1,12 @@
 -- What the code of an op answers and leaves is the op's effect: a law for each way through it. Assumes nothing.
-use mathlib.Core.Path.{_≡_, refl, sym, ap, _∙_}
+use mathlib.Core.Path.{_≡_, refl}
 use mathlib.Core.Bool.{Bool, true, false, false≢true}
 use mathlib.Core.List.{List}
-use Prim.Native.Nat.{ℕ, _+_, _*_, _≤_, _<_}
+use Prim.Native.Nat.{ℕ, _+_, _≤_, _<_}
 use native.Mathlib.Omega.{arith}
 use lib.Dec.{ltb}
 use lib.ListN.{getD, set}
-use borrow.Author.Tests.{ltb-false, ltb-true}
+use borrow.Author.Tests.{ltb-false}
 use Rattle.plan.specs.declared.Plan.{Plan}
 use Rattle.plan.specs.Rights.{maySend}
 use Rattle.script.specs.Limits.{Within}
@@ -16,7 +16,7 @@ use Rattle.cache.specs.Access.{accessOf}
 use Rattle.cache.proofs.Ticks.{access-ticks}
 use Rattle.records.specs.declared.Seen.{Seen}
 use Rattle.records.specs.declared.Seen.the-variants.{Barred, Denied, Sent}
-use Rattle.ops.specs.Ops.{boxLine, boxPlace, boxSeen, deniedOf, effectOf, fullBox, gateLine, ownsLine, passedOf, receiveOf, seenOf, sendOf, touchOf}
+use Rattle.ops.specs.Ops.{boxLine, boxPlace, boxSeen, deniedOf, fullBox, gateLine, ownsLine, passedOf, receiveOf, seenOf, sendOf, touchOf}
 use Rattle.ops.specs.View.{effectWith}
 
 -- a domain's own line is a line

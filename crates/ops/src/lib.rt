@@ -6,7 +6,7 @@ use records::Seen;
 use script::Op;
 ghost use mathlib.Core.Path.{_≡_};
 ghost use mathlib.Core.List.{List};
-ghost use Prim.Native.Nat.{ℕ, _+_, _<_, _≤_};
+ghost use Prim.Native.Nat.{ℕ, _+_, _<_};
 ghost use lib.ListN.{length};
 ghost use Rattle.script.specs.Limits.{Within};
 ghost use Rattle.ops.specs.Ops.{boxSeen, effectOf, ownsLine, receiveOf, seenOf, sendOf, touchOf};

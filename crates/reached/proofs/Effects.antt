@@ -1,7 +1,7 @@
 -- An op that stands in a script leaves sound tables: it brings only lines of the running domain or the kernel into L1, and fills only boxes that the
 -- rights allow. Assumes nothing.
 use Prim.Native.Nat.{ℕ, _/_, _%_, _≤_}
-use mathlib.Core.Bool.{Bool, true, false, cond, _&&_, _||_, false≢true}
+use mathlib.Core.Bool.{Bool, true, false, cond, _||_, false≢true}
 use mathlib.Core.List.{List}
 use mathlib.Core.Path.{_≡_, refl, _∙_}
 use native.Mathlib.Omega.{arith}

@@ -1,7 +1,7 @@
 -- A sound cache table while a domain runs: its length, the lines that L1 may hold, and sound sets. An access of a line that the domain
 -- may have leaves a sound table, and a table of zeros is sound. Assumes nothing.
 use Prim.Native.Nat.{ℕ, suc, _+_, _-_, _≤_, _<_}
-use mathlib.Core.Bool.{Bool, true, false, cond, not, _&&_, _||_}
+use mathlib.Core.Bool.{Bool, true, false, cond, not}
 use mathlib.Core.List.{List, [], _∷_}
 use mathlib.Core.Path.{_≡_, refl, ap, _∙_}
 use native.Mathlib.Omega.{arith}

@@ -1,7 +1,6 @@
 -- Document 01, "What a domain sees": the kinds and values of records, their bytes, and the parts of the log. Assumes nothing.
 use Prim.Native.Nat.{ℕ, _+_, _*_, _/_, _%_}
 use mathlib.Core.List.{List, [], _∷_}
-use lib.ListN.{length}
 use lib.Seq.{sets}
 use Rattle.lists.specs.Part.{part}
 use Rattle.plan.specs.declared.Plan.{Plan}

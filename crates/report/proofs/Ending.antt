@@ -1,7 +1,7 @@
 -- The program runs every accepted plan to its end: no run has as many steps as the limit that it asks for. Assumes nothing.
 use Prim.Native.Nat.{ℕ}
 use mathlib.Core.List.{List}
-use mathlib.Core.Path.{_≡_, sym, ap, _∙_}
+use mathlib.Core.Path.{_≡_, ap, _∙_}
 use native.Mathlib.Omega.{arith}
 use lib.ListN.{length, length-replicate}
 use Rattle.refusal.specs.declared.Verdict.{Verdict}

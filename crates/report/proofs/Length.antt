@@ -1,5 +1,5 @@
 -- How many bytes the program prints at most: 80 for each of the 2,048 records that its log has room for, and 48 for the last line. Assumes nothing.
-use Prim.Native.Nat.{ℕ, _+_, _*_, _≤_, _<_}
+use Prim.Native.Nat.{ℕ, _≤_}
 use mathlib.Core.Bool.{true}
 use mathlib.Core.List.{List}
 use mathlib.Core.Path.{_≡_, refl, subst}
@@ -22,7 +22,7 @@ use Rattle.reader.specs.Draft.{noOps}
 use Rattle.reader.specs.Read.{Read, readOf}
 use Rattle.reader.proofs.Accepted.{accepted-possible}
 use Rattle.engine.proofs.FreshRuns.{run-left}
-use Rattle.report.specs.Lines.{endLine, refusedLine, runLines, seenLines}
+use Rattle.report.specs.Lines.{endLine, refusedLine, runLines}
 use Rattle.report.specs.Planrun.{largestLimit, lentLog, planrunOf, planrunRun, ranLines, readLines}
 use Rattle.report.proofs.Limits.{domains-limit}
 use Rattle.report.proofs.Places.{records-within}

@@ -1,14 +1,14 @@
 -- Document 01, "Settled numbers": the lines that *planrun* prints, a LF after each. Assumes nothing.
 use Prim.Native.Nat.{ℕ, zero, suc, _+_, _*_}
 use Prim.Native.String.{String}
-use mathlib.Core.Bool.{Bool, cond}
-use mathlib.Core.List.{List, [], _∷_, _++_}
+use mathlib.Core.Bool.{cond}
+use mathlib.Core.List.{List, [], _++_}
 use lib.Dec.{eqb}
 use lib.ListN.{getD, length}
 use Rattle.lists.specs.Ascii.{bytesOf}
 use Rattle.plan.specs.declared.Plan.{Plan}
 use Rattle.text.specs.Decimal.{decimalOf}
-use Rattle.records.specs.Records.{partRecords, recordPlace, recordSize}
+use Rattle.records.specs.Records.{partRecords, recordPlace}
 use Rattle.state.specs.declared.State.{State}
 use Rattle.state.specs.World.{recordsAt}
 use Rattle.refusal.specs.declared.Code.{Code}

@@ -1,7 +1,7 @@
 -- The eleven marked entries of document 01, "Settled numbers", proved together, by computing. Every definition that the computation goes through is
 -- named on the one `unfolding` line below; a name that two files share is written with its crate. Assumes nothing.
 use mathlib.Core.Path.{_≡_, refl}
-use mathlib.Core.Bool.{Bool, true}
+use mathlib.Core.Bool.{true}
 use Rattle.lists.specs.Ascii.{bytesOf}
 use Rattle.lists.specs.Part.{part, splice}
 use Rattle.script.specs.Fetch.{opOf, decodeOf, fetchOf}

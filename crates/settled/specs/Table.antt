@@ -1,10 +1,10 @@
 -- Document 01, "Settled numbers": the eleven entries that are marked to be proved, a row of the table for each. Assumes nothing.
-use Prim.Native.Nat.{ℕ, zero, suc, _+_, _-_}
+use Prim.Native.Nat.{ℕ, zero, suc, _-_}
 use Prim.Native.String.{String}
 use mathlib.Core.Bool.{Bool, true, false, _&&_}
-use mathlib.Core.List.{List, [], _∷_, _++_}
+use mathlib.Core.List.{List, [], _∷_}
 use lib.Dec.{eqb}
-use lib.ListN.{getD, replicate}
+use lib.ListN.{replicate}
 use lib.Seq.{sets}
 use Rattle.lists.specs.Ascii.{bytesOf}
 use Rattle.lists.specs.Part.{part}
@@ -16,7 +16,6 @@ use Rattle.cache.specs.Access.{accessOf}
 use Rattle.cache.specs.Flush.{l1FlushTicks}
 use Rattle.cache.specs.Lines.{cleanEntry, colourOf, dirtyEntry, emptyTable, indexOf, setOf, setPlace, waysOfSet}
 use Rattle.ops.specs.Ops.{boxLine}
-use Rattle.state.specs.declared.State.{State}
 use Rattle.state.specs.World.{World, positionAt}
 use Rattle.machine.specs.Steps.{stepOf}
 use Rattle.refusal.specs.declared.Verdict.{Verdict}
@@ -26,7 +25,7 @@ use Rattle.reader.specs.Draft.{noOps}
 use Rattle.reader.specs.Read.{Read, readOf}
 use Rattle.machine.specs.Fresh.{freshWorld}
 use Rattle.report.specs.Planrun.{planrunOf}
-use Rattle.settled.specs.Example.{afterPad, output, padded}
+use Rattle.settled.specs.Example.{output, padded}
 
 -- a verdict's number and companion are these
 abbrev pub answers : Verdict → ℕ → ℕ → Bool

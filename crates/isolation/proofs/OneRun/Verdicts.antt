@@ -5,14 +5,11 @@ use mathlib.Core.List.{List}
 use mathlib.Core.Path.{_≡_, refl, sym, _∙_}
 use native.Mathlib.Omega.{arith}
 use lib.ListN.{length}
-use borrow.Author.Tests.{eq-eqb, le-ltb, lt-ltb, ne-eqb}
+use borrow.Author.Tests.{le-ltb, ne-eqb}
 use Rattle.plan.specs.declared.Plan.{Plan}
 use Rattle.plan.specs.Possible.{planPossible}
-use Rattle.cache.specs.Lines.{tableLength}
 use Rattle.records.specs.Records.{partRecords}
-use Rattle.ops.specs.Ops.{boxesLength}
 use Rattle.state.specs.declared.State.{State}
-use Rattle.state.specs.Damage.{tablesSound}
 use Rattle.state.specs.Impossible.{statePossible}
 use Rattle.state.specs.World.{World}
 use Rattle.machine.specs.Steps.{steps}
@@ -24,7 +21,7 @@ use Rattle.refusal.specs.declared.Refusal.the-variants.{WrongLength, Impossible
 use Rattle.refusal.specs.declared.Verdict.{Verdict}
 use Rattle.refusal.specs.declared.Verdict.the-variants.{Accepted, Refused}
 use Rattle.engine.specs.Asking.{logRefusalOf}
-use Rattle.engine.specs.Checks.{freshVerdict, logVerdict, runVerdict, scriptsLength, stateVerdict, tablesFit, unless}
+use Rattle.engine.specs.Checks.{freshVerdict, logVerdict, runVerdict, scriptsLength, tablesFit, unless}
 use Rattle.machine.specs.Fresh.{freshWorld}
 use Rattle.engine.specs.FreshStart.{Fresh, freshFrom, freshStartOf}
 use Rattle.engine.specs.Running.{ranFrom, runCallOf, runFrom}

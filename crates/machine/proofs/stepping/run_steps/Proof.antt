@@ -6,7 +6,7 @@ use native.Mathlib.Omega.{arith}
 use borrow.Author.Needs.{needs}
 use Rattle.plan.proofs.Possible.{counts}
 use Rattle.plan.proofs.Windows.{owner-declared}
-use Rattle.plan.specs.Windows.{endOf, lengthOf, ownerOf, slotOf, windowsTotal}
+use Rattle.plan.specs.Windows.{lengthOf, ownerOf, windowsTotal}
 use Rattle.plan.specs.declared.Plan.{Plan}
 use Rattle.state.specs.declared.State.{State}
 use Rattle.state.specs.World.{World, positionAt, recordsAt}
