@@ -1,8 +1,8 @@
 // One step, an op or a switch, and so many of them.
 use crate::Advance;
 use crate::Spent;
-use cache::flush_kernel;
-use cache::flush_l1;
+use cache::flush::flush_kernel;
+use cache::flush::flush_l1;
 use ops::operate;
 use plan::Plan;
 use plan::timing::start_of;

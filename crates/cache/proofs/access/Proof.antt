@@ -83,18 +83,18 @@ slice-write-table-2 c = search needs
 found-in-set-requires : tie.Need-found-in-set-requires
 found-in-set-requires c κs = search needs
 
-choose-ticks-requires : tie.Need-choose-ticks-requires
-choose-ticks-requires c κs = search needs
+choose-number-requires : tie.Need-choose-number-requires
+choose-number-requires c κs = search needs
 
-choose-ticks-requires-2 : tie.Need-choose-ticks-requires-2
-choose-ticks-requires-2 c κs = search needs
+choose-number-requires-2 : tie.Need-choose-number-requires-2
+choose-number-requires-2 c κs = search needs
 
 add-t29 : tie.Need-add-t29
 add-t29 c =
     let args = c .before .before .before .before .before .before .before .before .before .before .before .args in
     let known = c .before .before .before .before .before .before .use-entry .result in
-    let search = c .before .choose-ticks in
-    let late = c .choose-ticks2 in
+    let search = c .before .choose-number in
+    let late = c .choose-number2 in
     let dirty = isDirty (getD (args .table .now) (indexOf (args .line)) 0) in
     omega (arith, l2-ticks known dirty (search .result) (late .result) (search .ensures) (late .ensures))
 
@@ -108,8 +108,8 @@ returns-2 c =
     let set = c .before .before .before .before .before .before .use-entry in
     let found = c .before .before .found-in-set in
     let entry = c .before .before .before .choose-entry2 in
-    let search = c .before .choose-ticks in
-    let late = c .choose-ticks2 in
+    let search = c .before .choose-number in
+    let late = c .choose-number2 in
     lacked-outcome (args .writes) (args .line) (args .table .now) (first + 4 - first) (omega arith)
     (set .result) (set .last .0) (found .result) (entry .result) (search .result) (late .result)
     (c .before .before .before .before .before .before .before .before .if1 .left)
@@ -143,8 +143,8 @@ access-spec =
     mul-table-2
     slice-write-table-2
     found-in-set-requires
-    choose-ticks-requires
-    choose-ticks-requires-2
+    choose-number-requires
+    choose-number-requires-2
     add-t29
     same-length-2
     returns-2)

@@ -5,8 +5,8 @@ use Rattle.cache.proofs.Emptied.{kernel-outcome}
 use Rattle.cache.proofs.Taken.{counted-there}
 use Rattle.cache.proofs.Ticks.{count-part-limit}
 use borrow.Author.Needs.{needs}
-use Rattle.cache.proofs.flush_kernel.Statement.{statement}
-use Rattle.cache.proofs.flush_kernel.Tie as tie
+use Rattle.cache.proofs.flush.flush_kernel.Statement.{statement}
+use Rattle.cache.proofs.flush.flush_kernel.Tie as tie
 
 sixteen-requires : tie.Need-sixteen-requires
 sixteen-requires c κs = search needs

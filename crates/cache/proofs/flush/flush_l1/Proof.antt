@@ -5,8 +5,8 @@ use Rattle.cache.proofs.Emptied.{l1-outcome}
 use Rattle.cache.proofs.Taken.{counted-there}
 use Rattle.cache.proofs.Ticks.{count-part-limit}
 use borrow.Author.Needs.{needs}
-use Rattle.cache.proofs.flush_l1.Statement.{statement}
-use Rattle.cache.proofs.flush_l1.Tie as tie
+use Rattle.cache.proofs.flush.flush_l1.Statement.{statement}
+use Rattle.cache.proofs.flush.flush_l1.Tie as tie
 
 sixteen-requires : tie.Need-sixteen-requires
 sixteen-requires c κs = search needs

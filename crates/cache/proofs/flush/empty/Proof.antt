@@ -7,8 +7,8 @@ use borrow.Author.Needs.{needs}
 use borrow.Author.Fill.{fill-more}
 use lib.ListN.{length, drop, replicate}
 use Rattle.cache.proofs.Emptied.{emptied-all, emptied-length}
-use Rattle.cache.proofs.empty.Statement.{statement}
-use Rattle.cache.proofs.empty.Tie as tie
+use Rattle.cache.proofs.flush.empty.Statement.{statement}
+use Rattle.cache.proofs.flush.empty.Tie as tie
 
 abbrev Inv-loop : tie.InvT-loop
 Inv-loop entries₀ i₀ entries i = (i ≤ length entries₀) × (entries ≡ replicate i 0 ++ drop i entries₀)

@@ -6,12 +6,12 @@ use borrow.Fn.Kinds.{In}
 use borrow.Fn.PlainCycle.{Measures, is, falls, and}
 use Rattle.cache.specs.Lines.{isDirty}
 use Rattle.cache.proofs.Counts.{above-zero, count-next, count-none, count-turn-limit}
-use Rattle.cache.proofs.choose_ticks.Reads as choose-ticks-reads
-use Rattle.cache.proofs.count_dirty.Reads as reads
-use Rattle.cache.proofs.count_dirty.Kinds as kinds
-use Rattle.cache.proofs.+count_dirty.Lts-count_dirty as lts
-use Rattle.cache.proofs.+count_dirty.{statement}
-use Rattle.cache.proofs.+count_dirty.Tie.{close}
+use Rattle.cache.proofs.choose_number.Reads as choose-number-reads
+use Rattle.cache.proofs.flush.count_dirty.Reads as reads
+use Rattle.cache.proofs.flush.count_dirty.Kinds as kinds
+use Rattle.cache.proofs.flush.+count_dirty.Lts-count_dirty as lts
+use Rattle.cache.proofs.flush.+count_dirty.{statement}
+use Rattle.cache.proofs.flush.+count_dirty.Tie.{close}
 
 abbrev μ : Measures 1 kinds.ps ℕ
 μ κs a = a .1 .1 .0
@@ -24,16 +24,16 @@ abbrev below : ℕ → In 1 kinds.ps
 below t = and 1 kinds.ps (falls 1 kinds.ps _<_ μ t) reads.Pre
 
 abbrev claims : ℕ → lts.Claims
-claims t = (choose-ticks-reads.Asked, choose-ticks-reads.Learnt, below t, reads.Post)
+claims t = (choose-number-reads.Asked, choose-number-reads.Learnt, below t, reads.Post)
 
-mul-choose-ticks : (t : ℕ) → lts.Need-mul-choose-ticks (claims t) (at t) reads.Post
-mul-choose-ticks t c = omega arith
+mul-choose-number : (t : ℕ) → lts.Need-mul-choose-number (claims t) (at t) reads.Post
+mul-choose-number t c = omega arith
 
-element-copy-out-choose-ticks : (t : ℕ) → lts.Need-element-copy-out-choose-ticks (claims t) (at t) reads.Post
-element-copy-out-choose-ticks t c = omega (arith, above-zero (c .if1 .left))
+element-copy-out-choose-number : (t : ℕ) → lts.Need-element-copy-out-choose-number (claims t) (at t) reads.Post
+element-copy-out-choose-number t c = omega (arith, above-zero (c .if1 .left))
 
-choose-ticks-requires : (t : ℕ) → lts.Need-choose-ticks-requires (claims t) (at t) reads.Post
-choose-ticks-requires t c κs = tt
+choose-number-requires : (t : ℕ) → lts.Need-choose-number-requires (claims t) (at t) reads.Post
+choose-number-requires t c κs = tt
 
 add-count-dirty : (t : ℕ) → lts.Need-add-count-dirty (claims t) (at t) reads.Post
 add-count-dirty t c = omega (arith, above-zero (c .before .before .if1 .left))
@@ -48,7 +48,7 @@ add-result : (t : ℕ) → lts.Need-add-result (claims t) (at t) reads.Post
 add-result t c =
     let args = c .before .before .before .before .args in
     let some = above-zero (c .before .before .before .if1 .left) in
-    let one = c .before .choose-ticks in
+    let one = c .before .choose-number in
     let rest = c .count-dirty in
     omega (
       arith,
@@ -63,12 +63,12 @@ returns-2 : (t : ℕ) → lts.Need-returns-2 (claims t) (at t) reads.Post
 returns-2 t c =
     let start = c .before .before .before .before in
     let some = above-zero (c .before .before .before .if1 .left) in
-    rw (c .before .choose-ticks .ensures, c .count-dirty .ensures)
+    rw (c .before .choose-number .ensures, c .count-dirty .ensures)
     (count-next isDirty (start .args .at) (start .args .numbers .now) (start .args .left) some (omega (arith, start .pre .1)))
 
 pub +count-dirty-spec : {M : Type 1} → statement M
 +count-dirty-spec =
     close μ λ t. lts.spec (claims t) (at t) reads.Post
-    (mul-choose-ticks t) (element-copy-out-choose-ticks t) (choose-ticks-requires t)
+    (mul-choose-number t) (element-copy-out-choose-number t) (choose-number-requires t)
     (add-count-dirty t) (sub-count-dirty t) (count-dirty-requires t)
     (add-result t) (returns t) (returns-2 t)

@@ -5,8 +5,8 @@ use native.Mathlib.Omega.{arith}
 use lib.ListN.{length, length-set, take}
 use Rattle.lists.specs.Part.{part}
 use Rattle.cache.proofs.Taken.{taken-all, taken-more}
-use Rattle.cache.proofs.sixteen.Statement.{statement}
-use Rattle.cache.proofs.sixteen.Tie as tie
+use Rattle.cache.proofs.flush.sixteen.Statement.{statement}
+use Rattle.cache.proofs.flush.sixteen.Tie as tie
 
 abbrev Inv-loop : tie.InvT-loop
 Inv-loop table first taken₀ i₀ taken i = (i ≤ 16) × (length taken ≡ 16) × (take i taken ≡ part first i table)
