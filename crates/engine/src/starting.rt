@@ -1,7 +1,7 @@
 // A fresh start: the state, the cache table and the boxes zeroed.
 use crate::Started;
 use crate::checks::check_fresh;
-use cache::empty;
+use cache::flush::empty;
 use plan::Plan;
 use refusal::Verdict;
 use state::State;
