@@ -1,8 +1,9 @@
 -- Document 01, "The core and its tables": a domain's share, its colours, its mask and its holding. Assumes nothing.
-use Prim.Native.Nat.{ℕ, _+_, _*_, _-_, _/_, _%_, _^_}
-use mathlib.Core.Bool.{Bool}
+use Prim.Native.Nat.{ℕ, zero, suc, _+_, _*_, _-_, _/_, _%_, _^_}
+use mathlib.Core.Bool.{Bool, cond}
+use mathlib.Core.List.{List, [], _∷_}
 use lib.Count.{ones}
-use lib.Dec.{eqb}
+use lib.Dec.{eqb, ltb}
 use lib.ListN.{getD}
 use Rattle.plan.specs.declared.Plan.{Plan}
 use Rattle.plan.specs.Sums.{sumTo}
@@ -33,6 +34,15 @@ maskFrom first count = (2 ^ count - 1) * 2 ^ first
 -- the mask that a domain's share gives it
 unfoldable pub maskOf : Plan → ℕ → ℕ
 maskOf plan domain = maskFrom (firstColour plan domain) (coloursAt plan domain)
+
+-- the mask due at a place for a domain: a declared domain's own, and 0 where none is declared
+abbrev pub maskFor : Plan → ℕ → ℕ
+maskFor plan domain = cond (ltb domain (plan .domains)) (maskOf plan domain) 0
+
+-- the masks due at the `left` places from `domain` on
+unfoldable pub masksFrom : Plan → ℕ → ℕ → List ℕ
+masksFrom plan zero domain = []
+masksFrom plan (suc left) domain = maskFor plan domain ∷ masksFrom plan left (domain + 1)
 
 -- the mask that a plan keeps for a domain
 abbrev pub maskAt : Plan → ℕ → ℕ

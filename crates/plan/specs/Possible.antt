@@ -5,7 +5,7 @@ use lib.Dec.{eqb, leb, ltb}
 use lib.ListN.{getD}
 use Rattle.plan.specs.declared.Plan.{Plan}
 use Rattle.plan.specs.Sums.{allBelow}
-use Rattle.plan.specs.Colours.{coloursAt, maskAt, maskOf, shareOf, sharesTotal}
+use Rattle.plan.specs.Colours.{coloursAt, maskAt, maskFor, shareOf, sharesTotal}
 use Rattle.plan.specs.Rights.{maySend, rightsAt}
 use Rattle.plan.specs.Windows.{ticksTotal}
 
@@ -33,9 +33,9 @@ undeclaredPossible plan domain = eqb (shareOf plan domain) 0 && eqb (rightsAt pl
 unfoldable pub domainPossible : Plan → ℕ → Bool
 domainPossible plan domain = cond (ltb domain (plan .domains)) (declaredPossible plan domain) (undeclaredPossible plan domain)
 
--- a declared domain keeps the mask that its share gives, and a place that none is declared for holds 0
+-- the mask that is kept is the one due
 unfoldable pub maskPossible : Plan → ℕ → Bool
-maskPossible plan domain = eqb (maskAt plan domain) (cond (ltb domain (plan .domains)) (maskOf plan domain) 0)
+maskPossible plan domain = eqb (maskAt plan domain) (maskFor plan domain)
 
 -- a declared window is a declared domain's, of 1 to 1,000,000 ticks; a place that no window is declared for holds zeros
 unfoldable pub windowPossible : Plan → ℕ → Bool

@@ -1,11 +1,9 @@
 // Shares of the cache, the colours that they give, and masks of bits.
 use crate::Plan;
 ghost use mathlib.Core.Path.{_≡_};
-ghost use mathlib.Core.Bool.{cond};
 ghost use Prim.Native.Nat.{ℕ, _+_, _*_, _≤_, _<_};
-ghost use lib.Dec.{ltb};
-ghost use lib.ListN.{getD, length};
-ghost use Rattle.plan.specs.Colours.{coloursOf, firstColour, hasBit, holdingOf, maskFrom, maskOf, sharesTotal};
+ghost use lib.ListN.{getD};
+ghost use Rattle.plan.specs.Colours.{coloursOf, firstColour, hasBit, holdingOf, maskFrom, masksFrom, sharesTotal};
 
 // Whether a bit of a mask is set.
 pub fn has_bit(mask: u32, place: u32) -> bool
@@ -61,7 +59,7 @@ pub fn shares_total(plan: Plan) -> u32
 // The mask of each declared domain, and 0 for the others.
 pub fn masks_of(plan: Plan) -> [u16; 8]
     requires { ⌜ (plan .domains ≤ 8) × ((i : ℕ) → i < 8 → getD (plan .shares) i 0 ≤ 1_000) × (firstColour plan (plan .domains) ≤ 15) ⌝ }
-    ensures { λ r. ⌜ (length r ≡ 8) × ((i : ℕ) → i < 8 → getD r i 0 ≡ cond (ltb i (plan .domains)) (maskOf plan i) 0) ⌝ }
+    ensures { λ r. ⌜ r ≡ masksFrom plan 8 0 ⌝ }
 {
     let shares = plan.shares;
     let domains = plan.domains as usize;

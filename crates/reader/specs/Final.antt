@@ -1,11 +1,12 @@
 -- Document 01, "The plan text": after the last line 5, then *may* (4), 7, 6, 9. Assumes nothing.
 use Prim.Native.Nat.{ℕ, zero, suc, _+_, _-_}
 use mathlib.Core.Bool.{Bool, true, false, cond, _&&_, _||_}
-use mathlib.Core.List.{List, [], _∷_}
+use mathlib.Core.List.{List}
 use lib.Dec.{eqb, leb, ltb}
 use lib.ListN.{getD}
 use Rattle.plan.specs.declared.Plan.{Plan}
-use Rattle.plan.specs.Colours.{coloursAt, maskOf, sharesTotal}
+use Rattle.plan.specs.Colours.{coloursAt, sharesTotal}
+unfoldable pub use Rattle.plan.specs.Colours.{masksFrom}
 use Rattle.plan.specs.Windows.{ticksTotal}
 use Rattle.refusal.specs.declared.Refusal.{Refusal}
 use Rattle.refusal.specs.declared.Refusal.the-variants.{NoColour, RepeatedOrMissing, RunTooLong, SharesOverThousand, WrongDomain}
@@ -44,11 +45,6 @@ finalVerdict textLength draft =
     (cond (ltb 1_000 (sharesTotal plan (plan .domains))) (Refused (SharesOverThousand (sharesTotal plan (plan .domains))))
     (cond (ltb colourless (plan .domains)) (Refused (NoColour colourless))
     (cond (ltb 4_294_967_295 (ticksTotal plan)) (Refused RunTooLong) Accepted))))
-
--- the mask of each declared domain, and 0 for the others
-unfoldable pub masksFrom : Plan → ℕ → ℕ → List ℕ
-masksFrom plan zero domain = []
-masksFrom plan (suc left) domain = cond (ltb domain (plan .domains)) (maskOf plan domain) 0 ∷ masksFrom plan left (domain + 1)
 
 -- an accepted plan keeps its colour masks
 unfoldable pub planWithMasks : Plan → Plan

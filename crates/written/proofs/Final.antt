@@ -10,14 +10,14 @@ use lib.ListN.{drop, getD, length, replicate, drop-of-length-le}
 use lib.Seq.{drop-cons}
 use borrow.Author.Tests.{eqb-true, le-ltb, ltb-false, ltb-true, ne-eqb}
 use Rattle.plan.specs.declared.Plan.{Plan}
-use Rattle.plan.specs.Colours.{coloursAt, firstColour, maskAt, maskOf, sharesTotal}
+use Rattle.plan.specs.Colours.{coloursAt, firstColour, maskAt, maskOf, masksFrom, sharesTotal}
 use Rattle.plan.specs.Possible.{planPossible, windowPossible}
 use Rattle.plan.specs.Windows.{ticksTotal}
 use Rattle.plan.proofs.Possible.{both, counts, declared, parts, undeclared}
 use Rattle.plan.proofs.Sums.{all-below}
 use Rattle.refusal.specs.declared.Verdict.the-variants.{Accepted}
 use Rattle.reader.specs.Draft.{noPlan}
-use Rattle.reader.specs.Final.{finalVerdict, firstColourless, firstUndeclared, lacking, masksFrom, planWithMasks}
+use Rattle.reader.specs.Final.{finalVerdict, firstColourless, firstUndeclared, lacking, planWithMasks}
 use Rattle.written.specs.Shaped.{Shaped}
 use Rattle.written.proofs.Filled.{filled-all, filled-none}
 use Rattle.written.proofs.Progress.{soFar}
