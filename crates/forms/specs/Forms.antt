@@ -5,8 +5,10 @@ use mathlib.Core.Bool.{cond}
 use mathlib.Core.List.{List}
 use lib.Dec.{eqb, ltb}
 use Rattle.lists.specs.Ascii.{bytesOf}
+use Rattle.plan.specs.Limits.{leastLength, leastPad, leastRun, leastShare, mostLength, mostPad, mostRun, mostShare}
 use Rattle.refusal.specs.declared.Refusal.{Refusal}
 use Rattle.refusal.specs.declared.Refusal.the-variants.{WrongDomain}
+use Rattle.script.specs.Limits.{lastDomain}
 use Rattle.taking.specs.declared.Recipients.{Recipients}
 use Rattle.taking.specs.Ops.{opHeadAt, opNumbers, thenOp}
 use Rattle.taking.specs.Recipients.{recipientsAt}
@@ -26,10 +28,10 @@ insideWith named form end = record { form = form; end = end; named = named }
 
 unfoldable pub padInside : List ℕ → List ℕ → ℕ → Inside
 padInside text named at =
-    thenNumber (takeNumber text 276 1_000_000 at) (refusedInside named) λ ticks start end. insideWith named (Pad ticks) end
+    thenNumber (takeNumber text leastPad mostPad at) (refusedInside named) λ ticks start end. insideWith named (Pad ticks) end
 
 unfoldable pub runInside : List ℕ → List ℕ → ℕ → Inside
-runInside text named at = thenNumber (takeNumber text 1 1_000 at) (refusedInside named) λ times start end. insideWith named (Run times) end
+runInside text named at = thenNumber (takeNumber text leastRun mostRun at) (refusedInside named) λ times start end. insideWith named (Run times) end
 
 -- ---- (window 0 (length 400)): a declared domain; 1 to 1,000,000
 
@@ -37,13 +39,13 @@ unfoldable pub lengthInside : List ℕ → List ℕ → ℕ → ℕ → Inside
 lengthInside text named owner at =
     then (passOpen text at) (refusedInside named) λ opened.
     then (passWord text (bytesOf "length") opened) (refusedInside named) λ worded.
-    thenNumber (takeNumber text 1 1_000_000 worded) (refusedInside named) λ ticks start end.
+    thenNumber (takeNumber text leastLength mostLength worded) (refusedInside named) λ ticks start end.
     then (passClose text end) (refusedInside named) λ closed.
     insideWith named (Window (record { owner = owner; length = ticks })) closed
 
 unfoldable pub windowInside : List ℕ → ℕ → List ℕ → ℕ → Inside
 windowInside text declared named at =
-    thenNumber (takeNumber text 0 7 at) (refusedInside named) λ owner start end.
+    thenNumber (takeNumber text 0 lastDomain at) (refusedInside named) λ owner start end.
     cond (ltb owner declared) (lengthInside text named owner end) (refusedInside named (WrongDomain start))
 
 -- ---- (op 0 (read 3)): a declared domain; one of five ops, its word and numbers
@@ -57,7 +59,7 @@ scriptInside text named domain at =
 
 unfoldable pub opInside : List ℕ → ℕ → List ℕ → ℕ → Inside
 opInside text declared named at =
-    thenNumber (takeNumber text 0 7 at) (refusedInside named) λ domain start end.
+    thenNumber (takeNumber text 0 lastDomain at) (refusedInside named) λ domain start end.
     cond (ltb domain declared) (scriptInside text named domain end) (refusedInside named (WrongDomain start))
 
 -- ---- (domain 0 (share 400) (may 1)): the next number; 1 to 1,000; none or more recipients
@@ -77,11 +79,11 @@ unfoldable pub shareInside : List ℕ → ℕ → List ℕ → ℕ → Inside
 shareInside text own named at =
     then (passOpen text at) (refusedInside named) λ opened.
     then (passWord text (bytesOf "share") opened) (refusedInside named) λ worded.
-    thenNumber (takeNumber text 1 1_000 worded) (refusedInside named) λ share start end.
+    thenNumber (takeNumber text leastShare mostShare worded) (refusedInside named) λ share start end.
     then (passClose text end) (refusedInside named) λ closed.
     mayInside text own named share closed
 
 unfoldable pub domainInside : List ℕ → ℕ → List ℕ → ℕ → Inside
 domainInside text declared named at =
-    thenNumber (takeNumber text 0 7 at) (refusedInside named) λ number start end.
+    thenNumber (takeNumber text 0 lastDomain at) (refusedInside named) λ number start end.
     cond (eqb number declared) (shareInside text number named end) (refusedInside named (WrongDomain start))

@@ -11,10 +11,12 @@ use Rattle.forms.specs.declared.OpLine.{OpLine}
 use Rattle.forms.specs.declared.WindowLine.{WindowLine}
 use Rattle.line.specs.declared.Line.{Line}
 use Rattle.plan.specs.declared.Plan.{Plan}
+use Rattle.plan.specs.Limits.{mostDomains, mostWindows}
 use Rattle.refusal.specs.declared.Refusal.{Refusal}
 use Rattle.refusal.specs.declared.Refusal.the-variants.{RepeatedOrMissing, TooMany}
 use Rattle.refusal.specs.declared.Verdict.{Verdict}
 use Rattle.refusal.specs.declared.Verdict.the-variants.{Accepted, Refused}
+use Rattle.script.specs.Limits.{mostOps}
 use Rattle.script.specs.Stored.{storedOf}
 use Rattle.reader.specs.declared.Draft.{Draft}
 
@@ -26,15 +28,15 @@ noPlan =
       run = 0;
       domains = 0;
       windows = 0;
-      shares = replicate 8 0;
-      rights = replicate 8 0;
-      owners = replicate 32 0;
-      lengths = replicate 32 0;
-      masks = replicate 8 0;
+      shares = replicate mostDomains 0;
+      rights = replicate mostDomains 0;
+      owners = replicate mostWindows 0;
+      lengths = replicate mostWindows 0;
+      masks = replicate mostDomains 0;
     }
 
 unfoldable pub noDraft : Draft
-noDraft = record { plan = noPlan; ops = replicate 8 0; named = replicate 8 0 }
+noDraft = record { plan = noPlan; ops = replicate mostDomains 0; named = replicate mostDomains 0 }
 
 -- the script store's length, and one of zeros
 abbrev pub storeLength : ℕ
@@ -129,18 +131,18 @@ unfoldable pub takeDomain : DomainLine → List ℕ → Draft → List ℕ → O
 takeDomain line named draft store =
     kept (record { plan = planWithDomain (draft .plan) line; ops = draft .ops; named = named }) store
 
--- at most 32 windows: the 33rd gives 10
+-- a window past the most gives 10
 unfoldable pub takeWindow : WindowLine → ℕ → Draft → List ℕ → Outcome
 takeWindow line bracket draft store =
-    cond (leb 32 (draft .plan .windows)) (refused (TooMany bracket)) (kept (withPlan draft (planWithWindow (draft .plan) line)) store)
+    cond (leb mostWindows (draft .plan .windows)) (refused (TooMany bracket)) (kept (withPlan draft (planWithWindow (draft .plan) line)) store)
 
--- at most 256 ops a domain: the 257th gives 10. An op is stored at 256 × domain + place.
+-- an op past the most of its domain gives 10; the others stand in the domain's part of the store, in the order read
 unfoldable pub takeOp : OpLine → ℕ → Draft → List ℕ → Outcome
 takeOp line bracket draft store =
     let place = getD (draft .ops) (line .domain) 0 in
-    cond (leb 256 place) (refused (TooMany bracket))
+    cond (leb mostOps place) (refused (TooMany bracket))
     (kept (record { plan = draft .plan; ops = set (draft .ops) (line .domain) (place + 1); named = draft .named })
-    (set store (256 * line .domain + place) (storedOf (line .op))))
+    (set store (mostOps * line .domain + place) (storedOf (line .op))))
 
 abbrev pub takeForm : Form → ℕ → List ℕ → Draft → List ℕ → Outcome
 takeForm Blank bracket named draft store = kept draft store

@@ -7,6 +7,7 @@ use lib.ListN.{getD}
 use Rattle.plan.specs.declared.Plan.{Plan}
 use Rattle.plan.specs.Colours.{coloursAt, sharesTotal}
 unfoldable pub use Rattle.plan.specs.Colours.{masksFrom}
+use Rattle.plan.specs.Limits.{mostDomains, mostRunTicks, mostShares}
 use Rattle.plan.specs.Windows.{ticksTotal}
 use Rattle.refusal.specs.declared.Refusal.{Refusal}
 use Rattle.refusal.specs.declared.Refusal.the-variants.{NoColour, RepeatedOrMissing, RunTooLong, SharesOverThousand, WrongDomain}
@@ -38,13 +39,13 @@ firstColourless plan (suc left) domain =
 unfoldable pub finalVerdict : ℕ → Draft → Verdict
 finalVerdict textLength draft =
     let plan = draft .plan in
-    let undeclared = firstUndeclared (draft .named) (plan .domains) 8 in
+    let undeclared = firstUndeclared (draft .named) (plan .domains) mostDomains in
     let colourless = firstColourless plan (plan .domains) 0 in
     cond (lacking plan) (Refused (RepeatedOrMissing textLength))
     (cond (ltb 0 undeclared) (Refused (WrongDomain (undeclared - 1)))
-    (cond (ltb 1_000 (sharesTotal plan (plan .domains))) (Refused (SharesOverThousand (sharesTotal plan (plan .domains))))
+    (cond (ltb mostShares (sharesTotal plan (plan .domains))) (Refused (SharesOverThousand (sharesTotal plan (plan .domains))))
     (cond (ltb colourless (plan .domains)) (Refused (NoColour colourless))
-    (cond (ltb 4_294_967_295 (ticksTotal plan)) (Refused RunTooLong) Accepted))))
+    (cond (ltb mostRunTicks (ticksTotal plan)) (Refused RunTooLong) Accepted))))
 
 -- an accepted plan keeps its colour masks
 unfoldable pub planWithMasks : Plan → Plan
@@ -58,5 +59,5 @@ planWithMasks p =
       rights = p .rights;
       owners = p .owners;
       lengths = p .lengths;
-      masks = masksFrom p 8 0;
+      masks = masksFrom p mostDomains 0;
     }

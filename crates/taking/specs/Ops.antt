@@ -8,6 +8,7 @@ use Rattle.refusal.specs.declared.Refusal.{Refusal}
 use Rattle.refusal.specs.declared.Refusal.the-variants.{BrokenShape}
 use Rattle.script.specs.declared.Op.{Op}
 use Rattle.script.specs.declared.Op.the-variants.{Read, Write, Send, Receive, Compute}
+use Rattle.script.specs.Limits.{lastDomain, leastTicks, mostNumber, mostTicks, mostWord}
 use Rattle.text.specs.declared.Token.{Token}
 use Rattle.text.specs.declared.Token.the-variants.{LineEnd, Open, Close, Word, Number, LongNumber, Other}
 use Rattle.text.specs.Tokens.{tokenAt}
@@ -37,16 +38,15 @@ opHeadOf text (Other start end) = NoOp (BrokenShape start)
 unfoldable pub opHeadAt : List ℕ → ℕ → OpHead
 opHeadAt text at = opHeadOf text (tokenAt text at)
 
--- read n, write n: 0 to 65,535; send b w: a domain number and 0 to 65,535; receive a: a domain number; compute t: 1 to 200.
--- The other domain of a send or a receive needn't be declared.
+-- the numbers that each word asks for, within the limits of crate script. The other domain of a send or a receive needn't be declared.
 unfoldable pub opNumbers : List ℕ → OpHead → OpTaken
-opNumbers text (ReadWord at) = thenNumber (takeNumber text 0 65_535 at) TookNone λ line start end. Took (Read line) end
-opNumbers text (WriteWord at) = thenNumber (takeNumber text 0 65_535 at) TookNone λ line start end. Took (Write line) end
+opNumbers text (ReadWord at) = thenNumber (takeNumber text 0 mostNumber at) TookNone λ line start end. Took (Read line) end
+opNumbers text (WriteWord at) = thenNumber (takeNumber text 0 mostNumber at) TookNone λ line start end. Took (Write line) end
 opNumbers text (SendWord at) =
-    thenNumber (takeNumber text 0 7 at) TookNone λ recipient first middle.
-    thenNumber (takeNumber text 0 65_535 middle) TookNone λ word start end. Took (Send recipient word) end
-opNumbers text (ReceiveWord at) = thenNumber (takeNumber text 0 7 at) TookNone λ sender start end. Took (Receive sender) end
-opNumbers text (ComputeWord at) = thenNumber (takeNumber text 1 200 at) TookNone λ ticks start end. Took (Compute ticks) end
+    thenNumber (takeNumber text 0 lastDomain at) TookNone λ recipient first middle.
+    thenNumber (takeNumber text 0 mostWord middle) TookNone λ word start end. Took (Send recipient word) end
+opNumbers text (ReceiveWord at) = thenNumber (takeNumber text 0 lastDomain at) TookNone λ sender start end. Took (Receive sender) end
+opNumbers text (ComputeWord at) = thenNumber (takeNumber text leastTicks mostTicks at) TookNone λ ticks start end. Took (Compute ticks) end
 opNumbers text (NoOp refusal) = TookNone refusal
 
 abbrev pub thenOp : {A : Type 0} → OpTaken → (Refusal → A) → (Op → ℕ → A) → A

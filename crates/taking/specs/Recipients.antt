@@ -7,6 +7,7 @@ use lib.Dec.{eqb, leb}
 use lib.ListN.{getD, length, set}
 use Rattle.plan.specs.Colours.{hasBit}
 use Rattle.refusal.specs.declared.Refusal.the-variants.{BadRecipient, BrokenShape, NumberOutOfLimits}
+use Rattle.script.specs.Limits.{lastDomain}
 use Rattle.text.specs.declared.Token.{Token}
 use Rattle.text.specs.declared.Token.the-variants.{LineEnd, Open, Close, Word, Number, LongNumber, Other}
 use Rattle.text.specs.Tokens.{tokenAt}
@@ -15,10 +16,10 @@ use Rattle.taking.specs.declared.Recipient.{Recipient}
 use Rattle.taking.specs.declared.Recipient.the-variants.{Next, Done, Refused as Unlisted}
 use Rattle.taking.specs.declared.Recipients.{Recipients}
 
--- a recipient is a domain number, 3 outside 0 to 7; 8 for the domain's own number or a repeat
+-- a recipient is a domain number, else 3; 8 for the domain's own number or a repeat
 abbrev pub recipientFor : ℕ → ℕ → ℕ → ℕ → ℕ → Recipient
 recipientFor own rights recipient start end =
-    cond (leb recipient 7)
+    cond (leb recipient lastDomain)
     (cond (eqb recipient own || hasBit rights recipient) (Unlisted (BadRecipient start)) (Next recipient start end))
     (Unlisted (NumberOutOfLimits start))
 

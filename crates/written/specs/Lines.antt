@@ -7,6 +7,7 @@ use lib.ListN.{getD}
 use Rattle.lists.specs.Ascii.{bytesOf}
 use Rattle.plan.specs.declared.Plan.{Plan}
 use Rattle.plan.specs.Colours.{hasBit, shareOf}
+use Rattle.plan.specs.Limits.{mostDomains}
 use Rattle.plan.specs.Rights.{rightsAt}
 use Rattle.text.specs.Decimal.{decimalOf}
 
@@ -21,9 +22,9 @@ risingFrom rights (suc left) domain =
       | false ↦ risingFrom rights left (domain + 1)
     ]
 
--- domain numbers are 0 to 7
+-- all of them
 unfoldable pub recipientsOf : ℕ → List ℕ
-recipientsOf rights = risingFrom rights 8 0
+recipientsOf rights = risingFrom rights mostDomains 0
 
 -- numbers that rise, from a least one on
 abbrev pub Rising : ℕ → List ℕ → Type 0
