@@ -2,7 +2,14 @@
 use crate::Form;
 use crate::Inside;
 use crate::WindowLine;
+use plan::limits::LEAST_LENGTH;
+use plan::limits::LEAST_PAD;
+use plan::limits::LEAST_RUN;
+use plan::limits::MOST_LENGTH;
+use plan::limits::MOST_PAD;
+use plan::limits::MOST_RUN;
 use refusal::Refusal;
+use script::limits::LAST_DOMAIN;
 use taking::Passed;
 use taking::Taken;
 use taking::tokens::pass_close;
@@ -12,6 +19,7 @@ use taking::tokens::take_number;
 ghost use mathlib.Core.Path.{_≡_};
 ghost use Rattle.forms.specs.Forms.{insideWith, lengthInside, padInside, refusedInside, runInside, windowInside};
 
+// A refused form; where it was reached no longer matters.
 pub fn refused_inside(named: [usize; 8], refusal: Refusal) -> Inside
     ensures { λ r. ⌜ r ≡ refusedInside named refusal ⌝ }
 {
@@ -22,16 +30,18 @@ pub fn refused_inside(named: [usize; 8], refusal: Refusal) -> Inside
     }
 }
 
+// A form that was taken, and the offset past it.
 pub fn inside_with(named: [usize; 8], form: Form, end: usize) -> Inside
     ensures { λ r. ⌜ r ≡ insideWith named form end ⌝ }
 {
     Inside { form, end, named }
 }
 
+// After the word `pad`: its number.
 pub fn pad_inside(text: &[u8], named: [usize; 8], at: usize) -> Inside
     ensures { λ r. ⌜ r ≡ padInside (now (text .entry)) named at ⌝ }
 {
-    let taken = take_number(text, 276, 1_000_000, at);
+    let taken = take_number(text, LEAST_PAD, MOST_PAD, at);
     match taken {
         Taken::Number {
             value,
@@ -42,10 +52,11 @@ pub fn pad_inside(text: &[u8], named: [usize; 8], at: usize) -> Inside
     }
 }
 
+// After the word `run`: its number.
 pub fn run_inside(text: &[u8], named: [usize; 8], at: usize) -> Inside
     ensures { λ r. ⌜ r ≡ runInside (now (text .entry)) named at ⌝ }
 {
-    let taken = take_number(text, 1, 1_000, at);
+    let taken = take_number(text, LEAST_RUN, MOST_RUN, at);
     match taken {
         Taken::Number {
             value,
@@ -56,6 +67,7 @@ pub fn run_inside(text: &[u8], named: [usize; 8], at: usize) -> Inside
     }
 }
 
+// The part with the length.
 fn length_inside(text: &[u8], named: [usize; 8], owner: u32, at: usize) -> Inside
     ensures { λ r. ⌜ r ≡ lengthInside (now (text .entry)) named owner at ⌝ }
 {
@@ -69,7 +81,7 @@ fn length_inside(text: &[u8], named: [usize; 8], owner: u32, at: usize) -> Insid
         Passed::To(offset) => offset,
         Passed::Refused(refusal) => return refused_inside(named, refusal),
     };
-    let taken = take_number(text, 1, 1_000_000, worded);
+    let taken = take_number(text, LEAST_LENGTH, MOST_LENGTH, worded);
     match taken {
         Taken::Refused(refusal) => refused_inside(named, refusal),
         Taken::Number {
@@ -92,10 +104,11 @@ fn length_inside(text: &[u8], named: [usize; 8], owner: u32, at: usize) -> Insid
     }
 }
 
+// After the word `window`: the number of a declared domain, and the length.
 pub fn window_inside(text: &[u8], declared: u32, named: [usize; 8], at: usize) -> Inside
     ensures { λ r. ⌜ r ≡ windowInside (now (text .entry)) declared named at ⌝ }
 {
-    let taken = take_number(text, 0, 7, at);
+    let taken = take_number(text, 0, LAST_DOMAIN, at);
     match taken {
         Taken::Refused(refusal) => refused_inside(named, refusal),
         Taken::Number { value, start, end } => {

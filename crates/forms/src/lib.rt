@@ -6,16 +6,19 @@ pub mod ops;
 use refusal::Refusal;
 use script::Op;
 
+// A domain's share and its recipients, bit b for domain b. Its number is the next one.
 pub struct DomainLine {
     pub share: u32,
     pub rights: u32,
 }
 
+// A window's domain and its ticks.
 pub struct WindowLine {
     pub owner: u32,
     pub length: u32,
 }
 
+// An op and the domain whose script it goes to.
 pub struct OpLine {
     pub domain: u32,
     pub op: Op,

@@ -5,6 +5,7 @@ use crate::OpLine;
 use crate::forms::inside_with;
 use crate::forms::refused_inside;
 use refusal::Refusal;
+use script::limits::LAST_DOMAIN;
 use taking::OpTaken;
 use taking::Passed;
 use taking::Taken;
@@ -16,6 +17,7 @@ use taking::tokens::take_number;
 ghost use mathlib.Core.Path.{_≡_};
 ghost use Rattle.forms.specs.Forms.{opInside, scriptInside};
 
+// The part with the op.
 fn script_inside(text: &[u8], named: [usize; 8], domain: u32, at: usize) -> Inside
     ensures { λ r. ⌜ r ≡ scriptInside (now (text .entry)) named domain at ⌝ }
 {
@@ -41,10 +43,11 @@ fn script_inside(text: &[u8], named: [usize; 8], domain: u32, at: usize) -> Insi
     }
 }
 
+// After the word `op`: the number of a declared domain, and the op.
 pub fn op_inside(text: &[u8], declared: u32, named: [usize; 8], at: usize) -> Inside
     ensures { λ r. ⌜ r ≡ opInside (now (text .entry)) declared named at ⌝ }
 {
-    let taken = take_number(text, 0, 7, at);
+    let taken = take_number(text, 0, LAST_DOMAIN, at);
     match taken {
         Taken::Refused(refusal) => refused_inside(named, refusal),
         Taken::Number { value, start, end } => {

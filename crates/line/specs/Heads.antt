@@ -13,6 +13,7 @@ use Rattle.text.specs.Tokens.{tokenAt}
 use Rattle.line.specs.declared.Head.{Head}
 use Rattle.line.specs.declared.Head.the-variants.{Pad as PadWord, Run as RunWord, Domain as DomainWord, Window as WindowWord, Op as OpWord, Refused as NoForm}
 
+-- which of the five words stands there
 abbrev pub headFor : List ℕ → ℕ → ℕ → Head
 headFor text start end =
     cond (isWord text start end (bytesOf "pad")) (PadWord end)
@@ -21,6 +22,7 @@ headFor text start end =
     (cond (isWord text start end (bytesOf "window")) (WindowWord end)
     (cond (isWord text start end (bytesOf "op")) (OpWord end) (NoForm (BrokenShape start))))))
 
+-- a word was due
 abbrev pub headOf : List ℕ → Token → Head
 headOf text (LineEnd at) = NoForm (BrokenShape at)
 headOf text (Open at) = NoForm (BrokenShape at)
@@ -30,6 +32,7 @@ headOf text (Number start end value) = NoForm (BrokenShape start)
 headOf text (LongNumber start end) = NoForm (BrokenShape start)
 headOf text (Other start end) = NoForm (BrokenShape start)
 
+-- the same of the next token from an offset on
 unfoldable pub headAt : List ℕ → ℕ → Head
 headAt text at = headOf text (tokenAt text at)
 

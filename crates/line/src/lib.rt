@@ -78,6 +78,7 @@ fn inside_of(text: &[u8], declared: u32, named: [usize; 8], head: Head) -> Insid
     }
 }
 
+// A refused line; where it ends no longer matters.
 fn refused_line(bracket: usize, named: [usize; 8], refusal: Refusal) -> Line
     ensures { λ r. ⌜ r ≡ refusedLine bracket named refusal ⌝ }
 {

@@ -23,7 +23,7 @@ coloursAt plan domain = coloursOf (shareOf plan domain)
 unfoldable pub sharesTotal : Plan → ℕ → ℕ
 sharesTotal plan count = sumTo (shareOf plan) count
 
--- colours are given from colour 0 upwards in domain order: a domain's first is the number given to the domains before it
+-- the colours are dealt out in the order of the domains, the lowest first: a domain's first is the number dealt out before it
 unfoldable pub firstColour : Plan → ℕ → ℕ
 firstColour plan domain = sumTo (coloursAt plan) domain
 
@@ -48,7 +48,7 @@ masksFrom plan (suc left) domain = maskFor plan domain ∷ masksFrom plan left (
 abbrev pub maskAt : Plan → ℕ → ℕ
 maskAt plan domain = getD (plan .masks) domain 0
 
--- a domain's holding is the number of ones in its mask
+-- a domain's holding: how many ones its mask has
 unfoldable pub holdingOf : Plan → ℕ → ℕ
 holdingOf plan domain = ones (maskAt plan domain)
 

@@ -22,7 +22,7 @@ pub fn colours_of(share: u32) -> u32
 }
 
 // The mask of so many adjacent colours from a first one on.
-pub fn mask_from(first: u32, count: u32) -> u16
+fn mask_from(first: u32, count: u32) -> u16
     requires { ⌜ first + count ≤ 15 ⌝ }
     ensures { λ r. ⌜ r ≡ maskFrom first count ⌝ }
 {
@@ -31,7 +31,7 @@ pub fn mask_from(first: u32, count: u32) -> u16
     mask as u16
 }
 
-// A domain's holding: the number of ones in its mask.
+// How many colours a domain's mask holds: document 01's holding. No crate here asks for it; a host of the library may.
 pub fn holding(plan: Plan, domain: usize) -> u32
     requires { ⌜ domain < 8 ⌝ }
     ensures { λ r. ⌜ r ≡ holdingOf plan domain ⌝ }

@@ -254,9 +254,9 @@ module _ (draft : Draft) (store : List ℕ) (so-far : GoodDraft draft) where
   op-taken : (line : OpLine) (bracket : ℕ) → GoodOutcome (length store) (takeOp line bracket draft store)
   unfolding takeOp
   op-taken line bracket =
-      let place = getD (draft .ops) (line .domain) 0 in
+      let place = getD (draft .counts) (line .domain) 0 in
       cond-holds (GoodOutcome (length store)) (leb 256 place) (refused (TooMany bracket))
-      (kept (record { plan = draft .plan; ops = set (draft .ops) (line .domain) (place + 1); named = draft .named })
+      (kept (record { plan = draft .plan; counts = set (draft .counts) (line .domain) (place + 1); named = draft .named })
       (set store (256 * line .domain + place) (storedOf (line .op))))
       (λ _. tt)
       (λ _. (

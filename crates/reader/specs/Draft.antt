@@ -12,6 +12,7 @@ use Rattle.forms.specs.declared.WindowLine.{WindowLine}
 use Rattle.line.specs.declared.Line.{Line}
 use Rattle.plan.specs.declared.Plan.{Plan}
 use Rattle.plan.specs.Limits.{mostDomains, mostWindows}
+unfoldable pub use Rattle.plan.specs.Zeros.{noPlan}
 use Rattle.refusal.specs.declared.Refusal.{Refusal}
 use Rattle.refusal.specs.declared.Refusal.the-variants.{RepeatedOrMissing, TooMany}
 use Rattle.refusal.specs.declared.Verdict.{Verdict}
@@ -20,23 +21,9 @@ use Rattle.script.specs.Limits.{mostOps}
 use Rattle.script.specs.Stored.{storedOf}
 use Rattle.reader.specs.declared.Draft.{Draft}
 
--- the plan beside a refused reading, and before the first line: all zeros
-unfoldable pub noPlan : Plan
-noPlan =
-    record {
-      pad = 0;
-      run = 0;
-      domains = 0;
-      windows = 0;
-      shares = replicate mostDomains 0;
-      rights = replicate mostDomains 0;
-      owners = replicate mostWindows 0;
-      lengths = replicate mostWindows 0;
-      masks = replicate mostDomains 0;
-    }
-
+-- before the first line
 unfoldable pub noDraft : Draft
-noDraft = record { plan = noPlan; ops = replicate mostDomains 0; named = replicate mostDomains 0 }
+noDraft = record { plan = noPlan; counts = replicate mostDomains 0; named = replicate mostDomains 0 }
 
 -- the script store's length, and one of zeros
 abbrev pub storeLength : ℕ
@@ -55,11 +42,13 @@ abbrev pub outcomeWith : Verdict → Draft → List ℕ → Outcome
 outcomeWith Accepted draft store = kept draft store
 outcomeWith (Refused refusal) draft store = refused refusal
 
+-- a draft with another plan
 abbrev pub withPlan : Draft → Plan → Draft
-withPlan draft plan = record { plan = plan; ops = draft .ops; named = draft .named }
+withPlan draft plan = record { plan = plan; counts = draft .counts; named = draft .named }
 
 -- ---- a plan with one thing more
 
+-- a pad
 unfoldable pub planWithPad : Plan → ℕ → Plan
 planWithPad p ticks =
     record {
@@ -74,6 +63,7 @@ planWithPad p ticks =
       masks = p .masks;
     }
 
+-- a run
 unfoldable pub planWithRun : Plan → ℕ → Plan
 planWithRun p times =
     record {
@@ -88,6 +78,7 @@ planWithRun p times =
       masks = p .masks;
     }
 
+-- a domain, at the next place
 unfoldable pub planWithDomain : Plan → DomainLine → Plan
 planWithDomain p line =
     record {
@@ -102,6 +93,7 @@ planWithDomain p line =
       masks = p .masks;
     }
 
+-- a window, at the next place
 unfoldable pub planWithWindow : Plan → WindowLine → Plan
 planWithWindow p line =
     record {
@@ -118,18 +110,20 @@ planWithWindow p line =
 
 -- ---- what each form adds, or 5 or 10 with the line's bracket
 
--- a second pad or run gives 5; the limits keep both above 0, so 0 is none yet
+-- a second pad gives 5; its limits keep it above 0, so 0 is none yet
 unfoldable pub takePad : ℕ → ℕ → Draft → List ℕ → Outcome
 takePad ticks bracket draft store =
     cond (eqb (draft .plan .pad) 0) (kept (withPlan draft (planWithPad (draft .plan) ticks)) store) (refused (RepeatedOrMissing bracket))
 
+-- the same of a run
 unfoldable pub takeRun : ℕ → ℕ → Draft → List ℕ → Outcome
 takeRun times bracket draft store =
     cond (eqb (draft .plan .run) 0) (kept (withPlan draft (planWithRun (draft .plan) times)) store) (refused (RepeatedOrMissing bracket))
 
+-- a domain line always fits: its number was the next one
 unfoldable pub takeDomain : DomainLine → List ℕ → Draft → List ℕ → Outcome
 takeDomain line named draft store =
-    kept (record { plan = planWithDomain (draft .plan) line; ops = draft .ops; named = named }) store
+    kept (record { plan = planWithDomain (draft .plan) line; counts = draft .counts; named = named }) store
 
 -- a window past the most gives 10
 unfoldable pub takeWindow : WindowLine → ℕ → Draft → List ℕ → Outcome
@@ -139,11 +133,12 @@ takeWindow line bracket draft store =
 -- an op past the most of its domain gives 10; the others stand in the domain's part of the store, in the order read
 unfoldable pub takeOp : OpLine → ℕ → Draft → List ℕ → Outcome
 takeOp line bracket draft store =
-    let place = getD (draft .ops) (line .domain) 0 in
+    let place = getD (draft .counts) (line .domain) 0 in
     cond (leb mostOps place) (refused (TooMany bracket))
-    (kept (record { plan = draft .plan; ops = set (draft .ops) (line .domain) (place + 1); named = draft .named })
+    (kept (record { plan = draft .plan; counts = set (draft .counts) (line .domain) (place + 1); named = draft .named })
     (set store (mostOps * line .domain + place) (storedOf (line .op))))
 
+-- a form is taken up by its kind; a line without a token adds nothing
 abbrev pub takeForm : Form → ℕ → List ℕ → Draft → List ℕ → Outcome
 takeForm Blank bracket named draft store = kept draft store
 takeForm (Pad ticks) bracket named draft store = takePad ticks bracket draft store
@@ -153,5 +148,6 @@ takeForm (Window line) bracket named draft store = takeWindow line bracket draft
 takeForm (Op line) bracket named draft store = takeOp line bracket draft store
 takeForm (Broken refusal) bracket named draft store = refused refusal
 
+-- a line is taken up by its form
 unfoldable pub takeLine : Line → Draft → List ℕ → Outcome
 takeLine line draft store = takeForm (line .form) (line .bracket) (line .named) draft store

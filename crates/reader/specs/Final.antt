@@ -1,4 +1,4 @@
--- Document 01, "The plan text": after the last line 5, then *may* (4), 7, 6, 9. Assumes nothing.
+-- Document 01, "The plan text": the checks of a whole text, once no line of it was refused, in their order. Assumes nothing.
 use Prim.Native.Nat.{ℕ, zero, suc, _+_, _-_}
 use mathlib.Core.Bool.{Bool, true, false, cond, _&&_, _||_}
 use mathlib.Core.List.{List}

@@ -2,7 +2,7 @@
 ghost use mathlib.Core.Path.{_≡_};
 ghost use Rattle.refusal.specs.Code.{codeOf, refusalCode};
 
-// A case for each row of the table of refusals. What a case holds is its companion.
+// The rows of document 01's table of refusals, one case each. What a case holds is its companion.
 pub enum Refusal {
     TextTooLong,
     BrokenShape(usize),

@@ -1,5 +1,5 @@
--- Document 01, "The plan text": an op, one of five words and its numbers, each with its limits. `at` is the offset that is reached.
--- Assumes nothing.
+-- Document 01, "The plan text": an op's word and the numbers after it; their limits, of "What an op costs", are crate script's. `at` is the offset
+-- that is reached. Assumes nothing.
 use Prim.Native.Nat.{ℕ}
 use mathlib.Core.Bool.{cond}
 use mathlib.Core.List.{List}
@@ -18,6 +18,7 @@ use Rattle.taking.specs.declared.OpTaken.{OpTaken}
 use Rattle.taking.specs.declared.OpTaken.the-variants.{Op as Took, Refused as TookNone}
 use Rattle.taking.specs.Tokens.{isWord, takeNumber, thenNumber}
 
+-- which of the five words stands there
 abbrev pub opHeadFor : List ℕ → ℕ → ℕ → OpHead
 opHeadFor text start end =
     cond (isWord text start end (bytesOf "read")) (ReadWord end)
@@ -26,6 +27,7 @@ opHeadFor text start end =
     (cond (isWord text start end (bytesOf "receive")) (ReceiveWord end)
     (cond (isWord text start end (bytesOf "compute")) (ComputeWord end) (NoOp (BrokenShape start))))))
 
+-- a word was due
 abbrev pub opHeadOf : List ℕ → Token → OpHead
 opHeadOf text (LineEnd at) = NoOp (BrokenShape at)
 opHeadOf text (Open at) = NoOp (BrokenShape at)
@@ -35,6 +37,7 @@ opHeadOf text (Number start end value) = NoOp (BrokenShape start)
 opHeadOf text (LongNumber start end) = NoOp (BrokenShape start)
 opHeadOf text (Other start end) = NoOp (BrokenShape start)
 
+-- the same of the next token from an offset on
 unfoldable pub opHeadAt : List ℕ → ℕ → OpHead
 opHeadAt text at = opHeadOf text (tokenAt text at)
 
@@ -49,6 +52,7 @@ opNumbers text (ReceiveWord at) = thenNumber (takeNumber text 0 lastDomain at) T
 opNumbers text (ComputeWord at) = thenNumber (takeNumber text leastTicks mostTicks at) TookNone λ ticks start end. Took (Compute ticks) end
 opNumbers text (NoOp refusal) = TookNone refusal
 
+-- going on from an op, or handing the refusal on
 abbrev pub thenOp : {A : Type 0} → OpTaken → (Refusal → A) → (Op → ℕ → A) → A
 thenOp (Took op end) refused go = go op end
 thenOp (TookNone refusal) refused go = refused refusal

@@ -1,5 +1,5 @@
--- Document 01, "The plan text": a list of recipients, none or more. `at` is the offset that is reached, and `named` says where the text first
--- names each domain as a recipient. Assumes nothing.
+-- Document 01, "The plan text": the recipients of a *may* list. `at` is the offset that is reached. `named` holds a number for each domain: 0 while
+-- the text names it nowhere as a recipient, else one more than the offset of the first place that does. Assumes nothing.
 use Prim.Native.Nat.{ℕ, zero, suc, _+_, _^_}
 use mathlib.Core.Bool.{cond, _||_}
 use mathlib.Core.List.{List}
@@ -23,6 +23,7 @@ recipientFor own rights recipient start end =
     (cond (eqb recipient own || hasBit rights recipient) (Unlisted (BadRecipient start)) (Next recipient start end))
     (Unlisted (NumberOutOfLimits start))
 
+-- what a token is in the list: a recipient, the bracket that closes it, or a refusal
 abbrev pub recipientOf : ℕ → ℕ → Token → Recipient
 recipientOf own rights (LineEnd at) = Unlisted (BrokenShape at)
 recipientOf own rights (Open at) = Unlisted (BrokenShape at)
@@ -32,10 +33,11 @@ recipientOf own rights (Number start end value) = recipientFor own rights value 
 recipientOf own rights (LongNumber start end) = Unlisted (NumberOutOfLimits start)
 recipientOf own rights (Other start end) = Unlisted (BrokenShape start)
 
+-- what stands next in the list from an offset on
 unfoldable pub recipientAt : List ℕ → ℕ → ℕ → ℕ → Recipient
 recipientAt text own rights at = recipientOf own rights (tokenAt text at)
 
--- the text names a domain as a recipient: only the first place counts
+-- the text names a domain as a recipient: only the first place counts, and it is kept as its offset + 1, so that 0 stays none
 unfoldable pub mention : List ℕ → ℕ → ℕ → List ℕ
 mention named recipient start = cond (eqb (getD named recipient 0) 0) (set named recipient (start + 1)) named
 
@@ -49,5 +51,6 @@ recipientsFrom (suc turns) text own rights named at =
       | Unlisted refusal ↦ record { passed = Refused refusal; rights = rights; named = named }
     ]
 
+-- the whole list from an offset on, with none taken yet
 unfoldable pub recipientsAt : List ℕ → ℕ → List ℕ → ℕ → Recipients
 recipientsAt text own named at = recipientsFrom (length text) text own 0 named at

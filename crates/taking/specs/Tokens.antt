@@ -1,5 +1,5 @@
--- Document 01, "The plan text": a token is taken apart, or the line is refused with its offset. A token of another kind than the one that is due
--- breaks the shape: 2, with the token's first byte, or the line's end where the line stops short. Assumes nothing.
+-- Document 01, "The plan text": what is due is taken from the next token, or the line is refused. A token of another kind than the one due breaks
+-- the shape: 2, with the offset where it begins; where the line stops short, with the offset of its end. Assumes nothing.
 use Prim.Native.Nat.{ℕ, _+_, _-_}
 use mathlib.Core.Bool.{Bool, true, false, cond, _&&_}
 use mathlib.Core.List.{List, [], _∷_}
@@ -45,6 +45,7 @@ lineEndOf (Number start end value) = Refused (BrokenShape start)
 lineEndOf (LongNumber start end) = Refused (BrokenShape start)
 lineEndOf (Other start end) = Refused (BrokenShape start)
 
+-- two runs of bytes are equal
 unfoldable pub sameBytes : List ℕ → List ℕ → Bool
 sameBytes [] [] = true
 sameBytes [] (b ∷ bs) = false
@@ -97,6 +98,7 @@ abbrev pub then : {A : Type 0} → Passed → (Refusal → A) → (ℕ → A) �
 then (To at) refused go = go at
 then (Refused refusal) refused go = refused refusal
 
+-- the same of a number, with its value and both its offsets
 abbrev pub thenNumber : {A : Type 0} → Taken → (Refusal → A) → (ℕ → ℕ → ℕ → A) → A
 thenNumber (Is value start end) refused go = go value start end
 thenNumber (Not refusal) refused go = refused refusal

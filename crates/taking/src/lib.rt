@@ -55,5 +55,6 @@ pub enum Recipient {
 pub struct Recipients {
     pub passed: Passed,
     pub rights: u32,
+    // where the text up to there first names each domain as a recipient, plus one; 0 where it has not
     pub named: [usize; 8],
 }

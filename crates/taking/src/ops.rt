@@ -6,6 +6,11 @@ use crate::tokens::is_word;
 use crate::tokens::take_number;
 use refusal::Refusal;
 use script::Op;
+use script::limits::LAST_DOMAIN;
+use script::limits::LEAST_TICKS;
+use script::limits::MOST_NUMBER;
+use script::limits::MOST_TICKS;
+use script::limits::MOST_WORD;
 use text::Token;
 use text::start_of;
 use text::token_at;
@@ -38,10 +43,11 @@ pub fn op_head_at(text: &[u8], at: usize) -> OpHead
     OpHead::Refused(Refusal::BrokenShape(start))
 }
 
+// The line of a read.
 fn read_numbers(text: &[u8], at: usize) -> OpTaken
     ensures { λ r. ⌜ r ≡ opNumbers (now (text .entry)) (OpHead.Read at) ⌝ }
 {
-    let taken = take_number(text, 0, 65_535, at);
+    let taken = take_number(text, 0, MOST_NUMBER, at);
     match taken {
         Taken::Refused(refusal) => OpTaken::Refused(refusal),
         Taken::Number {
@@ -55,10 +61,11 @@ fn read_numbers(text: &[u8], at: usize) -> OpTaken
     }
 }
 
+// The line of a write.
 fn write_numbers(text: &[u8], at: usize) -> OpTaken
     ensures { λ r. ⌜ r ≡ opNumbers (now (text .entry)) (OpHead.Write at) ⌝ }
 {
-    let taken = take_number(text, 0, 65_535, at);
+    let taken = take_number(text, 0, MOST_NUMBER, at);
     match taken {
         Taken::Refused(refusal) => OpTaken::Refused(refusal),
         Taken::Number {
@@ -72,10 +79,11 @@ fn write_numbers(text: &[u8], at: usize) -> OpTaken
     }
 }
 
+// The recipient and the word of a send.
 fn send_numbers(text: &[u8], at: usize) -> OpTaken
     ensures { λ r. ⌜ r ≡ opNumbers (now (text .entry)) (OpHead.Send at) ⌝ }
 {
-    let first = take_number(text, 0, 7, at);
+    let first = take_number(text, 0, LAST_DOMAIN, at);
     match first {
         Taken::Refused(refusal) => OpTaken::Refused(refusal),
         Taken::Number {
@@ -83,7 +91,7 @@ fn send_numbers(text: &[u8], at: usize) -> OpTaken
             start: _,
             end: middle,
         } => {
-            let second = take_number(text, 0, 65_535, middle);
+            let second = take_number(text, 0, MOST_WORD, middle);
             match second {
                 Taken::Refused(refusal) => OpTaken::Refused(refusal),
                 Taken::Number {
@@ -99,10 +107,11 @@ fn send_numbers(text: &[u8], at: usize) -> OpTaken
     }
 }
 
+// The sender of a receive.
 fn receive_numbers(text: &[u8], at: usize) -> OpTaken
     ensures { λ r. ⌜ r ≡ opNumbers (now (text .entry)) (OpHead.Receive at) ⌝ }
 {
-    let taken = take_number(text, 0, 7, at);
+    let taken = take_number(text, 0, LAST_DOMAIN, at);
     match taken {
         Taken::Refused(refusal) => OpTaken::Refused(refusal),
         Taken::Number {
@@ -116,10 +125,11 @@ fn receive_numbers(text: &[u8], at: usize) -> OpTaken
     }
 }
 
+// The ticks of a compute.
 fn compute_numbers(text: &[u8], at: usize) -> OpTaken
     ensures { λ r. ⌜ r ≡ opNumbers (now (text .entry)) (OpHead.Compute at) ⌝ }
 {
-    let taken = take_number(text, 1, 200, at);
+    let taken = take_number(text, LEAST_TICKS, MOST_TICKS, at);
     match taken {
         Taken::Refused(refusal) => OpTaken::Refused(refusal),
         Taken::Number {

@@ -1,6 +1,7 @@
--- Request E4, "The plan written back": a plan's text in its single form. Pad, domains, windows, run; one space between two words or numbers and none
--- beside a bracket; shares as read, recipients rising, no leading zeros; one LF between lines and none after the last. Assumes nothing.
-use Prim.Native.Nat.{ℕ, zero, suc, _+_, _≤_}
+-- For document 01's 12, a value that the reader could not give ("The plan text", table of refusals): a text for each plan value, by which it is
+-- shown that every value that passes the check is read from some text. Pad, domains, windows and run, a line for each, in one fixed spelling.
+-- Assumes nothing.
+use Prim.Native.Nat.{ℕ, zero, suc, _+_}
 use mathlib.Core.Bool.{true, false}
 use mathlib.Core.List.{List, [], _∷_, _++_}
 use lib.ListN.{getD}
@@ -26,11 +27,6 @@ risingFrom rights (suc left) domain =
 unfoldable pub recipientsOf : ℕ → List ℕ
 recipientsOf rights = risingFrom rights mostDomains 0
 
--- numbers that rise, from a least one on
-abbrev pub Rising : ℕ → List ℕ → Type 0
-Rising least [] = Unit {0}
-Rising least (number ∷ more) = (least ≤ number) × Rising (number + 1) more
-
 -- numbers, each after one space
 unfoldable pub spaced : List ℕ → List ℕ
 spaced [] = []
@@ -38,9 +34,11 @@ spaced (number ∷ more) = bytesOf " " ++ decimalOf number ++ spaced more
 
 -- ---- the four lines
 
+-- the pad
 unfoldable pub padLine : Plan → List ℕ
 padLine plan = bytesOf "(pad " ++ decimalOf (plan .pad) ++ bytesOf ")"
 
+-- a domain with its share and its recipients
 unfoldable pub domainLine : Plan → ℕ → List ℕ
 domainLine plan domain =
     bytesOf "(domain "
@@ -51,6 +49,7 @@ domainLine plan domain =
     ++ spaced (recipientsOf (rightsAt plan domain))
     ++ bytesOf "))"
 
+-- a window with its domain and its length
 unfoldable pub windowLine : Plan → ℕ → List ℕ
 windowLine plan slot =
     bytesOf "(window "
@@ -59,6 +58,7 @@ windowLine plan slot =
     ++ decimalOf (getD (plan .lengths) slot 0)
     ++ bytesOf "))"
 
+-- the run
 unfoldable pub runLine : Plan → List ℕ
 runLine plan = bytesOf "(run " ++ decimalOf (plan .run) ++ bytesOf ")"
 
@@ -84,5 +84,6 @@ unfoldable pub joined : List (List ℕ) → List ℕ
 joined [] = []
 joined (line ∷ more) = line ++ followed more
 
+-- the text of a plan
 unfoldable pub planText : Plan → List ℕ
 planText plan = joined (planLines plan)

@@ -16,7 +16,7 @@ pub record Shaped (plan : Plan) : Type 0 where
   pub owners : length (plan .owners) ≡ mostWindows
   pub lengths : length (plan .lengths) ≡ mostWindows
 
--- a plan that the reader gives with 0, 0, from some text into some script store
+-- document 01's *accepted plan* ("Two lists of calls"): some text, read into some script store, gives it and is not refused
 pub record Given (plan : Plan) : Type 0 where
   pub text : List ℕ
   pub scripts : List ℕ
