@@ -15,12 +15,12 @@ use Rattle.taking.specs.Ops.{opHeadAt, opNumbers, thenOp}
 use Rattle.taking.specs.Recipients.{recipientsAt}
 use Rattle.taking.specs.Tokens.{passClose, passOpen, passWord, takeNumber, then, thenNumber}
 use Rattle.forms.specs.declared.Form.{Form}
-use Rattle.forms.specs.declared.Form.the-variants.{Blank, Pad, Run, Domain, Window, Op as Script, Refused as Broken}
+use Rattle.forms.specs.declared.Form.the-variants.{Blank, Pad, Run, Domain, Window, Op as Script, Refused as RefusedForm}
 use Rattle.forms.specs.declared.Inside.{Inside}
 
 -- a refused form; where it was reached no longer matters
 abbrev pub refusedInside : List ℕ → Refusal → Inside
-refusedInside named refusal = record { form = Broken refusal; end = 0; named = named }
+refusedInside named refusal = record { form = RefusedForm refusal; end = 0; named = named }
 
 -- a form that was taken, and the offset past it
 abbrev pub insideWith : List ℕ → Form → ℕ → Inside

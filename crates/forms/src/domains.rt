@@ -2,8 +2,8 @@
 use crate::DomainLine;
 use crate::Form;
 use crate::Inside;
-use crate::forms::inside_with;
-use crate::forms::refused_inside;
+use crate::making::inside_with;
+use crate::making::refused_inside;
 use plan::limits::LEAST_SHARE;
 use plan::limits::MOST_SHARE;
 use refusal::Refusal;

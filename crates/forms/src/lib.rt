@@ -1,7 +1,9 @@
 // The five forms of a line: what stands within its brackets, or the refusal and its place.
 pub mod domains;
-pub mod forms;
-pub mod ops;
+pub mod making;
+pub mod op_lines;
+pub mod pad_and_run;
+pub mod windows;
 
 use refusal::Refusal;
 use script::Op;

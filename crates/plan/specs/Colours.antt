@@ -12,10 +12,11 @@ use Rattle.plan.specs.Sums.{sumTo}
 unfoldable pub coloursOf : ℕ → ℕ
 coloursOf share = share * 15 / 1_000
 
--- a domain's share, and the colours that it gives
+-- a domain's share
 abbrev pub shareOf : Plan → ℕ → ℕ
 shareOf plan domain = getD (plan .shares) domain 0
 
+-- the number of colours that it gives
 abbrev pub coloursAt : Plan → ℕ → ℕ
 coloursAt plan domain = coloursOf (shareOf plan domain)
 

@@ -2,52 +2,58 @@
 -- and said here alone. Assumes nothing.
 use Prim.Native.Nat.{ℕ}
 
--- *pad*, in ticks
+-- the fewest ticks of a *pad*
 abbrev pub leastPad : ℕ
 leastPad = 276
 
+-- the most ticks of a *pad*
 abbrev pub mostPad : ℕ
 mostPad = 1_000_000
 
--- *run*, how often the windows repeat
+-- *run*: the windows are gone through once at least
 abbrev pub leastRun : ℕ
 leastRun = 1
 
+-- *run*: the most times that they are
 abbrev pub mostRun : ℕ
 mostRun = 1_000
 
--- declared domains; a plan has a place for each of the most
+-- a plan declares a domain at least
 abbrev pub leastDomains : ℕ
 leastDomains = 1
 
+-- the most domains, and so the places that a plan has for them
 abbrev pub mostDomains : ℕ
 mostDomains = 8
 
--- a domain's *share*, in thousandths
+-- the least *share* of a domain, in thousandths
 abbrev pub leastShare : ℕ
 leastShare = 1
 
+-- the greatest *share* of a domain
 abbrev pub mostShare : ℕ
 mostShare = 1_000
 
--- the shares of all domains together; more gives 7
+-- the greatest total of all shares; above it 7
 abbrev pub mostShares : ℕ
 mostShares = 1_000
 
--- declared windows; a plan has a place for each of the most
+-- a plan declares a window at least
 abbrev pub leastWindows : ℕ
 leastWindows = 1
 
+-- the most windows, and so the places that a plan has for them
 abbrev pub mostWindows : ℕ
 mostWindows = 32
 
--- a window's *length*, in ticks
+-- the fewest ticks of a window's *length*
 abbrev pub leastLength : ℕ
 leastLength = 1
 
+-- the most ticks of a window's *length*
 abbrev pub mostLength : ℕ
 mostLength = 1_000_000
 
--- the ticks of a whole run, pads included; more gives 9
+-- the most ticks of a whole run, pads included; above it 9
 abbrev pub mostRunTicks : ℕ
 mostRunTicks = 4_294_967_295

@@ -6,12 +6,13 @@ use lib.Dec.{eqb, leb}
 use lib.ListN.{getD, replicate, set}
 use Rattle.forms.specs.declared.DomainLine.{DomainLine}
 use Rattle.forms.specs.declared.Form.{Form}
-use Rattle.forms.specs.declared.Form.the-variants.{Blank, Pad, Run, Domain, Window, Op, Refused as Broken}
+use Rattle.forms.specs.declared.Form.the-variants.{Blank, Pad, Run, Domain, Window, Op, Refused as RefusedForm}
 use Rattle.forms.specs.declared.OpLine.{OpLine}
 use Rattle.forms.specs.declared.WindowLine.{WindowLine}
 use Rattle.line.specs.declared.Line.{Line}
 use Rattle.plan.specs.declared.Plan.{Plan}
 use Rattle.plan.specs.Limits.{mostDomains, mostWindows}
+-- crate plan's, under this module's name too
 unfoldable pub use Rattle.plan.specs.Zeros.{noPlan}
 use Rattle.refusal.specs.declared.Refusal.{Refusal}
 use Rattle.refusal.specs.declared.Refusal.the-variants.{RepeatedOrMissing, TooMany}
@@ -25,10 +26,11 @@ use Rattle.reader.specs.declared.Draft.{Draft}
 unfoldable pub noDraft : Draft
 noDraft = record { plan = noPlan; counts = replicate mostDomains 0; named = replicate mostDomains 0 }
 
--- the script store's length, and one of zeros
+-- the script store's length
 abbrev pub storeLength : ℕ
 storeLength = 2_048
 
+-- a store that holds no op
 unfoldable pub noOps : List ℕ
 noOps = replicate storeLength 0
 
@@ -50,62 +52,62 @@ withPlan draft plan = record { plan = plan; counts = draft .counts; named = draf
 
 -- a pad
 unfoldable pub planWithPad : Plan → ℕ → Plan
-planWithPad p ticks =
+planWithPad plan ticks =
     record {
       pad = ticks;
-      run = p .run;
-      domains = p .domains;
-      windows = p .windows;
-      shares = p .shares;
-      rights = p .rights;
-      owners = p .owners;
-      lengths = p .lengths;
-      masks = p .masks;
+      run = plan .run;
+      domains = plan .domains;
+      windows = plan .windows;
+      shares = plan .shares;
+      rights = plan .rights;
+      owners = plan .owners;
+      lengths = plan .lengths;
+      masks = plan .masks;
     }
 
 -- a run
 unfoldable pub planWithRun : Plan → ℕ → Plan
-planWithRun p times =
+planWithRun plan times =
     record {
-      pad = p .pad;
+      pad = plan .pad;
       run = times;
-      domains = p .domains;
-      windows = p .windows;
-      shares = p .shares;
-      rights = p .rights;
-      owners = p .owners;
-      lengths = p .lengths;
-      masks = p .masks;
+      domains = plan .domains;
+      windows = plan .windows;
+      shares = plan .shares;
+      rights = plan .rights;
+      owners = plan .owners;
+      lengths = plan .lengths;
+      masks = plan .masks;
     }
 
 -- a domain, at the next place
 unfoldable pub planWithDomain : Plan → DomainLine → Plan
-planWithDomain p line =
+planWithDomain plan line =
     record {
-      pad = p .pad;
-      run = p .run;
-      domains = p .domains + 1;
-      windows = p .windows;
-      shares = set (p .shares) (p .domains) (line .share);
-      rights = set (p .rights) (p .domains) (line .rights);
-      owners = p .owners;
-      lengths = p .lengths;
-      masks = p .masks;
+      pad = plan .pad;
+      run = plan .run;
+      domains = plan .domains + 1;
+      windows = plan .windows;
+      shares = set (plan .shares) (plan .domains) (line .share);
+      rights = set (plan .rights) (plan .domains) (line .rights);
+      owners = plan .owners;
+      lengths = plan .lengths;
+      masks = plan .masks;
     }
 
 -- a window, at the next place
 unfoldable pub planWithWindow : Plan → WindowLine → Plan
-planWithWindow p line =
+planWithWindow plan line =
     record {
-      pad = p .pad;
-      run = p .run;
-      domains = p .domains;
-      windows = p .windows + 1;
-      shares = p .shares;
-      rights = p .rights;
-      owners = set (p .owners) (p .windows) (line .owner);
-      lengths = set (p .lengths) (p .windows) (line .length);
-      masks = p .masks;
+      pad = plan .pad;
+      run = plan .run;
+      domains = plan .domains;
+      windows = plan .windows + 1;
+      shares = plan .shares;
+      rights = plan .rights;
+      owners = set (plan .owners) (plan .windows) (line .owner);
+      lengths = set (plan .lengths) (plan .windows) (line .length);
+      masks = plan .masks;
     }
 
 -- ---- what each form adds, or 5 or 10 with the line's bracket
@@ -146,7 +148,7 @@ takeForm (Run times) bracket named draft store = takeRun times bracket draft sto
 takeForm (Domain line) bracket named draft store = takeDomain line named draft store
 takeForm (Window line) bracket named draft store = takeWindow line bracket draft store
 takeForm (Op line) bracket named draft store = takeOp line bracket draft store
-takeForm (Broken refusal) bracket named draft store = refused refusal
+takeForm (RefusedForm refusal) bracket named draft store = refused refusal
 
 -- a line is taken up by its form
 unfoldable pub takeLine : Line → Draft → List ℕ → Outcome

@@ -6,6 +6,7 @@ use lib.Dec.{eqb, leb, ltb}
 use lib.ListN.{getD}
 use Rattle.plan.specs.declared.Plan.{Plan}
 use Rattle.plan.specs.Colours.{coloursAt, sharesTotal}
+-- crate plan's, under this module's name too
 unfoldable pub use Rattle.plan.specs.Colours.{masksFrom}
 use Rattle.plan.specs.Limits.{mostDomains, mostRunTicks, mostShares}
 use Rattle.plan.specs.Windows.{ticksTotal}
@@ -49,15 +50,15 @@ finalVerdict textLength draft =
 
 -- an accepted plan keeps its colour masks
 unfoldable pub planWithMasks : Plan → Plan
-planWithMasks p =
+planWithMasks plan =
     record {
-      pad = p .pad;
-      run = p .run;
-      domains = p .domains;
-      windows = p .windows;
-      shares = p .shares;
-      rights = p .rights;
-      owners = p .owners;
-      lengths = p .lengths;
-      masks = masksFrom p mostDomains 0;
+      pad = plan .pad;
+      run = plan .run;
+      domains = plan .domains;
+      windows = plan .windows;
+      shares = plan .shares;
+      rights = plan .rights;
+      owners = plan .owners;
+      lengths = plan .lengths;
+      masks = masksFrom plan mostDomains 0;
     }

@@ -10,13 +10,15 @@ use Rattle.script.specs.declared.Fetched.{Fetched}
 use Rattle.script.specs.declared.Fetched.the-variants.{Op as Fetch, End}
 use Rattle.script.specs.Limits.{lastDomain, leastTicks, mostOps, mostTicks}
 
--- the three parts of a stored number
+-- the kind that a stored number holds
 abbrev pub kindPart : ℕ → ℕ
 kindPart stored = stored / 1_048_576
 
+-- the other domain that it holds
 abbrev pub otherPart : ℕ → ℕ
 otherPart stored = stored / 65_536 % 16
 
+-- the value that it holds
 abbrev pub valuePart : ℕ → ℕ
 valuePart stored = stored % 65_536
 

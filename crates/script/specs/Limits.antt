@@ -8,22 +8,23 @@ use Rattle.script.specs.declared.Op.the-variants.{Read, Write, Send, Rec
 abbrev pub lastDomain : ℕ
 lastDomain = 7
 
--- the n of a read or a write, from 0
+-- the greatest n of a read or a write; the least is 0
 abbrev pub mostNumber : ℕ
 mostNumber = 65_535
 
--- the w of a send, from 0
+-- the greatest w of a send; the least is 0
 abbrev pub mostWord : ℕ
 mostWord = 65_535
 
--- the t of a compute
+-- the least t of a compute
 abbrev pub leastTicks : ℕ
 leastTicks = 1
 
+-- the greatest t of a compute
 abbrev pub mostTicks : ℕ
 mostTicks = 200
 
--- the ops of one domain's script
+-- the most ops of one domain's script, and so its places in the store
 abbrev pub mostOps : ℕ
 mostOps = 256
 

@@ -27,7 +27,7 @@ pub enum Fetched {
     End,
 }
 
-// The limits as wide as the parts of a stored number.
+// The limits, each as wide as the part of a stored number that it is held to.
 const LAST_OTHER: u8 = LAST_DOMAIN as u8;
 
 const LEAST_VALUE: u16 = LEAST_TICKS as u16;

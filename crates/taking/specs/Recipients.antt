@@ -13,25 +13,25 @@ use Rattle.text.specs.declared.Token.the-variants.{LineEnd, Open, Close, Word, 
 use Rattle.text.specs.Tokens.{tokenAt}
 use Rattle.taking.specs.declared.Passed.the-variants.{To, Refused}
 use Rattle.taking.specs.declared.Recipient.{Recipient}
-use Rattle.taking.specs.declared.Recipient.the-variants.{Next, Done, Refused as Unlisted}
+use Rattle.taking.specs.declared.Recipient.the-variants.{Next, Done, Refused as RefusedRecipient}
 use Rattle.taking.specs.declared.Recipients.{Recipients}
 
 -- a recipient is a domain number, else 3; 8 for the domain's own number or a repeat
 abbrev pub recipientFor : ℕ → ℕ → ℕ → ℕ → ℕ → Recipient
 recipientFor own rights recipient start end =
     cond (leb recipient lastDomain)
-    (cond (eqb recipient own || hasBit rights recipient) (Unlisted (BadRecipient start)) (Next recipient start end))
-    (Unlisted (NumberOutOfLimits start))
+    (cond (eqb recipient own || hasBit rights recipient) (RefusedRecipient (BadRecipient start)) (Next recipient start end))
+    (RefusedRecipient (NumberOutOfLimits start))
 
 -- what a token is in the list: a recipient, the bracket that closes it, or a refusal
 abbrev pub recipientOf : ℕ → ℕ → Token → Recipient
-recipientOf own rights (LineEnd at) = Unlisted (BrokenShape at)
-recipientOf own rights (Open at) = Unlisted (BrokenShape at)
+recipientOf own rights (LineEnd at) = RefusedRecipient (BrokenShape at)
+recipientOf own rights (Open at) = RefusedRecipient (BrokenShape at)
 recipientOf own rights (Close at) = Done (at + 1)
-recipientOf own rights (Word start end) = Unlisted (BrokenShape start)
+recipientOf own rights (Word start end) = RefusedRecipient (BrokenShape start)
 recipientOf own rights (Number start end value) = recipientFor own rights value start end
-recipientOf own rights (LongNumber start end) = Unlisted (NumberOutOfLimits start)
-recipientOf own rights (Other start end) = Unlisted (BrokenShape start)
+recipientOf own rights (LongNumber start end) = RefusedRecipient (NumberOutOfLimits start)
+recipientOf own rights (Other start end) = RefusedRecipient (BrokenShape start)
 
 -- what stands next in the list from an offset on
 unfoldable pub recipientAt : List ℕ → ℕ → ℕ → ℕ → Recipient
@@ -48,7 +48,7 @@ recipientsFrom (suc turns) text own rights named at =
     elim (recipientAt text own rights at) [
       | Next recipient start end ↦ recipientsFrom turns text own (rights + 2 ^ recipient) (mention named recipient start) end
       | Done end ↦ record { passed = To end; rights = rights; named = named }
-      | Unlisted refusal ↦ record { passed = Refused refusal; rights = rights; named = named }
+      | RefusedRecipient refusal ↦ record { passed = Refused refusal; rights = rights; named = named }
     ]
 
 -- the whole list from an offset on, with none taken yet

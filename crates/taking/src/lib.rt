@@ -1,6 +1,6 @@
 // What a form asks for, taken token by token: brackets, words and numbers, an op, a list of recipients; or the refusal and its place.
 pub mod may;
-pub mod ops;
+pub mod op_tokens;
 pub mod tokens;
 
 use refusal::Refusal;
