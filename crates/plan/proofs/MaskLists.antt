@@ -7,7 +7,8 @@ use mathlib.Core.Path.{_≡_, refl, sym, ap, _∙_}
 use lib.ListN.{length, getD}
 use lib.Seq.{ext-getD}
 use Rattle.plan.specs.declared.Plan.{Plan}
-use Rattle.plan.specs.Colours.{maskFor, masksFrom}
+use Rattle.plan.specs.Colours.{coloursOf, firstColour, maskFor, maskFrom, maskOf, masksFrom}
+use Rattle.plan.specs.Sums.{sumTo}
 
 pub masks-length : (plan : Plan) (left domain : ℕ) → length (masksFrom plan left domain) ≡ left
 unfolding masksFrom
@@ -28,8 +29,17 @@ mask-due plan domain below = mask-past plan 8 0 domain below ∙ ap (λ (n : ℕ
 
 -- eight numbers, each the mask due at its place, are the list
 pub masks-are :
-    (plan : Plan) (masks : List ℕ) → length masks ≡ 8 → ((place : ℕ) → place < 8 → getD masks place 0 ≡ maskFor plan place) → masks ≡ masksFrom plan 8 0
+    (plan : Plan) (masks : List ℕ)
+    → length masks ≡ 8
+    → ((place : ℕ) → place < 8 → getD masks place 0 ≡ maskFor plan place)
+    → masks ≡ masksFrom plan 8 0
 masks-are plan masks eight each =
     ext-getD 0 masks (masksFrom plan 8 0) (eight ∙ sym (masks-length plan 8 0)) (λ place below.
     let small : place < 8 = omega arith in
     each place small ∙ sym (mask-due plan place small))
+
+-- the mask that a share gives hangs on the shares alone
+pub mask-alike : (one other : Plan) (domain : ℕ) → one .shares ≡ other .shares → maskOf one domain ≡ maskOf other domain
+unfolding maskOf firstColour
+mask-alike one other domain same =
+    ap (λ (shares : List ℕ). maskFrom (sumTo (λ (place : ℕ). coloursOf (getD shares place 0)) domain) (coloursOf (getD shares domain 0))) same

@@ -8,10 +8,10 @@ use mathlib.Core.Path.{_≡_, refl, ap, _∙_}
 use lib.Dec.{eqb, leb, ltb}
 use lib.ListN.{length, getD}
 use borrow.Author.Tests.{eq-eqb, eqb-false, le-leb, lt-ltb, ltb-false, ltb-true}
-use Rattle.plan.proofs.MaskLists.{mask-due}
+use Rattle.plan.proofs.MaskLists.{mask-alike, mask-due}
 use Rattle.plan.proofs.Sums.{below-all}
 use Rattle.plan.specs.declared.Plan.{Plan}
-use Rattle.plan.specs.Colours.{coloursAt, firstColour, maskOf, sharesTotal}
+use Rattle.plan.specs.Colours.{coloursAt, sharesTotal}
 use Rattle.plan.specs.Possible.{countsPossible, declaredPossible, domainPossible, maskPossible, planPossible, undeclaredPossible, windowPossible, within}
 use Rattle.plan.specs.Windows.{ticksTotal}
 use Rattle.refusal.specs.declared.Refusal.{Refusal}
@@ -77,8 +77,11 @@ module _ (draft : Draft) (good : GoodDraft draft) (fine : Passes draft) where
 
   -- the masks are those that the shares give
   mask-pass : (domain : ℕ) → domain < 8 → maskPossible (planOf draft) domain ≡ true
-  unfolding planWithMasks maskPossible maskOf firstColour
-  mask-pass domain small = eq-eqb _ _ (mask-due (draft .plan) domain small)
+  unfolding planWithMasks maskPossible
+  mask-pass domain small =
+      eq-eqb _ _
+      (mask-due (draft .plan) domain small
+      ∙ ap (λ (mask : ℕ). cond (ltb domain (draft .plan .domains)) mask 0) (mask-alike (draft .plan) (planOf draft) domain refl))
 
   declared-pass : (domain : ℕ) → domain < draft .plan .domains → declaredPossible (planOf draft) domain ≡ true
   unfolding planWithMasks declaredPossible
