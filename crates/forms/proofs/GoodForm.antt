@@ -21,7 +21,7 @@ use Rattle.taking.specs.Recipients.{recipientsAt}
 use Rattle.taking.specs.Tokens.{then}
 use Rattle.text.proofs.Reached.{cond-holds}
 use Rattle.forms.specs.declared.Form.{Form}
-use Rattle.forms.specs.declared.Form.the-variants.{Blank, Pad, Run, Domain, Window, Op as Script, Refused as Broken}
+use Rattle.forms.specs.declared.Form.the-variants.{Blank, Pad, Run, Domain, Window, Op as Script, Refused as RefusedForm}
 use Rattle.forms.specs.declared.Inside.{Inside}
 use Rattle.forms.specs.Forms.{domainInside, insideWith, lengthInside, listedInside, mayInside, opInside, padInside, refusedInside, runInside, scriptInside, shareInside, windowInside}
 
@@ -34,7 +34,7 @@ GoodForm declared named marked at end (Domain line) =
     (declared ≤ 7) × (1 ≤ line .share) × (line .share ≤ 1_000) × Recorded declared (line .rights) named marked × (at ≤ end)
 GoodForm declared named marked at end (Window line) = (line .owner < declared) × (1 ≤ line .length) × (line .length ≤ 1_000_000) × (at ≤ end)
 GoodForm declared named marked at end (Script line) = (line .domain < declared) × (at ≤ end)
-GoodForm declared named marked at end (Broken refusal) = Unit {0}
+GoodForm declared named marked at end (RefusedForm refusal) = Unit {0}
 
 -- the same of what stands within a line's brackets
 pub record Good (declared : ℕ) (named : List ℕ) (at : ℕ) (inside : Inside) : Type 0 where

@@ -2,9 +2,12 @@
 use crate::DomainLine;
 use crate::Form;
 use crate::Inside;
-use crate::forms::inside_with;
-use crate::forms::refused_inside;
+use crate::making::inside_with;
+use crate::making::refused_inside;
+use plan::limits::LEAST_SHARE;
+use plan::limits::MOST_SHARE;
 use refusal::Refusal;
+use script::limits::LAST_DOMAIN;
 use taking::Passed;
 use taking::Recipients;
 use taking::Taken;
@@ -16,6 +19,7 @@ use taking::tokens::take_number;
 ghost use mathlib.Core.Path.{_≡_};
 ghost use Rattle.forms.specs.Forms.{domainInside, listedInside, mayInside, shareInside};
 
+// The whole form, once its list of recipients was read.
 fn listed_inside(share: u32, list: Recipients) -> Inside
     ensures { λ r. ⌜ r ≡ listedInside share list ⌝ }
 {
@@ -33,6 +37,7 @@ fn listed_inside(share: u32, list: Recipients) -> Inside
     }
 }
 
+// The part with the recipients.
 fn may_inside(text: &[u8], own: u32, named: [usize; 8], share: u32, at: usize) -> Inside
     ensures { λ r. ⌜ r ≡ mayInside (now (text .entry)) own named share at ⌝ }
 {
@@ -51,6 +56,7 @@ fn may_inside(text: &[u8], own: u32, named: [usize; 8], share: u32, at: usize) -
     }
 }
 
+// The part with the share, and what follows it.
 fn share_inside(text: &[u8], own: u32, named: [usize; 8], at: usize) -> Inside
     ensures { λ r. ⌜ r ≡ shareInside (now (text .entry)) own named at ⌝ }
 {
@@ -64,7 +70,7 @@ fn share_inside(text: &[u8], own: u32, named: [usize; 8], at: usize) -> Inside
         Passed::To(offset) => offset,
         Passed::Refused(refusal) => return refused_inside(named, refusal),
     };
-    let taken = take_number(text, 1, 1_000, worded);
+    let taken = take_number(text, LEAST_SHARE, MOST_SHARE, worded);
     match taken {
         Taken::Refused(refusal) => refused_inside(named, refusal),
         Taken::Number {
@@ -81,10 +87,11 @@ fn share_inside(text: &[u8], own: u32, named: [usize; 8], at: usize) -> Inside
     }
 }
 
+// After the word `domain`: the number due next, and the two parts.
 pub fn domain_inside(text: &[u8], declared: u32, named: [usize; 8], at: usize) -> Inside
     ensures { λ r. ⌜ r ≡ domainInside (now (text .entry)) declared named at ⌝ }
 {
-    let taken = take_number(text, 0, 7, at);
+    let taken = take_number(text, 0, LAST_DOMAIN, at);
     match taken {
         Taken::Refused(refusal) => refused_inside(named, refusal),
         Taken::Number { value, start, end } => {

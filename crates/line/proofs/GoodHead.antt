@@ -13,7 +13,7 @@ use Rattle.text.specs.declared.Token.{Token}
 use Rattle.text.specs.declared.Token.the-variants.{LineEnd, Open, Close, Word, Number, LongNumber, Other}
 use Rattle.text.specs.Tokens.{tokenAt}
 use Rattle.line.specs.declared.Head.{Head}
-use Rattle.line.specs.declared.Head.the-variants.{Pad as PadWord, Run as RunWord, Domain as DomainWord, Window as WindowWord, Op as OpWord, Refused as NoForm}
+use Rattle.line.specs.declared.Head.the-variants.{Pad as PadWord, Run as RunWord, Domain as DomainWord, Window as WindowWord, Op as OpWord, Refused as RefusedWord}
 use Rattle.line.specs.Heads.{headAt, headOf, insideOf}
 
 abbrev pub PastHead : ℕ → Head → Type 0
@@ -22,7 +22,7 @@ PastHead at (RunWord end) = at ≤ end
 PastHead at (DomainWord end) = at ≤ end
 PastHead at (WindowWord end) = at ≤ end
 PastHead at (OpWord end) = at ≤ end
-PastHead at (NoForm refusal) = Unit {0}
+PastHead at (RefusedWord refusal) = Unit {0}
 
 pub head-past : (text : List ℕ) (at here : ℕ) → at ≤ here → PastHead at (headAt text here)
 unfolding headAt
@@ -39,7 +39,7 @@ head-past text at here on = go (tokenAt text here) (token-reached text here)
         cond-holds P (isWord text start end (bytesOf "run")) (RunWord end) _ (λ _. past) λ _.
         cond-holds P (isWord text start end (bytesOf "domain")) (DomainWord end) _ (λ _. past) λ _.
         cond-holds P (isWord text start end (bytesOf "window")) (WindowWord end) _ (λ _. past) λ _.
-        cond-holds P (isWord text start end (bytesOf "op")) (OpWord end) (NoForm (BrokenShape start)) (λ _. past) λ _. tt
+        cond-holds P (isWord text start end (bytesOf "op")) (OpWord end) (RefusedWord (BrokenShape start)) (λ _. past) λ _. tt
     go (Number start end value) h = tt
     go (LongNumber start end) h = tt
     go (Other start end) h = tt
@@ -52,4 +52,4 @@ module _ (text : List ℕ) (declared : ℕ) (named : List ℕ) (at : ℕ) where
   inside-good (DomainWord here) eight past = domain-good text declared named at here eight past
   inside-good (WindowWord here) eight past = window-good text declared named at here past
   inside-good (OpWord here) eight past = op-good text declared named at here past
-  inside-good (NoForm refusal) eight past = none text declared named at refusal
+  inside-good (RefusedWord refusal) eight past = none text declared named at refusal

@@ -6,7 +6,7 @@ use mathlib.Core.Path.{_≡_}
 use lib.ListN.{length}
 use Rattle.forms.proofs.GoodForm.{Good, GoodForm}
 use Rattle.forms.specs.declared.Form.{Form}
-use Rattle.forms.specs.declared.Form.the-variants.{Blank, Pad, Run, Domain, Window, Op as Script, Refused as Broken}
+use Rattle.forms.specs.declared.Form.the-variants.{Blank, Pad, Run, Domain, Window, Op as Script, Refused as RefusedForm}
 use Rattle.forms.specs.declared.Inside.{Inside}
 use Rattle.refusal.specs.declared.Refusal.{Refusal}
 use Rattle.refusal.specs.declared.Refusal.the-variants.{BrokenShape}
@@ -33,7 +33,7 @@ later declared named marked at end more (Run times) on h = (h .0, h .1, omega ar
 later declared named marked at end more (Domain line) on h = (h .0, h .1, h .2, h .3, omega arith)
 later declared named marked at end more (Window line) on h = (h .0, h .1, h .2, omega arith)
 later declared named marked at end more (Script line) on h = (h .0, omega arith)
-later declared named marked at end more (Broken refusal) on h = tt
+later declared named marked at end more (RefusedForm refusal) on h = tt
 
 module _ (text : List ℕ) (declared : ℕ) (named : List ℕ) (at : ℕ) where
   none : (bracket : ℕ) (marked : List ℕ) (refusal : Refusal) → GoodLine text declared named at (refusedLine bracket marked refusal)
@@ -64,7 +64,7 @@ module _ (text : List ℕ) (declared : ℕ) (named : List ℕ) (at : ℕ) where
       go (Domain line) closed = closed
       go (Window line) closed = closed
       go (Script line) closed = closed
-      go (Broken refusal) closed = none bracket (inside .named) refusal
+      go (RefusedForm refusal) closed = none bracket (inside .named) refusal
 
   pub line-good : length named ≡ 8 → at ≤ length text → GoodLine text declared named at (lineAt text declared named at)
   unfolding lineAt tokenLine

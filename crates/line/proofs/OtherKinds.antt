@@ -7,18 +7,18 @@ use types.Run.{OneOf, miss}
 use denote.Enum.Declared.{tagOf}
 use Rattle.forms.proofs.Form as Form
 use Rattle.forms.specs.declared.Form.{Form}
-use Rattle.forms.specs.declared.Form.the-variants.{Blank, Pad, Run, Domain, Window, Op as Script, Refused as Broken}
+use Rattle.forms.specs.declared.Form.the-variants.{Blank, Pad, Run, Domain, Window, Op as Script, Refused as RefusedForm}
 use Rattle.forms.specs.declared.Inside.{Inside}
 use Rattle.refusal.specs.declared.Refusal.the-variants.{BrokenShape}
 use Rattle.text.proofs.Token.{the-type}
 use Rattle.text.specs.declared.Token.{Token}
 use Rattle.text.specs.declared.Token.the-variants.{LineEnd, Open, Close, Word, Number, LongNumber, Other}
 use Rattle.text.specs.Tokens.{startOf}
-use Rattle.line.specs.declared.Head.the-variants.{Refused as NoForm}
+use Rattle.line.specs.declared.Head.the-variants.{Refused as RefusedWord}
 use Rattle.line.specs.Heads.{headOf}
 use Rattle.line.specs.Lines.{closedLine, formLine, refusedLine, tokenLine}
 
-pub no-head : (text : List ℕ) (token : Token) → OneOf (0 ∷ 1 ∷ 2 ∷ 4 ∷ 5 ∷ 6 ∷ []) (tagOf the-type token) → headOf text token ≡ NoForm (BrokenShape (startOf token))
+pub no-head : (text : List ℕ) (token : Token) → OneOf (0 ∷ 1 ∷ 2 ∷ 4 ∷ 5 ∷ 6 ∷ []) (tagOf the-type token) → headOf text token ≡ RefusedWord (BrokenShape (startOf token))
 no-head text (LineEnd at) h = refl
 no-head text (Open at) h = refl
 no-head text (Close at) h = refl
@@ -46,6 +46,6 @@ good-form text bracket inside (Run times) h = refl
 good-form text bracket inside (Domain line) h = refl
 good-form text bracket inside (Window line) h = refl
 good-form text bracket inside (Script line) h = refl
-good-form text bracket inside (Broken refusal) h = absurd (miss (0 ∷ 1 ∷ 2 ∷ 3 ∷ 4 ∷ 5 ∷ []) 6 tt h)
+good-form text bracket inside (RefusedForm refusal) h = absurd (miss (0 ∷ 1 ∷ 2 ∷ 3 ∷ 4 ∷ 5 ∷ []) 6 tt h)
 
 pub ruleset kinds = (no-head, no-line, good-form)

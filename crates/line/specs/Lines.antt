@@ -17,6 +17,7 @@ use Rattle.line.specs.Heads.{headAt, insideOf}
 abbrev pub refusedLine : ℕ → List ℕ → Refusal → Line
 refusedLine bracket named refusal = record { form = Refused refusal; bracket = bracket; end = 0; named = named }
 
+-- a line that was taken, with the offset of its end
 abbrev pub lineWith : ℕ → List ℕ → Form → ℕ → Line
 lineWith bracket named form end = record { form = form; bracket = bracket; end = end; named = named }
 
@@ -37,10 +38,11 @@ formLine text bracket inside (Window line) = closedLine text bracket inside
 formLine text bracket inside (Op line) = closedLine text bracket inside
 formLine text bracket inside (Refused refusal) = refusedLine bracket (inside .named) refusal
 
+-- the same, by the form within the brackets
 unfoldable pub insideLine : List ℕ → ℕ → Inside → Line
 insideLine text bracket inside = formLine text bracket inside (inside .form)
 
--- a line that begins with a token: its opening bracket was due
+-- a line by its first token: without one it says nothing, and in every other an opening bracket was due
 unfoldable pub tokenLine : List ℕ → ℕ → List ℕ → Token → Line
 tokenLine text declared named (LineEnd at) = lineWith at named Blank at
 tokenLine text declared named (Open at) = insideLine text at (insideOf text declared named (headAt text (at + 1)))

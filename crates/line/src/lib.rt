@@ -2,11 +2,11 @@
 use forms::Form;
 use forms::Inside;
 use forms::domains::domain_inside;
-use forms::forms::pad_inside;
-use forms::forms::refused_inside;
-use forms::forms::run_inside;
-use forms::forms::window_inside;
-use forms::ops::op_inside;
+use forms::making::refused_inside;
+use forms::op_lines::op_inside;
+use forms::pad_and_run::pad_inside;
+use forms::pad_and_run::run_inside;
+use forms::windows::window_inside;
 use refusal::Refusal;
 use taking::Passed;
 use taking::tokens::is_word;
@@ -78,6 +78,7 @@ fn inside_of(text: &[u8], declared: u32, named: [usize; 8], head: Head) -> Insid
     }
 }
 
+// A refused line; where it ends no longer matters.
 fn refused_line(bracket: usize, named: [usize; 8], refusal: Refusal) -> Line
     ensures { λ r. ⌜ r ≡ refusedLine bracket named refusal ⌝ }
 {

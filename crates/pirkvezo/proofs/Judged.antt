@@ -3,18 +3,11 @@
 use mathlib.Core.Path.{_≡_, refl, sym, _∙_}
 use mathlib.Core.Bool.{Bool, true, false, cond, false≢true}
 use mathlib.Core.List.{List}
-use Prim.Native.Nat.{ℕ, suc, _≤_, _<_}
-use native.Mathlib.Omega.{arith}
-use lib.Dec.{ltb}
-use borrow.Author.Tests.{le-leb, ltb-false, ltb-true}
+use Prim.Native.Nat.{ℕ}
+use borrow.Author.Tests.{le-leb}
 use Rattle.plan.specs.declared.Plan.{Plan}
-use Rattle.plan.specs.Colours.{coloursAt, firstColour, maskAt, maskOf}
 use Rattle.plan.specs.Possible.{countsPossible, planPossible}
-use Rattle.plan.specs.Sums.{sumTo}
-use Rattle.plan.proofs.Bits.{mask-fits}
-use Rattle.plan.proofs.Masks.{first-mono}
-use Rattle.plan.proofs.Possible.{declared, parts, undeclared}
-use Rattle.plan.proofs.Shares.{colours-at-most}
+use Rattle.plan.proofs.Masks.{mask-most}
 use Rattle.plan.proofs.Sums.{below-all}
 use Rattle.state.specs.declared.State.{State}
 use Rattle.state.specs.World.{World}
@@ -30,20 +23,7 @@ use Rattle.pirkvezo.proofs.Runs.{run-at}
 
 -- ---- masks that do not fit
 
--- a possible plan's masks have at most 16 bits
-mask-most : (plan : Plan) (domain : ℕ) → planPossible plan ≡ true → domain < 8 → maskAt plan domain ≤ 65_535
-unfolding maskOf firstColour sumTo
-mask-most plan domain possible below = go (ltb domain (plan .domains)) refl
-  where
-    go : (b : Bool) → ltb domain (plan .domains) ≡ b → maskAt plan domain ≤ 65_535
-    go true e =
-        let within = ltb-true domain (plan .domains) e in
-        let rising : firstColour plan (suc domain) ≤ firstColour plan (plan .domains) = first-mono plan (suc domain) (plan .domains) within in
-        let total : firstColour plan (plan .domains) ≤ 15 = colours-at-most plan (plan .domains) (parts plan possible .shares) in
-        let fits = mask-fits (firstColour plan domain) (coloursAt plan domain) (omega arith) in
-        omega (arith, declared plan domain possible within .mask)
-    go false e = omega (arith, undeclared plan domain possible (ltb-false domain (plan .domains) e) below .mask)
-
+-- a possible plan's masks fit
 fit-of-possible : (numbers : List ℕ) → planPossible (planOf numbers) ≡ true → masksFit numbers ≡ true
 unfolding masksFit planOf
 fit-of-possible numbers possible =

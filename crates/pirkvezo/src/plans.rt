@@ -1,11 +1,11 @@
 // The 92 numbers of a plan: pad, run, domains, windows; shares, masks of recipients; windows' domains, windows' lengths; colour masks.
 use plan::Plan;
+use plan::no_plan;
 ghost use mathlib.Core.Path.{_≡_};
 ghost use mathlib.Core.Bool.{true};
 ghost use Prim.Native.Nat.{_+_, _≤_};
 ghost use lib.ListN.{length};
 ghost use lib.Seq.{sets};
-ghost use Rattle.reader.specs.Draft.{noPlan};
 ghost use Rattle.pirkvezo.specs.Numbers.{handedPlan, masksFit, numbersFrom, planNumbers};
 
 // A domain's number for each of the eight, from a place on.
@@ -63,23 +63,6 @@ fn take_masks(numbers: &[u32]) -> [u16; 8]
         domain += 1;
     }
     taken
-}
-
-// The plan of all zeros, which is impossible.
-fn no_plan() -> Plan
-    ensures { λ r. ⌜ r ≡ noPlan ⌝ }
-{
-    Plan {
-        pad: 0,
-        run: 0,
-        domains: 0,
-        windows: 0,
-        shares: [0; 8],
-        rights: [0; 8],
-        owners: [0; 32],
-        lengths: [0; 32],
-        masks: [0; 8],
-    }
 }
 
 // The plan that lent numbers stand for. A mask that does not fit makes it impossible: then another impossible plan stands for it.

@@ -1,6 +1,7 @@
 pub mod Sums
 pub mod Shares
 pub mod Bits
+pub mod MaskLists
 pub mod Possible
 pub mod Masks
 pub mod Windows

@@ -12,7 +12,7 @@ use Rattle.plan.specs.Colours.{coloursAt, firstColour, hasBit, holdingOf
 use Rattle.plan.specs.Possible.{planPossible}
 use Rattle.plan.specs.Rights.{maySend, rightsAt}
 use Rattle.plan.specs.Sums.{sumTo}
-use Rattle.plan.proofs.Bits.{mask-bits, mask-ones, no-high-bit, zero-no-bit}
+use Rattle.plan.proofs.Bits.{mask-bits, mask-fits, mask-ones, no-high-bit, zero-no-bit}
 use Rattle.plan.proofs.Possible.{counts, declared, parts, undeclared}
 use Rattle.plan.proofs.Shares.{colours-at-most}
 use Rattle.plan.proofs.Sums.{sum-mono}
@@ -76,6 +76,20 @@ masks-disjoint plan one other colour possible below below′ differ owns owns′
     go false e =
         let past : other ≤ one = ltb-false one other e in
         apart plan other one colour possible (omega arith) below owns′ owns
+
+-- a possible plan's masks have at most 16 bits
+pub mask-most : (plan : Plan) (domain : ℕ) → planPossible plan ≡ true → domain < 8 → maskAt plan domain ≤ 65_535
+unfolding maskOf firstColour sumTo
+mask-most plan domain possible below = go (ltb domain (plan .domains)) refl
+  where
+    go : (b : Bool) → ltb domain (plan .domains) ≡ b → maskAt plan domain ≤ 65_535
+    go true e =
+        let within = ltb-true domain (plan .domains) e in
+        let rising : firstColour plan (suc domain) ≤ firstColour plan (plan .domains) = first-mono plan (suc domain) (plan .domains) within in
+        let total : firstColour plan (plan .domains) ≤ 15 = colours-at-most plan (plan .domains) (parts plan possible .shares) in
+        let fits = mask-fits (firstColour plan domain) (coloursAt plan domain) (omega arith) in
+        omega (arith, declared plan domain possible within .mask)
+    go false e = omega (arith, undeclared plan domain possible (ltb-false domain (plan .domains) e) below .mask)
 
 -- a domain's holding is what its share gives
 pub holding-is-colours :

@@ -7,7 +7,7 @@ use lib.Dec.{eqb, leb, ltb}
 use lib.ListN.{getD}
 use borrow.Author.Tests.{eqb-true, leb-true, ltb-true, lt-ltb, le-ltb, not-true}
 use Rattle.plan.specs.declared.Plan.{Plan}
-use Rattle.plan.specs.Colours.{coloursAt, maskAt, maskOf, shareOf, sharesTotal}
+use Rattle.plan.specs.Colours.{coloursAt, maskAt, maskFor, maskOf, shareOf, sharesTotal}
 use Rattle.plan.specs.Possible.{countsPossible, declaredPossible, domainPossible, maskPossible, planPossible, undeclaredPossible, windowPossible, within}
 use Rattle.plan.specs.Rights.{maySend, rightsAt}
 use Rattle.plan.specs.Sums.{allBelow}
@@ -94,7 +94,7 @@ pub record Declared (plan : Plan) (domain : ℕ) : Type 0 where
 
 -- the mask at a place
 mask-at :
-    (plan : Plan) (domain : ℕ) → planPossible plan ≡ true → domain < 8 → maskAt plan domain ≡ cond (ltb domain (plan .domains)) (maskOf plan domain) 0
+    (plan : Plan) (domain : ℕ) → planPossible plan ≡ true → domain < 8 → maskAt plan domain ≡ maskFor plan domain
 unfolding maskPossible
 mask-at plan domain possible below = eqb-true _ _ (all-below (maskPossible plan) 8 domain (parts plan possible .masks) below)
 

@@ -1,8 +1,9 @@
 -- Document 01, "The core and its tables": a domain's share, its colours, its mask and its holding. Assumes nothing.
-use Prim.Native.Nat.{ℕ, _+_, _*_, _-_, _/_, _%_, _^_}
-use mathlib.Core.Bool.{Bool}
+use Prim.Native.Nat.{ℕ, zero, suc, _+_, _*_, _-_, _/_, _%_, _^_}
+use mathlib.Core.Bool.{Bool, cond}
+use mathlib.Core.List.{List, [], _∷_}
 use lib.Count.{ones}
-use lib.Dec.{eqb}
+use lib.Dec.{eqb, ltb}
 use lib.ListN.{getD}
 use Rattle.plan.specs.declared.Plan.{Plan}
 use Rattle.plan.specs.Sums.{sumTo}
@@ -11,10 +12,11 @@ use Rattle.plan.specs.Sums.{sumTo}
 unfoldable pub coloursOf : ℕ → ℕ
 coloursOf share = share * 15 / 1_000
 
--- a domain's share, and the colours that it gives
+-- a domain's share
 abbrev pub shareOf : Plan → ℕ → ℕ
 shareOf plan domain = getD (plan .shares) domain 0
 
+-- the number of colours that it gives
 abbrev pub coloursAt : Plan → ℕ → ℕ
 coloursAt plan domain = coloursOf (shareOf plan domain)
 
@@ -22,7 +24,7 @@ coloursAt plan domain = coloursOf (shareOf plan domain)
 unfoldable pub sharesTotal : Plan → ℕ → ℕ
 sharesTotal plan count = sumTo (shareOf plan) count
 
--- colours are given from colour 0 upwards in domain order: a domain's first is the number given to the domains before it
+-- the colours are dealt out in the order of the domains, the lowest first: a domain's first is the number dealt out before it
 unfoldable pub firstColour : Plan → ℕ → ℕ
 firstColour plan domain = sumTo (coloursAt plan) domain
 
@@ -34,11 +36,20 @@ maskFrom first count = (2 ^ count - 1) * 2 ^ first
 unfoldable pub maskOf : Plan → ℕ → ℕ
 maskOf plan domain = maskFrom (firstColour plan domain) (coloursAt plan domain)
 
+-- the mask due at a place for a domain: a declared domain's own, and 0 where none is declared
+abbrev pub maskFor : Plan → ℕ → ℕ
+maskFor plan domain = cond (ltb domain (plan .domains)) (maskOf plan domain) 0
+
+-- the masks due at the `left` places from `domain` on
+unfoldable pub masksFrom : Plan → ℕ → ℕ → List ℕ
+masksFrom plan zero domain = []
+masksFrom plan (suc left) domain = maskFor plan domain ∷ masksFrom plan left (domain + 1)
+
 -- the mask that a plan keeps for a domain
 abbrev pub maskAt : Plan → ℕ → ℕ
 maskAt plan domain = getD (plan .masks) domain 0
 
--- a domain's holding is the number of ones in its mask
+-- a domain's holding: how many ones its mask has
 unfoldable pub holdingOf : Plan → ℕ → ℕ
 holdingOf plan domain = ones (maskAt plan domain)
 

@@ -1,3 +1,5 @@
+pub mod Limits
+pub mod Zeros
 pub mod Sums
 pub mod Colours
 pub mod Rights

@@ -16,7 +16,7 @@ ownerOf plan window = getD (plan .owners) (slotOf plan window) 0
 unfoldable pub lengthOf : Plan → ℕ → ℕ
 lengthOf plan window = getD (plan .lengths) (slotOf plan window) 0
 
--- window k, from 0, starts at the sum of length + pad over the k windows before it, repeats included
+-- the first window starts at tick 0, and each next one a length and a pad later
 unfoldable pub startOf : Plan → ℕ → ℕ
 startOf plan zero = 0
 startOf plan (suc window) = startOf plan window + lengthOf plan window + plan .pad

@@ -1,5 +1,19 @@
 // The check for 12: whether the reader could give a plan value.
 use crate::Plan;
+use crate::limits::LEAST_DOMAINS;
+use crate::limits::LEAST_LENGTH;
+use crate::limits::LEAST_PAD;
+use crate::limits::LEAST_RUN;
+use crate::limits::LEAST_SHARE;
+use crate::limits::LEAST_WINDOWS;
+use crate::limits::MOST_DOMAINS;
+use crate::limits::MOST_LENGTH;
+use crate::limits::MOST_PAD;
+use crate::limits::MOST_RUN;
+use crate::limits::MOST_RUN_TICKS;
+use crate::limits::MOST_SHARE;
+use crate::limits::MOST_SHARES;
+use crate::limits::MOST_WINDOWS;
 use crate::sharing::colours_of;
 use crate::sharing::has_bit;
 use crate::sharing::masks_of;
@@ -11,7 +25,8 @@ ghost use Prim.Native.Nat.{ℕ, _≤_, _<_};
 ghost use lib.Dec.{ltb};
 ghost use lib.ListN.{getD};
 ghost use Rattle.plan.specs.Colours.{firstColour};
-ghost use Rattle.plan.specs.Possible.{countsPossible, declaredPossible, domainPossible, maskPossible, planPossible, undeclaredPossible, windowPossible, within};
+ghost use Rattle.plan.specs.Possible.{countsPossible, declaredPossible, domainPossible, maskPossible};
+ghost use Rattle.plan.specs.Possible.{planPossible, undeclaredPossible, windowPossible, within};
 ghost use Rattle.plan.specs.Sums.{allBelow};
 
 // Whether a number is within limits, both included.
@@ -25,10 +40,10 @@ fn is_within(low: u32, high: u32, number: u32) -> bool
 fn counts_possible(plan: Plan) -> bool
     ensures { λ r. ⌜ r ≡ countsPossible plan ⌝ }
 {
-    let pad = is_within(276, 1_000_000, plan.pad);
-    let run = is_within(1, 1_000, plan.run);
-    let domains = is_within(1, 8, plan.domains);
-    let windows = is_within(1, 32, plan.windows);
+    let pad = is_within(LEAST_PAD, MOST_PAD, plan.pad);
+    let run = is_within(LEAST_RUN, MOST_RUN, plan.run);
+    let domains = is_within(LEAST_DOMAINS, MOST_DOMAINS, plan.domains);
+    let windows = is_within(LEAST_WINDOWS, MOST_WINDOWS, plan.windows);
     pad & run & domains & windows
 }
 
@@ -41,7 +56,7 @@ fn declared_possible(plan: Plan, domain: usize) -> bool
     let rights = plan.rights;
     let share = shares[domain];
     let right = rights[domain];
-    if !is_within(1, 1_000, share) {
+    if !is_within(LEAST_SHARE, MOST_SHARE, share) {
         return false;
     }
     let colours = colours_of(share);
@@ -100,7 +115,7 @@ fn window_possible(owner: u32, length: u32, domains: u32, declared: bool) -> boo
     ensures { λ r. ⌜ ((plan : Plan) (slot : ℕ) → getD (plan .owners) slot 0 ≡ owner → getD (plan .lengths) slot 0 ≡ length → plan .domains ≡ domains
         → ltb slot (plan .windows) ≡ declared → r ≡ windowPossible plan slot) ⌝ }
 {
-    let within = is_within(1, 1_000_000, length);
+    let within = is_within(LEAST_LENGTH, MOST_LENGTH, length);
     let used = (owner < domains) & within;
     let unused = (owner == 0) & (length == 0);
     if declared { used } else { unused }
@@ -133,7 +148,7 @@ pub fn is_possible(plan: Plan) -> bool
     if !domains_possible(plan) {
         return false;
     }
-    if 1_000 < shares_total(plan) {
+    if MOST_SHARES < shares_total(plan) {
         return false;
     }
     if !masks_possible(plan) {
@@ -142,5 +157,5 @@ pub fn is_possible(plan: Plan) -> bool
     if !windows_possible(plan) {
         return false;
     }
-    ticks_total(plan) <= 4_294_967_295
+    ticks_total(plan) <= MOST_RUN_TICKS
 }

@@ -1,8 +1,13 @@
 // A plan: what the reader hands on to the machine.
 pub mod checking;
+pub mod limits;
 pub mod sharing;
 pub mod timing;
 
+ghost use mathlib.Core.Path.{_≡_};
+ghost use Rattle.plan.specs.Zeros.{noPlan};
+
+// A plan as it was read: its numbers, and the colours that its shares give.
 pub struct Plan {
     // ticks from a window's end to the next window's start
     pub pad: u32,
@@ -22,4 +27,21 @@ pub struct Plan {
     pub lengths: [u32; 32],
     // each domain's colours, bit c for colour c
     pub masks: [u16; 8],
+}
+
+// The plan of zeros alone, which no text gives: it stands beside a refusal, and a draft starts from it.
+pub fn no_plan() -> Plan
+    ensures { λ r. ⌜ r ≡ noPlan ⌝ }
+{
+    Plan {
+        pad: 0,
+        run: 0,
+        domains: 0,
+        windows: 0,
+        shares: [0; 8],
+        rights: [0; 8],
+        owners: [0; 32],
+        lengths: [0; 32],
+        masks: [0; 8],
+    }
 }

@@ -1,11 +1,9 @@
 // Shares of the cache, the colours that they give, and masks of bits.
 use crate::Plan;
 ghost use mathlib.Core.Path.{_≡_};
-ghost use mathlib.Core.Bool.{cond};
 ghost use Prim.Native.Nat.{ℕ, _+_, _*_, _≤_, _<_};
-ghost use lib.Dec.{ltb};
-ghost use lib.ListN.{getD, length};
-ghost use Rattle.plan.specs.Colours.{coloursOf, firstColour, hasBit, holdingOf, maskFrom, maskOf, sharesTotal};
+ghost use lib.ListN.{getD};
+ghost use Rattle.plan.specs.Colours.{coloursOf, firstColour, hasBit, holdingOf, maskFrom, masksFrom, sharesTotal};
 
 // Whether a bit of a mask is set.
 pub fn has_bit(mask: u32, place: u32) -> bool
@@ -24,7 +22,7 @@ pub fn colours_of(share: u32) -> u32
 }
 
 // The mask of so many adjacent colours from a first one on.
-pub fn mask_from(first: u32, count: u32) -> u16
+fn mask_from(first: u32, count: u32) -> u16
     requires { ⌜ first + count ≤ 15 ⌝ }
     ensures { λ r. ⌜ r ≡ maskFrom first count ⌝ }
 {
@@ -33,7 +31,7 @@ pub fn mask_from(first: u32, count: u32) -> u16
     mask as u16
 }
 
-// A domain's holding: the number of ones in its mask.
+// How many colours a domain's mask holds: document 01's holding. No crate here asks for it; a host of the library may.
 pub fn holding(plan: Plan, domain: usize) -> u32
     requires { ⌜ domain < 8 ⌝ }
     ensures { λ r. ⌜ r ≡ holdingOf plan domain ⌝ }
@@ -61,7 +59,7 @@ pub fn shares_total(plan: Plan) -> u32
 // The mask of each declared domain, and 0 for the others.
 pub fn masks_of(plan: Plan) -> [u16; 8]
     requires { ⌜ (plan .domains ≤ 8) × ((i : ℕ) → i < 8 → getD (plan .shares) i 0 ≤ 1_000) × (firstColour plan (plan .domains) ≤ 15) ⌝ }
-    ensures { λ r. ⌜ (length r ≡ 8) × ((i : ℕ) → i < 8 → getD r i 0 ≡ cond (ltb i (plan .domains)) (maskOf plan i) 0) ⌝ }
+    ensures { λ r. ⌜ r ≡ masksFrom plan 8 0 ⌝ }
 {
     let shares = plan.shares;
     let domains = plan.domains as usize;

@@ -9,7 +9,7 @@ ghost use Rattle.plan.specs.Sums.{sumTo};
 ghost use Rattle.plan.specs.Windows.{lengthOf, ownerOf, paddedLength, startOf, ticksTotal, windowsTotal};
 
 // The ticks of the first declared windows with their pads, once through.
-pub fn padded_lengths(plan: Plan, count: usize) -> u64
+fn padded_lengths(plan: Plan, count: usize) -> u64
     requires { ⌜ (count ≤ 32) × (plan .pad ≤ 1_000_000) × ((i : ℕ) → i < count → getD (plan .lengths) i 0 ≤ 1_000_000) ⌝ }
     ensures { λ r. ⌜ r ≡ sumTo (paddedLength plan) count ⌝ }
 {

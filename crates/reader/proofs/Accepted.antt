@@ -1,7 +1,6 @@
 -- Every accepted plan passes the check for 12: what is known of the lines that were read, and of a draft that passes the last checks, is what
 -- the check asks. Assumes nothing.
 use Prim.Native.Nat.{ℕ, _+_, _-_, _^_, _≤_, _<_}
-use native.Mathlib.Nat.{zero-add}
 use native.Mathlib.Omega.{arith}
 use mathlib.Core.Bool.{Bool, true, false, cond, not, _&&_, _||_, and-eq-true-iff}
 use mathlib.Core.List.{List}
@@ -9,9 +8,10 @@ use mathlib.Core.Path.{_≡_, refl, sym, ap, _∙_}
 use lib.Dec.{eqb, leb, ltb}
 use lib.ListN.{getD, length, length-replicate}
 use borrow.Author.Tests.{eq-eqb, eqb-false, eqb-true, le-leb, lt-ltb, ltb-false, ltb-true}
+use Rattle.plan.proofs.MaskLists.{mask-alike, mask-due}
 use Rattle.plan.proofs.Sums.{below-all}
 use Rattle.plan.specs.declared.Plan.{Plan}
-use Rattle.plan.specs.Colours.{coloursAt, firstColour, maskOf, sharesTotal}
+use Rattle.plan.specs.Colours.{coloursAt, sharesTotal}
 use Rattle.plan.specs.Possible.{countsPossible, declaredPossible, domainPossible, maskPossible, planPossible, undeclaredPossible, windowPossible, within}
 use Rattle.plan.specs.Windows.{ticksTotal}
 use Rattle.refusal.specs.declared.Refusal.{Refusal}
@@ -22,11 +22,11 @@ use Rattle.taking.proofs.Choices.{neither}
 use Rattle.text.proofs.Reached.{cond-holds}
 use Rattle.reader.proofs.GoodDraft.{GoodDraft, GoodOutcome, draft-first}
 use Rattle.reader.proofs.HighBits.{high-off}
-use Rattle.reader.proofs.LastChecks.{Passes, coloured-each, mask-at, maskAfter, passes, undeclared-none}
+use Rattle.reader.proofs.LastChecks.{Passes, coloured-each, passes, undeclared-none}
 use Rattle.reader.proofs.Walking.{walk-good}
 use Rattle.reader.specs.declared.Draft.{Draft}
 use Rattle.reader.specs.Draft.{Outcome, kept, noDraft, noOps, refused, storeLength}
-use Rattle.reader.specs.Final.{finalVerdict, lacking, masksFrom, planWithMasks}
+use Rattle.reader.specs.Final.{finalVerdict, lacking, planWithMasks}
 use Rattle.reader.specs.Read.{Read, finished, judged, readOf, refusedRead, walkFrom}
 
 -- ---- tests
@@ -76,13 +76,12 @@ module _ (draft : Draft) (good : GoodDraft draft) (fine : Passes draft) where
       here .noted place has (undeclared-none (draft .named) (draft .plan .domains) 8 place (fine .all-declared) (omega arith) from))
 
   -- the masks are those that the shares give
-  mask-is : (domain : ℕ) → domain < 8 → getD (masksFrom (draft .plan) 8 0) domain 0 ≡ cond (ltb domain (draft .plan .domains)) (maskOf (draft .plan) domain) 0
-  unfolding maskAfter
-  mask-is domain below = mask-at (draft .plan) 8 0 domain below ∙ ap (maskAfter (draft .plan)) (zero-add domain)
-
   mask-pass : (domain : ℕ) → domain < 8 → maskPossible (planOf draft) domain ≡ true
-  unfolding planWithMasks maskPossible maskOf firstColour
-  mask-pass domain small = eq-eqb _ _ (mask-is domain small)
+  unfolding planWithMasks maskPossible
+  mask-pass domain small =
+      eq-eqb _ _
+      (mask-due (draft .plan) domain small
+      ∙ ap (λ (mask : ℕ). cond (ltb domain (draft .plan .domains)) mask 0) (mask-alike (draft .plan) (planOf draft) domain refl))
 
   declared-pass : (domain : ℕ) → domain < draft .plan .domains → declaredPossible (planOf draft) domain ≡ true
   unfolding planWithMasks declaredPossible

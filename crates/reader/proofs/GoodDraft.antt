@@ -12,7 +12,7 @@ use borrow.Author.Tests.{leb-false, ltb-false, ltb-true}
 use Rattle.forms.proofs.GoodForm.{GoodForm}
 use Rattle.forms.specs.declared.DomainLine.{DomainLine}
 use Rattle.forms.specs.declared.Form.{Form}
-use Rattle.forms.specs.declared.Form.the-variants.{Blank, Pad, Run, Domain, Window, Op as Script, Refused as Broken}
+use Rattle.forms.specs.declared.Form.the-variants.{Blank, Pad, Run, Domain, Window, Op as Script, Refused as RefusedForm}
 use Rattle.forms.specs.declared.OpLine.{OpLine}
 use Rattle.forms.specs.declared.WindowLine.{WindowLine}
 use Rattle.line.proofs.GoodLine.{GoodLine}
@@ -254,9 +254,9 @@ module _ (draft : Draft) (store : List ℕ) (so-far : GoodDraft draft) where
   op-taken : (line : OpLine) (bracket : ℕ) → GoodOutcome (length store) (takeOp line bracket draft store)
   unfolding takeOp
   op-taken line bracket =
-      let place = getD (draft .ops) (line .domain) 0 in
+      let place = getD (draft .counts) (line .domain) 0 in
       cond-holds (GoodOutcome (length store)) (leb 256 place) (refused (TooMany bracket))
-      (kept (record { plan = draft .plan; ops = set (draft .ops) (line .domain) (place + 1); named = draft .named })
+      (kept (record { plan = draft .plan; counts = set (draft .counts) (line .domain) (place + 1); named = draft .named })
       (set store (256 * line .domain + place) (storedOf (line .op))))
       (λ _. tt)
       (λ _. (
@@ -278,7 +278,7 @@ module _ (draft : Draft) (store : List ℕ) (so-far : GoodDraft draft) where
   form-taken (Domain line) bracket at end marked h = domain-taken line marked (h .0) (h .1) (h .2) (h .3)
   form-taken (Window line) bracket at end marked h = window-taken line bracket (record { owned = h .0; least = h .1; most = h .2 })
   form-taken (Script line) bracket at end marked h = op-taken line bracket
-  form-taken (Broken refusal) bracket at end marked h = tt
+  form-taken (RefusedForm refusal) bracket at end marked h = tt
 
   pub line-taken : (text : List ℕ) (at : ℕ) (line : Line) → GoodLine text (draft .plan .domains) (draft .named) at line
       → GoodOutcome (length store) (takeLine line draft store)

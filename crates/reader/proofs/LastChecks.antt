@@ -1,25 +1,24 @@
 -- Laws of the checks after the last line, place by place: the first undeclared recipient, the first domain
 -- without a colour, and the masks of a plan that passes. Assumes nothing.
 use Prim.Native.Nat.{ℕ, zero, suc, _+_, _-_, _≤_, _<_}
-use native.Mathlib.Nat.{add-zero, sub-zero, zero-add}
+use native.Mathlib.Nat.{sub-zero}
 use native.Mathlib.Numerals.{add-one}
 use native.Mathlib.Omega.{arith}
 use mathlib.Core.Bool.{Bool, true, false, cond}
 use mathlib.Core.List.{List}
 use mathlib.Core.Path.{_≡_, refl, sym, ap, _∙_}
 use lib.Dec.{eqb, leb, ltb}
-use lib.ListN.{length, getD}
-use lib.Seq.{ext-getD}
+use lib.ListN.{getD}
 use borrow.Author.Tests.{eq-eqb, eqb-false, eqb-true, le-ltb, lt-ltb, ltb-false, ne-eqb}
 use Rattle.plan.specs.declared.Plan.{Plan}
-use Rattle.plan.specs.Colours.{coloursAt, maskOf, sharesTotal}
+use Rattle.plan.specs.Colours.{coloursAt, masksFrom, sharesTotal}
 use Rattle.plan.specs.Windows.{ticksTotal}
 use Rattle.refusal.specs.declared.Refusal.{Refusal}
 use Rattle.refusal.specs.declared.Verdict.{Verdict}
 use Rattle.refusal.specs.declared.Verdict.the-variants.{Accepted, Refused}
 use Rattle.taking.proofs.Choices.{same-or-not}
 use Rattle.reader.specs.declared.Draft.{Draft}
-use Rattle.reader.specs.Final.{finalVerdict, firstColourless, firstPlace, firstUndeclared, lacking, masksFrom, planWithMasks}
+use Rattle.reader.specs.Final.{finalVerdict, firstColourless, firstPlace, firstUndeclared, lacking, planWithMasks}
 
 -- ---- the first undeclared recipient
 
@@ -106,33 +105,8 @@ coloured-each plan (suc left) domain other all from below none =
 
 -- ---- the masks of an accepted plan
 
-masks-length : (plan : Plan) (left domain : ℕ) → length (masksFrom plan left domain) ≡ left
-unfolding masksFrom
-masks-length plan zero domain = refl
-masks-length plan (suc left) domain = ap suc (masks-length plan left (domain + 1))
-
--- the mask at a place
-unfoldable pub maskAfter : Plan → ℕ → ℕ
-maskAfter plan domain = cond (ltb domain (plan .domains)) (maskOf plan domain) 0
-
-pub mask-at : (plan : Plan) (left domain place : ℕ) → place < left → getD (masksFrom plan left domain) place 0 ≡ maskAfter plan (domain + place)
-unfolding masksFrom maskAfter
-mask-at plan zero domain place below = absurd (omega arith)
-mask-at plan (suc left) domain zero below = ap (maskAfter plan) (sym (add-zero domain))
-mask-at plan (suc left) domain (suc place) below =
-    mask-at plan left (domain + 1) place (omega arith) ∙ ap (maskAfter plan) (let e : domain + 1 + place ≡ domain + suc place = omega arith in e)
-
-masks-are : (plan : Plan) (masks : List ℕ) → length masks ≡ 8
-    → ((place : ℕ) → place < 8 → getD masks place 0 ≡ cond (ltb place (plan .domains)) (maskOf plan place) 0) → masks ≡ masksFrom plan 8 0
-unfolding maskAfter
-masks-are plan masks eight each =
-    ext-getD 0 masks (masksFrom plan 8 0) (eight ∙ sym (masks-length plan 8 0)) (λ place below.
-    let small : place < 8 = omega arith in
-    each place small ∙ ap (maskAfter plan) (sym (zero-add place)) ∙ sym (mask-at plan 8 0 place small))
-
 -- the plan with the masks that were worked out
-pub masked : (plan : Plan) (masks : List ℕ) → length masks ≡ 8
-    → ((place : ℕ) → place < 8 → getD masks place 0 ≡ cond (ltb place (plan .domains)) (maskOf plan place) 0)
+pub masked : (plan : Plan) (masks : List ℕ) → masks ≡ masksFrom plan 8 0
     → record {
       pad = plan .pad;
       run = plan .run;
@@ -146,7 +120,7 @@ pub masked : (plan : Plan) (masks : List ℕ) → length masks ≡ 8
     }
     ≡ planWithMasks plan
 unfolding planWithMasks
-masked plan masks eight each = rw (masks-are plan masks eight each)
+masked plan masks given = rw given
 
 -- ---- what a draft that passes is known to satisfy
 

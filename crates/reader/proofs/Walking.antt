@@ -9,7 +9,7 @@ use lib.ListN.{length}
 use borrow.Author.Tests.{le-ltb, lt-ltb, ltb-true}
 use Rattle.forms.proofs.GoodForm.{GoodForm}
 use Rattle.forms.specs.declared.Form.{Form}
-use Rattle.forms.specs.declared.Form.the-variants.{Blank, Pad, Run, Domain, Window, Op as Script, Refused as Broken}
+use Rattle.forms.specs.declared.Form.the-variants.{Blank, Pad, Run, Domain, Window, Op as Script, Refused as RefusedForm}
 use Rattle.forms.specs.declared.DomainLine.{DomainLine}
 use Rattle.forms.specs.declared.OpLine.{OpLine}
 use Rattle.line.proofs.GoodLine.{GoodLine, line-good}
@@ -37,7 +37,7 @@ kept-reaches (Run times) declared bracket at end named marked draft next store f
 kept-reaches (Domain line) declared bracket at end named marked draft next store filled h e = h .4
 kept-reaches (Window line) declared bracket at end named marked draft next store filled h e = h .3
 kept-reaches (Script line) declared bracket at end named marked draft next store filled h e = h .1
-kept-reaches (Broken refusal) declared bracket at end named marked draft next store filled h e =
+kept-reaches (RefusedForm refusal) declared bracket at end named marked draft next store filled h e =
     let z : _≡_ {A = ℕ} 0 1 = cc in absurd (omega arith)
 
 -- ---- the walk

@@ -6,40 +6,31 @@ use lib.Dec.{eqb, leb}
 use lib.ListN.{getD, replicate, set}
 use Rattle.forms.specs.declared.DomainLine.{DomainLine}
 use Rattle.forms.specs.declared.Form.{Form}
-use Rattle.forms.specs.declared.Form.the-variants.{Blank, Pad, Run, Domain, Window, Op, Refused as Broken}
+use Rattle.forms.specs.declared.Form.the-variants.{Blank, Pad, Run, Domain, Window, Op, Refused as RefusedForm}
 use Rattle.forms.specs.declared.OpLine.{OpLine}
 use Rattle.forms.specs.declared.WindowLine.{WindowLine}
 use Rattle.line.specs.declared.Line.{Line}
 use Rattle.plan.specs.declared.Plan.{Plan}
+use Rattle.plan.specs.Limits.{mostDomains, mostWindows}
+-- crate plan's, under this module's name too
+unfoldable pub use Rattle.plan.specs.Zeros.{noPlan}
 use Rattle.refusal.specs.declared.Refusal.{Refusal}
 use Rattle.refusal.specs.declared.Refusal.the-variants.{RepeatedOrMissing, TooMany}
 use Rattle.refusal.specs.declared.Verdict.{Verdict}
 use Rattle.refusal.specs.declared.Verdict.the-variants.{Accepted, Refused}
+use Rattle.script.specs.Limits.{mostOps}
 use Rattle.script.specs.Stored.{storedOf}
 use Rattle.reader.specs.declared.Draft.{Draft}
 
--- the plan beside a refused reading, and before the first line: all zeros
-unfoldable pub noPlan : Plan
-noPlan =
-    record {
-      pad = 0;
-      run = 0;
-      domains = 0;
-      windows = 0;
-      shares = replicate 8 0;
-      rights = replicate 8 0;
-      owners = replicate 32 0;
-      lengths = replicate 32 0;
-      masks = replicate 8 0;
-    }
-
+-- before the first line
 unfoldable pub noDraft : Draft
-noDraft = record { plan = noPlan; ops = replicate 8 0; named = replicate 8 0 }
+noDraft = record { plan = noPlan; counts = replicate mostDomains 0; named = replicate mostDomains 0 }
 
--- the script store's length, and one of zeros
+-- the script store's length
 abbrev pub storeLength : ℕ
 storeLength = 2_048
 
+-- a store that holds no op
 unfoldable pub noOps : List ℕ
 noOps = replicate storeLength 0
 
@@ -53,95 +44,103 @@ abbrev pub outcomeWith : Verdict → Draft → List ℕ → Outcome
 outcomeWith Accepted draft store = kept draft store
 outcomeWith (Refused refusal) draft store = refused refusal
 
+-- a draft with another plan
 abbrev pub withPlan : Draft → Plan → Draft
-withPlan draft plan = record { plan = plan; ops = draft .ops; named = draft .named }
+withPlan draft plan = record { plan = plan; counts = draft .counts; named = draft .named }
 
 -- ---- a plan with one thing more
 
+-- a pad
 unfoldable pub planWithPad : Plan → ℕ → Plan
-planWithPad p ticks =
+planWithPad plan ticks =
     record {
       pad = ticks;
-      run = p .run;
-      domains = p .domains;
-      windows = p .windows;
-      shares = p .shares;
-      rights = p .rights;
-      owners = p .owners;
-      lengths = p .lengths;
-      masks = p .masks;
+      run = plan .run;
+      domains = plan .domains;
+      windows = plan .windows;
+      shares = plan .shares;
+      rights = plan .rights;
+      owners = plan .owners;
+      lengths = plan .lengths;
+      masks = plan .masks;
     }
 
+-- a run
 unfoldable pub planWithRun : Plan → ℕ → Plan
-planWithRun p times =
+planWithRun plan times =
     record {
-      pad = p .pad;
+      pad = plan .pad;
       run = times;
-      domains = p .domains;
-      windows = p .windows;
-      shares = p .shares;
-      rights = p .rights;
-      owners = p .owners;
-      lengths = p .lengths;
-      masks = p .masks;
+      domains = plan .domains;
+      windows = plan .windows;
+      shares = plan .shares;
+      rights = plan .rights;
+      owners = plan .owners;
+      lengths = plan .lengths;
+      masks = plan .masks;
     }
 
+-- a domain, at the next place
 unfoldable pub planWithDomain : Plan → DomainLine → Plan
-planWithDomain p line =
+planWithDomain plan line =
     record {
-      pad = p .pad;
-      run = p .run;
-      domains = p .domains + 1;
-      windows = p .windows;
-      shares = set (p .shares) (p .domains) (line .share);
-      rights = set (p .rights) (p .domains) (line .rights);
-      owners = p .owners;
-      lengths = p .lengths;
-      masks = p .masks;
+      pad = plan .pad;
+      run = plan .run;
+      domains = plan .domains + 1;
+      windows = plan .windows;
+      shares = set (plan .shares) (plan .domains) (line .share);
+      rights = set (plan .rights) (plan .domains) (line .rights);
+      owners = plan .owners;
+      lengths = plan .lengths;
+      masks = plan .masks;
     }
 
+-- a window, at the next place
 unfoldable pub planWithWindow : Plan → WindowLine → Plan
-planWithWindow p line =
+planWithWindow plan line =
     record {
-      pad = p .pad;
-      run = p .run;
-      domains = p .domains;
-      windows = p .windows + 1;
-      shares = p .shares;
-      rights = p .rights;
-      owners = set (p .owners) (p .windows) (line .owner);
-      lengths = set (p .lengths) (p .windows) (line .length);
-      masks = p .masks;
+      pad = plan .pad;
+      run = plan .run;
+      domains = plan .domains;
+      windows = plan .windows + 1;
+      shares = plan .shares;
+      rights = plan .rights;
+      owners = set (plan .owners) (plan .windows) (line .owner);
+      lengths = set (plan .lengths) (plan .windows) (line .length);
+      masks = plan .masks;
     }
 
 -- ---- what each form adds, or 5 or 10 with the line's bracket
 
--- a second pad or run gives 5; the limits keep both above 0, so 0 is none yet
+-- a second pad gives 5; its limits keep it above 0, so 0 is none yet
 unfoldable pub takePad : ℕ → ℕ → Draft → List ℕ → Outcome
 takePad ticks bracket draft store =
     cond (eqb (draft .plan .pad) 0) (kept (withPlan draft (planWithPad (draft .plan) ticks)) store) (refused (RepeatedOrMissing bracket))
 
+-- the same of a run
 unfoldable pub takeRun : ℕ → ℕ → Draft → List ℕ → Outcome
 takeRun times bracket draft store =
     cond (eqb (draft .plan .run) 0) (kept (withPlan draft (planWithRun (draft .plan) times)) store) (refused (RepeatedOrMissing bracket))
 
+-- a domain line always fits: its number was the next one
 unfoldable pub takeDomain : DomainLine → List ℕ → Draft → List ℕ → Outcome
 takeDomain line named draft store =
-    kept (record { plan = planWithDomain (draft .plan) line; ops = draft .ops; named = named }) store
+    kept (record { plan = planWithDomain (draft .plan) line; counts = draft .counts; named = named }) store
 
--- at most 32 windows: the 33rd gives 10
+-- a window past the most gives 10
 unfoldable pub takeWindow : WindowLine → ℕ → Draft → List ℕ → Outcome
 takeWindow line bracket draft store =
-    cond (leb 32 (draft .plan .windows)) (refused (TooMany bracket)) (kept (withPlan draft (planWithWindow (draft .plan) line)) store)
+    cond (leb mostWindows (draft .plan .windows)) (refused (TooMany bracket)) (kept (withPlan draft (planWithWindow (draft .plan) line)) store)
 
--- at most 256 ops a domain: the 257th gives 10. An op is stored at 256 × domain + place.
+-- an op past the most of its domain gives 10; the others stand in the domain's part of the store, in the order read
 unfoldable pub takeOp : OpLine → ℕ → Draft → List ℕ → Outcome
 takeOp line bracket draft store =
-    let place = getD (draft .ops) (line .domain) 0 in
-    cond (leb 256 place) (refused (TooMany bracket))
-    (kept (record { plan = draft .plan; ops = set (draft .ops) (line .domain) (place + 1); named = draft .named })
-    (set store (256 * line .domain + place) (storedOf (line .op))))
+    let place = getD (draft .counts) (line .domain) 0 in
+    cond (leb mostOps place) (refused (TooMany bracket))
+    (kept (record { plan = draft .plan; counts = set (draft .counts) (line .domain) (place + 1); named = draft .named })
+    (set store (mostOps * line .domain + place) (storedOf (line .op))))
 
+-- a form is taken up by its kind; a line without a token adds nothing
 abbrev pub takeForm : Form → ℕ → List ℕ → Draft → List ℕ → Outcome
 takeForm Blank bracket named draft store = kept draft store
 takeForm (Pad ticks) bracket named draft store = takePad ticks bracket draft store
@@ -149,7 +148,8 @@ takeForm (Run times) bracket named draft store = takeRun times bracket draft sto
 takeForm (Domain line) bracket named draft store = takeDomain line named draft store
 takeForm (Window line) bracket named draft store = takeWindow line bracket draft store
 takeForm (Op line) bracket named draft store = takeOp line bracket draft store
-takeForm (Broken refusal) bracket named draft store = refused refusal
+takeForm (RefusedForm refusal) bracket named draft store = refused refusal
 
+-- a line is taken up by its form
 unfoldable pub takeLine : Line → Draft → List ℕ → Outcome
 takeLine line draft store = takeForm (line .form) (line .bracket) (line .named) draft store

@@ -1,11 +1,14 @@
--- Document 01, "The plan text": after the last line 5, then *may* (4), 7, 6, 9. Assumes nothing.
+-- Document 01, "The plan text": the checks of a whole text, once no line of it was refused, in their order. Assumes nothing.
 use Prim.Native.Nat.{ℕ, zero, suc, _+_, _-_}
 use mathlib.Core.Bool.{Bool, true, false, cond, _&&_, _||_}
-use mathlib.Core.List.{List, [], _∷_}
+use mathlib.Core.List.{List}
 use lib.Dec.{eqb, leb, ltb}
 use lib.ListN.{getD}
 use Rattle.plan.specs.declared.Plan.{Plan}
-use Rattle.plan.specs.Colours.{coloursAt, maskOf, sharesTotal}
+use Rattle.plan.specs.Colours.{coloursAt, sharesTotal}
+-- crate plan's, under this module's name too
+unfoldable pub use Rattle.plan.specs.Colours.{masksFrom}
+use Rattle.plan.specs.Limits.{mostDomains, mostRunTicks, mostShares}
 use Rattle.plan.specs.Windows.{ticksTotal}
 use Rattle.refusal.specs.declared.Refusal.{Refusal}
 use Rattle.refusal.specs.declared.Refusal.the-variants.{NoColour, RepeatedOrMissing, RunTooLong, SharesOverThousand, WrongDomain}
@@ -37,30 +40,25 @@ firstColourless plan (suc left) domain =
 unfoldable pub finalVerdict : ℕ → Draft → Verdict
 finalVerdict textLength draft =
     let plan = draft .plan in
-    let undeclared = firstUndeclared (draft .named) (plan .domains) 8 in
+    let undeclared = firstUndeclared (draft .named) (plan .domains) mostDomains in
     let colourless = firstColourless plan (plan .domains) 0 in
     cond (lacking plan) (Refused (RepeatedOrMissing textLength))
     (cond (ltb 0 undeclared) (Refused (WrongDomain (undeclared - 1)))
-    (cond (ltb 1_000 (sharesTotal plan (plan .domains))) (Refused (SharesOverThousand (sharesTotal plan (plan .domains))))
+    (cond (ltb mostShares (sharesTotal plan (plan .domains))) (Refused (SharesOverThousand (sharesTotal plan (plan .domains))))
     (cond (ltb colourless (plan .domains)) (Refused (NoColour colourless))
-    (cond (ltb 4_294_967_295 (ticksTotal plan)) (Refused RunTooLong) Accepted))))
-
--- the mask of each declared domain, and 0 for the others
-unfoldable pub masksFrom : Plan → ℕ → ℕ → List ℕ
-masksFrom plan zero domain = []
-masksFrom plan (suc left) domain = cond (ltb domain (plan .domains)) (maskOf plan domain) 0 ∷ masksFrom plan left (domain + 1)
+    (cond (ltb mostRunTicks (ticksTotal plan)) (Refused RunTooLong) Accepted))))
 
 -- an accepted plan keeps its colour masks
 unfoldable pub planWithMasks : Plan → Plan
-planWithMasks p =
+planWithMasks plan =
     record {
-      pad = p .pad;
-      run = p .run;
-      domains = p .domains;
-      windows = p .windows;
-      shares = p .shares;
-      rights = p .rights;
-      owners = p .owners;
-      lengths = p .lengths;
-      masks = masksFrom p 8 0;
+      pad = plan .pad;
+      run = plan .run;
+      domains = plan .domains;
+      windows = plan .windows;
+      shares = plan .shares;
+      rights = plan .rights;
+      owners = plan .owners;
+      lengths = plan .lengths;
+      masks = masksFrom plan mostDomains 0;
     }

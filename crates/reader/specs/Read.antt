@@ -7,12 +7,13 @@ use lib.ListN.{length}
 use Rattle.line.specs.declared.Line.{Line}
 use Rattle.line.specs.Lines.{lineAt}
 use Rattle.plan.specs.declared.Plan.{Plan}
+use Rattle.plan.specs.Zeros.{noPlan}
 use Rattle.refusal.specs.declared.Refusal.{Refusal}
 use Rattle.refusal.specs.declared.Refusal.the-variants.{TextTooLong, WrongLength}
 use Rattle.refusal.specs.declared.Verdict.{Verdict}
 use Rattle.refusal.specs.declared.Verdict.the-variants.{Accepted, Refused}
 use Rattle.reader.specs.declared.Draft.{Draft}
-use Rattle.reader.specs.Draft.{Outcome, refused, kept, noDraft, noOps, noPlan, storeLength, takeLine}
+use Rattle.reader.specs.Draft.{Outcome, refused, kept, noDraft, noOps, storeLength, takeLine}
 use Rattle.reader.specs.Final.{finalVerdict, planWithMasks}
 
 -- the line at an offset, after the lines that gave a draft
@@ -38,14 +39,16 @@ pub record Read : Type 0 where
   pub plan : Plan
   pub scripts : List ℕ
 
--- all buffers stay as given, and the plan beside a refused reading is all zeros
+-- a refusal leaves the store as it was lent, with a plan of zeros
 unfoldable pub refusedRead : Refusal → List ℕ → Read
 refusedRead refusal scripts = record { verdict = Refused refusal; plan = noPlan; scripts = scripts }
 
+-- once the last checks are done
 abbrev pub judged : Verdict → Draft → List ℕ → List ℕ → Read
 judged Accepted draft store scripts = record { verdict = Accepted; plan = planWithMasks (draft .plan); scripts = store }
 judged (Refused refusal) draft store scripts = refusedRead refusal scripts
 
+-- once the lines are walked: the last checks, where none was refused
 abbrev pub finished : ℕ → Outcome → List ℕ → Read
 finished textLength (refused refusal) scripts = refusedRead refusal scripts
 finished textLength (kept draft store) scripts = judged (finalVerdict textLength draft) draft store scripts

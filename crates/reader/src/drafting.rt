@@ -7,52 +7,45 @@ use forms::OpLine;
 use forms::WindowLine;
 use line::Line;
 use plan::Plan;
+use plan::limits::MOST_WINDOWS;
+use plan::no_plan;
 use refusal::Refusal;
 use refusal::Verdict;
+use script::limits::MOST_OPS;
 use script::stored;
 ghost use mathlib.Core.List.{List};
 ghost use mathlib.Core.Path.{_≡_};
 ghost use Prim.Native.Nat.{ℕ, _<_};
 ghost use Rattle.forms.specs.declared.Form.the-variants.{Domain, Op};
-ghost use Rattle.reader.specs.Draft.{noDraft, noPlan, outcomeWith, planWithDomain, planWithPad, planWithRun, planWithWindow};
+ghost use Rattle.reader.specs.Draft.{noDraft, outcomeWith, planWithDomain, planWithPad, planWithRun, planWithWindow};
 ghost use Rattle.reader.specs.Draft.{takeDomain, takeLine, takeOp, takePad, takeRun, takeWindow, withPlan};
 
-// The plan beside a refused reading, and before the first line: all zeros.
-pub fn no_plan() -> Plan
-    ensures { λ r. ⌜ r ≡ noPlan ⌝ }
-{
-    Plan {
-        pad: 0,
-        run: 0,
-        domains: 0,
-        windows: 0,
-        shares: [0; 8],
-        rights: [0; 8],
-        owners: [0; 32],
-        lengths: [0; 32],
-        masks: [0; 8],
-    }
-}
-
+// Before the first line nothing is declared, named or stored.
 pub fn no_draft() -> Draft
     ensures { λ r. ⌜ r ≡ noDraft ⌝ }
 {
     let plan = no_plan();
     Draft {
         plan,
-        ops: [0; 8],
+        counts: [0; 8],
         named: [0; 8],
     }
 }
 
+// A draft with another plan.
 fn with_plan(draft: Draft, plan: Plan) -> Draft
     ensures { λ r. ⌜ r ≡ withPlan draft plan ⌝ }
 {
-    let ops = draft.ops;
+    let counts = draft.counts;
     let named = draft.named;
-    Draft { plan, ops, named }
+    Draft {
+        plan,
+        counts,
+        named,
+    }
 }
 
+// A plan with a pad.
 fn plan_with_pad(mut plan: Plan, ticks: u32) -> Plan
     ensures { λ r. ⌜ r ≡ planWithPad plan ticks ⌝ }
 {
@@ -60,6 +53,7 @@ fn plan_with_pad(mut plan: Plan, ticks: u32) -> Plan
     plan
 }
 
+// A plan with a run.
 fn plan_with_run(mut plan: Plan, times: u32) -> Plan
     ensures { λ r. ⌜ r ≡ planWithRun plan times ⌝ }
 {
@@ -67,6 +61,7 @@ fn plan_with_run(mut plan: Plan, times: u32) -> Plan
     plan
 }
 
+// A plan with one domain more, at the next place.
 fn plan_with_domain(mut plan: Plan, line: DomainLine) -> Plan
     requires { ⌜ plan .domains < 8 ⌝ }
     ensures { λ r. ⌜ r ≡ planWithDomain plan line ⌝ }
@@ -78,6 +73,7 @@ fn plan_with_domain(mut plan: Plan, line: DomainLine) -> Plan
     plan
 }
 
+// A plan with one window more, at the next place.
 fn plan_with_window(mut plan: Plan, line: WindowLine) -> Plan
     requires { ⌜ plan .windows < 32 ⌝ }
     ensures { λ r. ⌜ r ≡ planWithWindow plan line ⌝ }
@@ -125,15 +121,20 @@ fn take_run(times: u32, bracket: usize, draft: Draft) -> Added
     }
 }
 
+// A domain line always fits: its number was the next one.
 fn take_domain(line: DomainLine, named: [usize; 8], draft: Draft) -> Added
     requires { ⌜ draft .plan .domains < 8 ⌝ }
     ensures { λ r. ⌜ ((store : List ℕ) → outcomeWith (r .verdict) (r .draft) store ≡ takeDomain line named draft store) ⌝ }
 {
     let plan = plan_with_domain(draft.plan, line);
-    let ops = draft.ops;
+    let counts = draft.counts;
     Added {
         verdict: Verdict::Accepted,
-        draft: Draft { plan, ops, named },
+        draft: Draft {
+            plan,
+            counts,
+            named,
+        },
     }
 }
 
@@ -142,7 +143,7 @@ fn take_window(line: WindowLine, bracket: usize, draft: Draft) -> Added
     ensures { λ r. ⌜ ((store : List ℕ) → outcomeWith (r .verdict) (r .draft) store ≡ takeWindow line bracket draft store) ⌝ }
 {
     let plan = draft.plan;
-    if 32 <= plan.windows {
+    if MOST_WINDOWS <= plan.windows {
         return Added {
             verdict: Verdict::Refused(Refusal::TooMany(bracket)),
             draft,
@@ -162,25 +163,29 @@ fn take_op(line: OpLine, bracket: usize, draft: Draft, store: &mut [u32; 2048]) 
 {
     let domain = line.domain as usize;
     let op = line.op;
-    let mut ops = draft.ops;
-    let place = ops[domain];
-    if 256 <= place {
+    let mut counts = draft.counts;
+    let place = counts[domain];
+    if MOST_OPS <= place {
         return Added {
             verdict: Verdict::Refused(Refusal::TooMany(bracket)),
             draft,
         };
     }
-    store[256 * domain + place] = stored(op);
-    ops[domain] = place + 1;
+    store[MOST_OPS * domain + place] = stored(op);
+    counts[domain] = place + 1;
     let plan = draft.plan;
     let named = draft.named;
     Added {
         verdict: Verdict::Accepted,
-        draft: Draft { plan, ops, named },
+        draft: Draft {
+            plan,
+            counts,
+            named,
+        },
     }
 }
 
-// A line is taken up: its form says what it adds.
+// A line is taken up: its form says what it adds. Beside a refusal the contract leaves draft and store free, and nobody reads them there.
 pub fn take_line(line: Line, draft: Draft, store: &mut [u32; 2048]) -> Added
     requires { ⌜ ((domain : DomainLine) → line .form ≡ Domain domain → draft .plan .domains < 8)
         × ((op : OpLine) → line .form ≡ Op op → op .domain < 8) ⌝ }

@@ -1,6 +1,8 @@
-// The checks after the last line: 5, then *may* (4), 7, 6, 9; and the masks of a plan that passes them.
+// The checks of a whole text, once no line of it was refused; and the masks of a plan that passes them.
 use crate::Draft;
 use plan::Plan;
+use plan::limits::MOST_RUN_TICKS;
+use plan::limits::MOST_SHARES;
 use plan::sharing::colours_of;
 use plan::sharing::masks_of;
 use plan::sharing::shares_total;
@@ -85,14 +87,14 @@ pub fn final_verdict(length: usize, draft: Draft) -> Verdict
         return Verdict::Refused(Refusal::WrongDomain(undeclared - 1));
     }
     let total = shares_total(plan) as usize;
-    if 1_000 < total {
+    if (MOST_SHARES as usize) < total {
         return Verdict::Refused(Refusal::SharesOverThousand(total));
     }
     let colourless = first_colourless(plan);
     if colourless < plan.domains as usize {
         return Verdict::Refused(Refusal::NoColour(colourless));
     }
-    if 4_294_967_295 < ticks_total(plan) {
+    if MOST_RUN_TICKS < ticks_total(plan) {
         return Verdict::Refused(Refusal::RunTooLong);
     }
     Verdict::Accepted

@@ -3,29 +3,29 @@ mod drafting;
 mod last;
 mod walk;
 
-use drafting::no_plan;
 use last::final_verdict;
 use last::plan_with_masks;
 use plan::Plan;
+use plan::no_plan;
 use refusal::Refusal;
 use refusal::Verdict;
 use walk::hand_over;
 use walk::walk;
 ghost use mathlib.Core.Path.{_≡_};
-ghost use Rattle.reader.specs.Draft.{noPlan};
+ghost use Rattle.plan.specs.Zeros.{noPlan};
 ghost use Rattle.reader.specs.Read.{readOf};
 
 // What the lines read so far have given, beside the script store.
 pub struct Draft {
     // masks stay 0 until the whole text is read; a pad or a run of 0 stands for none yet
     pub plan: Plan,
-    // the number of ops of each domain
-    pub ops: [usize; 8],
+    // how many ops of each domain are stored
+    pub counts: [usize; 8],
     // where the text first names each domain as a recipient, plus one; 0 where it has not
     pub named: [usize; 8],
 }
 
-// What a line adds: the draft with it, or the refusal and the draft as it was.
+// What lines add: that they were taken up, and the draft with them; or the refusal. Beside a refusal the draft may be any: nobody reads it.
 pub struct Added {
     pub verdict: Verdict,
     pub draft: Draft,

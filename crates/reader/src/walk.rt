@@ -9,6 +9,8 @@ ghost use lib.ListN.{length};
 ghost use Rattle.reader.specs.Draft.{noDraft, outcomeWith};
 ghost use Rattle.reader.specs.Read.{walkFrom};
 
+// Every line is taken up in turn, or the first refusal is handed on; beside it draft and store are left free as at `take_line`: `read_plan` drops
+// both.
 pub fn walk(text: &[u8], store: &mut [u32; 2048]) -> Added
     ensures { λ r. ⌜ outcomeWith (r .verdict) (r .draft) (now (store .exit))
         ≡ walkFrom (length (now (text .entry))) (now (text .entry)) 0 noDraft (now (store .entry)) ⌝ }

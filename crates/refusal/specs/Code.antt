@@ -9,6 +9,7 @@ use Rattle.refusal.specs.declared.Refusal.the-variants.{TextTooLong, Bro
 use Rattle.refusal.specs.declared.Refusal.the-variants.{NoColour, SharesOverThousand, BadRecipient, RunTooLong, TooMany}
 use Rattle.refusal.specs.declared.Refusal.the-variants.{WrongLength, ImpossiblePlan, DamagedTable, ImpossibleState}
 
+-- a number with its companion
 abbrev pub codeWith : ℕ → ℕ → Code
 codeWith number companion = record { number = number; companion = companion }
 

@@ -1,8 +1,8 @@
 // Why a call is refused, and the number and companion by which a caller is told.
 ghost use mathlib.Core.Path.{_≡_};
-ghost use Rattle.refusal.specs.Code.{codeOf, refusalCode};
+ghost use Rattle.refusal.specs.Code.{codeOf, codeWith, refusalCode};
 
-// A case for each row of the table of refusals. What a case holds is its companion.
+// The rows of document 01's table of refusals, one case each. What a case holds is its companion.
 pub enum Refusal {
     TextTooLong,
     BrokenShape(usize),
@@ -32,67 +32,32 @@ pub struct Code {
     pub companion: usize,
 }
 
+// A number with its companion.
+fn code_with(number: u32, companion: usize) -> Code
+    ensures { λ r. ⌜ r ≡ codeWith number companion ⌝ }
+{
+    Code { number, companion }
+}
+
 // The number and the companion of a refusal.
 fn refusal_code(refusal: Refusal) -> Code
     ensures { λ r. ⌜ r ≡ refusalCode refusal ⌝ }
 {
     match refusal {
-        Refusal::TextTooLong => Code {
-            number: 1,
-            companion: 0,
-        },
-        Refusal::BrokenShape(offset) => Code {
-            number: 2,
-            companion: offset,
-        },
-        Refusal::NumberOutOfLimits(offset) => Code {
-            number: 3,
-            companion: offset,
-        },
-        Refusal::WrongDomain(offset) => Code {
-            number: 4,
-            companion: offset,
-        },
-        Refusal::RepeatedOrMissing(offset) => Code {
-            number: 5,
-            companion: offset,
-        },
-        Refusal::NoColour(domain) => Code {
-            number: 6,
-            companion: domain,
-        },
-        Refusal::SharesOverThousand(sum) => Code {
-            number: 7,
-            companion: sum,
-        },
-        Refusal::BadRecipient(offset) => Code {
-            number: 8,
-            companion: offset,
-        },
-        Refusal::RunTooLong => Code {
-            number: 9,
-            companion: 0,
-        },
-        Refusal::TooMany(offset) => Code {
-            number: 10,
-            companion: offset,
-        },
-        Refusal::WrongLength => Code {
-            number: 11,
-            companion: 0,
-        },
-        Refusal::ImpossiblePlan => Code {
-            number: 12,
-            companion: 0,
-        },
-        Refusal::DamagedTable => Code {
-            number: 13,
-            companion: 0,
-        },
-        Refusal::ImpossibleState => Code {
-            number: 14,
-            companion: 0,
-        },
+        Refusal::TextTooLong => code_with(1, 0),
+        Refusal::BrokenShape(offset) => code_with(2, offset),
+        Refusal::NumberOutOfLimits(offset) => code_with(3, offset),
+        Refusal::WrongDomain(offset) => code_with(4, offset),
+        Refusal::RepeatedOrMissing(offset) => code_with(5, offset),
+        Refusal::NoColour(domain) => code_with(6, domain),
+        Refusal::SharesOverThousand(sum) => code_with(7, sum),
+        Refusal::BadRecipient(offset) => code_with(8, offset),
+        Refusal::RunTooLong => code_with(9, 0),
+        Refusal::TooMany(offset) => code_with(10, offset),
+        Refusal::WrongLength => code_with(11, 0),
+        Refusal::ImpossiblePlan => code_with(12, 0),
+        Refusal::DamagedTable => code_with(13, 0),
+        Refusal::ImpossibleState => code_with(14, 0),
     }
 }
 
@@ -101,10 +66,7 @@ pub fn code_of(verdict: Verdict) -> Code
     ensures { λ r. ⌜ r ≡ codeOf verdict ⌝ }
 {
     match verdict {
-        Verdict::Accepted => Code {
-            number: 0,
-            companion: 0,
-        },
+        Verdict::Accepted => code_with(0, 0),
         Verdict::Refused(refusal) => refusal_code(refusal),
     }
 }

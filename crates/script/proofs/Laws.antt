@@ -18,7 +18,7 @@ pub compute-fits : (other value : ℕ) → eqb other 0 && leb 1 value && leb val
 compute-fits other value tests = leb-true value 200 (and-eq-true-iff (eqb other 0 && leb 1 value) (leb value 200) .0 tests .1)
 
 -- the three parts of a number made of three parts are those
-decode-packed : (kind other value : ℕ) → other < 16 → value < 65_536 → decodeOf (packed kind other value) ≡ opOf kind other value
+decode-packed : (kind other value : ℕ) → other < 16 → value ≤ 65_535 → decodeOf (packed kind other value) ≡ opOf kind other value
 unfolding decodeOf
 decode-packed kind other value small fits =
     let kinds : kindPart (packed kind other value) ≡ kind = omega arith in
@@ -50,7 +50,7 @@ unfoldable Gives : ℕ → Fetched → Type 0
 Gives number (Fetch op) = (storedOf op ≡ number) × Within op
 Gives number End = Unit {0}
 
-module _ (kind other value : ℕ) (fits : value < 65_536) where
+module _ (kind other value : ℕ) (fits : value ≤ 65_535) where
   read-gives : eqb kind 1 && eqb other 0 ≡ true → Gives (packed kind other value) (Fetch (Read value))
   unfolding Gives storedOf Within
   read-gives tests =

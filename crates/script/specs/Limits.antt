@@ -1,12 +1,37 @@
--- Document 01, "The plan text": the limits of an op's numbers. Assumes nothing.
-use Prim.Native.Nat.{ℕ, _≤_, _<_}
+-- Document 01, "What an op costs": the limits of an op's numbers; and of "The plan text", the domain numbers and how many ops a script has.
+-- Each is said here alone. Assumes nothing.
+use Prim.Native.Nat.{ℕ, _≤_}
 use Rattle.script.specs.declared.Op.{Op}
 use Rattle.script.specs.declared.Op.the-variants.{Read, Write, Send, Receive, Compute}
 
--- read n, write n: 0 to 65,535; send b w: a domain number and 0 to 65,535; receive a: a domain number; compute t: 1 to 200
+-- the highest domain number; the lowest is 0
+abbrev pub lastDomain : ℕ
+lastDomain = 7
+
+-- the greatest n of a read or a write; the least is 0
+abbrev pub mostNumber : ℕ
+mostNumber = 65_535
+
+-- the greatest w of a send; the least is 0
+abbrev pub mostWord : ℕ
+mostWord = 65_535
+
+-- the least t of a compute
+abbrev pub leastTicks : ℕ
+leastTicks = 1
+
+-- the greatest t of a compute
+abbrev pub mostTicks : ℕ
+mostTicks = 200
+
+-- the most ops of one domain's script, and so its places in the store
+abbrev pub mostOps : ℕ
+mostOps = 256
+
+-- an op's numbers are within their limits
 unfoldable pub Within : Op → Type 0
-Within (Read line) = line < 65_536
-Within (Write line) = line < 65_536
-Within (Send recipient word) = (recipient ≤ 7) × (word < 65_536)
-Within (Receive sender) = sender ≤ 7
-Within (Compute ticks) = (1 ≤ ticks) × (ticks ≤ 200)
+Within (Read line) = line ≤ mostNumber
+Within (Write line) = line ≤ mostNumber
+Within (Send recipient word) = (recipient ≤ lastDomain) × (word ≤ mostWord)
+Within (Receive sender) = sender ≤ lastDomain
+Within (Compute ticks) = (leastTicks ≤ ticks) × (ticks ≤ mostTicks)

@@ -1,4 +1,10 @@
 // The five operations of a script, and the number that a script store holds for each.
+pub mod limits;
+
+use limits::LAST_DOMAIN;
+use limits::LEAST_TICKS;
+use limits::MOST_OPS;
+use limits::MOST_TICKS;
 ghost use mathlib.Core.Path.{_≡_};
 ghost use Prim.Native.Nat.{_<_, _≤_};
 ghost use lib.ListN.{length};
@@ -20,6 +26,13 @@ pub enum Fetched {
     Op(Op),
     End,
 }
+
+// The limits, each as wide as the part of a stored number that it is held to.
+const LAST_OTHER: u8 = LAST_DOMAIN as u8;
+
+const LEAST_VALUE: u16 = LEAST_TICKS as u16;
+
+const MOST_VALUE: u16 = MOST_TICKS as u16;
 
 // The number made of a kind, another domain and a value.
 fn pack(kind: u32, other: u8, value: u16) -> u32
@@ -59,19 +72,19 @@ fn op_of(kind: u32, other: u8, value: u16) -> Fetched
         return Fetched::End;
     }
     if kind == 3 {
-        if other <= 7 {
+        if other <= LAST_OTHER {
             return Fetched::Op(Op::Send(other, value));
         }
         return Fetched::End;
     }
     if kind == 4 {
-        if (other <= 7) & (value == 0) {
+        if (other <= LAST_OTHER) & (value == 0) {
             return Fetched::Op(Op::Receive(other));
         }
         return Fetched::End;
     }
     if kind == 5 {
-        if (other == 0) & (1 <= value) & (value <= 200) {
+        if (other == 0) & (LEAST_VALUE <= value) & (value <= MOST_VALUE) {
             return Fetched::Op(Op::Compute(value as u8));
         }
         return Fetched::End;
@@ -80,7 +93,7 @@ fn op_of(kind: u32, other: u8, value: u16) -> Fetched
 }
 
 // What a stored number stands for: its three parts are taken apart.
-pub fn decode(number: u32) -> Fetched
+fn decode(number: u32) -> Fetched
     ensures { λ r. ⌜ r ≡ decodeOf number ⌝ }
 {
     let other = number / 65_536 % 16;
@@ -93,8 +106,8 @@ pub fn fetch(scripts: &[u32], domain: u32, position: u64) -> Fetched
     requires { ⌜ (length (now scripts) ≡ 2048) × (domain < 8) ⌝ }
     ensures { λ r. ⌜ r ≡ fetchOf (now (scripts .entry)) domain position ⌝ }
 {
-    if position < 256 {
-        let place = 256 * (domain as usize) + position as usize;
+    if position < MOST_OPS as u64 {
+        let place = MOST_OPS * (domain as usize) + position as usize;
         decode(scripts[place])
     } else {
         Fetched::End

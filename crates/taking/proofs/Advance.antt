@@ -16,7 +16,7 @@ use Rattle.text.specs.Tokens.{tokenAt}
 use Rattle.taking.specs.declared.Passed.{Passed}
 use Rattle.taking.specs.declared.Passed.the-variants.{To, Refused}
 use Rattle.taking.specs.declared.Taken.{Taken}
-use Rattle.taking.specs.declared.Taken.the-variants.{Number as Is, Refused as Not}
+use Rattle.taking.specs.declared.Taken.the-variants.{Number as Is, Refused as RefusedNumber}
 use Rattle.taking.specs.Tokens.{closeOf, isWord, lineEndOf, numberOf, openOf, passClose, passLineEnd, passOpen, passWord, takeNumber, then, thenNumber, wordOf}
 
 -- ---- a number
@@ -24,7 +24,7 @@ use Rattle.taking.specs.Tokens.{closeOf, isWord, lineEndOf, numberOf, op
 -- it is within its limits, and ends past the offset and within the text
 abbrev pub Limited : List ℕ → ℕ → ℕ → ℕ → Taken → Type 0
 Limited text low high at (Is value start end) = (low ≤ value) × (value ≤ high) × (at < end) × (end ≤ length text)
-Limited text low high at (Not refusal) = Unit {0}
+Limited text low high at (RefusedNumber refusal) = Unit {0}
 
 number-of-limited : (text : List ℕ) (low high at : ℕ) (token : Token) → Reached text at token → Limited text low high at (numberOf low high token)
 number-of-limited text low high at (LineEnd place) h = tt
@@ -32,7 +32,7 @@ number-of-limited text low high at (Open place) h = tt
 number-of-limited text low high at (Close place) h = tt
 number-of-limited text low high at (Word start end) h = tt
 number-of-limited text low high at (Number start end value) h =
-    cond-holds (Limited text low high at) (leb low value && leb value high) (Is value start end) (Not (NumberOutOfLimits start))
+    cond-holds (Limited text low high at) (leb low value && leb value high) (Is value start end) (RefusedNumber (NumberOutOfLimits start))
     (λ within. let both = limits low high value within in (both .0, both .1, omega arith, h .2))
     (λ _. tt)
 number-of-limited text low high at (LongNumber start end) h = tt
@@ -134,7 +134,7 @@ module _ {A : Type 0} (P : A → Type 0) (text : List ℕ) where
       → ((refusal : Refusal) → P (refused refusal)) → ((value start end : ℕ) → low ≤ value → value ≤ high → at ≤ end → P (go value start end))
       → P (thenNumber taken refused go)
   by-taken low high at (Is value start end) refused go h f g = g value start end (h .0) (h .1) (omega arith)
-  by-taken low high at (Not refusal) refused go h f g = f refusal
+  by-taken low high at (RefusedNumber refusal) refused go h f g = f refusal
 
   pub then-number : (low high at : ℕ) (refused : Refusal → A) (go : ℕ → ℕ → ℕ → A) → ((refusal : Refusal) → P (refused refusal))
       → ((value start end : ℕ) → low ≤ value → value ≤ high → at ≤ end → P (go value start end))

@@ -18,7 +18,7 @@ use Rattle.taking.proofs.NewBit.{new-bit-most, new-bit-other}
 use Rattle.taking.specs.declared.Passed.{Passed}
 use Rattle.taking.specs.declared.Passed.the-variants.{To, Refused}
 use Rattle.taking.specs.declared.Recipient.{Recipient}
-use Rattle.taking.specs.declared.Recipient.the-variants.{Next, Done, Refused as Unlisted}
+use Rattle.taking.specs.declared.Recipient.the-variants.{Next, Done, Refused as RefusedRecipient}
 use Rattle.taking.specs.declared.Recipients.{Recipients}
 use Rattle.taking.specs.Recipients.{mention, recipientAt, recipientsAt, recipientsFrom}
 
@@ -122,11 +122,11 @@ rest-good (suc turns) text own rights first at named marked eight past so-far =
         (elim next [
           | Next recipient start end ↦ recipientsFrom turns text own (rights + 2 ^ recipient) (mention marked recipient start) end
           | Done end ↦ record { passed = To end; rights = rights; named = marked }
-          | Unlisted refusal ↦ record { passed = Refused refusal; rights = rights; named = marked }
+          | RefusedRecipient refusal ↦ record { passed = Refused refusal; rights = rights; named = marked }
         ])
     go (Next recipient start end) fresh again = again recipient start end fresh
     go (Done end) h again = (omega arith, so-far)
-    go (Unlisted refusal) h again = tt
+    go (RefusedRecipient refusal) h again = tt
 
 pub list-good : (text : List ℕ) (own : ℕ) (named : List ℕ) (at : ℕ) → length named ≡ 8 → GoodList own at named (recipientsAt text own named at)
 unfolding recipientsAt

@@ -17,7 +17,7 @@ use Rattle.text.specs.declared.Token.the-variants.{LineEnd, Open, Close, Word, 
 use Rattle.text.specs.Tokens.{tokenAt}
 use Rattle.taking.specs.declared.Passed.the-variants.{To, Refused}
 use Rattle.taking.specs.declared.Recipient.{Recipient}
-use Rattle.taking.specs.declared.Recipient.the-variants.{Next, Done, Refused as Unlisted}
+use Rattle.taking.specs.declared.Recipient.the-variants.{Next, Done, Refused as RefusedRecipient}
 use Rattle.taking.specs.declared.Recipients.{Recipients}
 use Rattle.taking.proofs.Choices.{neither}
 use Rattle.taking.proofs.NewBit.{new-bit-most}
@@ -37,14 +37,14 @@ pub record Fresh (text : List ℕ) (own rights at recipient start end : ℕ) : T
 abbrev pub Listed : List ℕ → ℕ → ℕ → ℕ → Recipient → Type 0
 Listed text own rights at (Next recipient start end) = Fresh text own rights at recipient start end
 Listed text own rights at (Done end) = (at < end) × (end ≤ length text)
-Listed text own rights at (Unlisted refusal) = Unit {0}
+Listed text own rights at (RefusedRecipient refusal) = Unit {0}
 
 for-listed : (text : List ℕ) (own rights at recipient start end : ℕ) → at ≤ start → start < end → end ≤ length text
     → Listed text own rights at (recipientFor own rights recipient start end)
 for-listed text own rights at recipient start end a s e =
     let Good = Listed text own rights at in
-    cond-holds Good (leb recipient 7) _ (Unlisted (NumberOutOfLimits start))
-    (λ small. cond-holds Good (eqb recipient own || hasBit rights recipient) (Unlisted (BadRecipient start)) (Next recipient start end)
+    cond-holds Good (leb recipient 7) _ (RefusedRecipient (NumberOutOfLimits start))
+    (λ small. cond-holds Good (eqb recipient own || hasBit rights recipient) (RefusedRecipient (BadRecipient start)) (Next recipient start end)
     (λ _. tt)
     (λ free.
     let parts = neither (eqb recipient own) (hasBit rights recipient) free in
@@ -88,7 +88,7 @@ unfolding recipientsAt
 left-first text own named at = record { turns = length text; enough = omega arith; same = refl }
 
 -- past the text's end the list is refused
-past-end : (text : List ℕ) (own rights at : ℕ) → length text ≤ at → recipientAt text own rights at ≡ Unlisted (BrokenShape at)
+past-end : (text : List ℕ) (own rights at : ℕ) → length text ≤ at → recipientAt text own rights at ≡ RefusedRecipient (BrokenShape at)
 unfolding recipientAt
 past-end text own rights at past = ap (recipientOf own rights) (token-past text at past)
 
@@ -114,7 +114,7 @@ module _ (text : List ℕ) (own rights : ℕ) (named : List ℕ) (at : ℕ) (who
       go zero enough same = let z : _≡_ {A = ℕ} 0 1 = cc (past-end text own rights at (omega arith), next) in absurd (omega arith)
       go (suc turns) enough same = rw (recipientsFrom, next) at same
 
-  pub left-refused : (refusal : Refusal) → recipientAt text own rights at ≡ Unlisted refusal → record { passed = Refused refusal; rights = rights; named = named } ≡ whole
+  pub left-refused : (refusal : Refusal) → recipientAt text own rights at ≡ RefusedRecipient refusal → record { passed = Refused refusal; rights = rights; named = named } ≡ whole
   unfolding recipientsFrom
   left-refused refusal next = go (left .turns) (left .enough) (left .same)
     where

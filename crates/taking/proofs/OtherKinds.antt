@@ -10,10 +10,10 @@ use Rattle.text.proofs.Token.{the-type}
 use Rattle.text.specs.declared.Token.{Token}
 use Rattle.text.specs.declared.Token.the-variants.{LineEnd, Open, Close, Word, Number, LongNumber, Other}
 use Rattle.text.specs.Tokens.{startOf}
-use Rattle.taking.specs.declared.OpHead.the-variants.{Refused as NoOp}
+use Rattle.taking.specs.declared.OpHead.the-variants.{Refused as RefusedOpWord}
 use Rattle.taking.specs.declared.Passed.the-variants.{Refused}
-use Rattle.taking.specs.declared.Recipient.the-variants.{Refused as Unlisted}
-use Rattle.taking.specs.declared.Taken.the-variants.{Refused as Not}
+use Rattle.taking.specs.declared.Recipient.the-variants.{Refused as RefusedRecipient}
+use Rattle.taking.specs.declared.Taken.the-variants.{Refused as RefusedNumber}
 use Rattle.taking.specs.Ops.{opHeadOf}
 use Rattle.taking.specs.Recipients.{recipientOf}
 use Rattle.taking.specs.Tokens.{closeOf, lineEndOf, numberOf, openOf, wordOf}
@@ -54,7 +54,7 @@ no-word text word (Number start end value) h = refl
 no-word text word (LongNumber start end) h = refl
 no-word text word (Other start end) h = refl
 
-pub no-number : (low high : ℕ) (token : Token) → OneOf (0 ∷ 1 ∷ 2 ∷ 3 ∷ 5 ∷ 6 ∷ []) (tagOf the-type token) → OneOf (0 ∷ 1 ∷ 2 ∷ 3 ∷ 4 ∷ 6 ∷ []) (tagOf the-type token) → numberOf low high token ≡ Not (BrokenShape (startOf token))
+pub no-number : (low high : ℕ) (token : Token) → OneOf (0 ∷ 1 ∷ 2 ∷ 3 ∷ 5 ∷ 6 ∷ []) (tagOf the-type token) → OneOf (0 ∷ 1 ∷ 2 ∷ 3 ∷ 4 ∷ 6 ∷ []) (tagOf the-type token) → numberOf low high token ≡ RefusedNumber (BrokenShape (startOf token))
 no-number low high (LineEnd at) h k = refl
 no-number low high (Open at) h k = refl
 no-number low high (Close at) h k = refl
@@ -63,7 +63,7 @@ no-number low high (Number start end value) h k = absurd (miss (0 ∷ 1 ∷ 2 �
 no-number low high (LongNumber start end) h k = absurd (miss (0 ∷ 1 ∷ 2 ∷ 3 ∷ 4 ∷ 6 ∷ []) 5 tt k)
 no-number low high (Other start end) h k = refl
 
-pub no-op-word : (text : List ℕ) (token : Token) → OneOf (0 ∷ 1 ∷ 2 ∷ 4 ∷ 5 ∷ 6 ∷ []) (tagOf the-type token) → opHeadOf text token ≡ NoOp (BrokenShape (startOf token))
+pub no-op-word : (text : List ℕ) (token : Token) → OneOf (0 ∷ 1 ∷ 2 ∷ 4 ∷ 5 ∷ 6 ∷ []) (tagOf the-type token) → opHeadOf text token ≡ RefusedOpWord (BrokenShape (startOf token))
 no-op-word text (LineEnd at) h = refl
 no-op-word text (Open at) h = refl
 no-op-word text (Close at) h = refl
@@ -72,7 +72,7 @@ no-op-word text (Number start end value) h = refl
 no-op-word text (LongNumber start end) h = refl
 no-op-word text (Other start end) h = refl
 
-pub no-recipient : (own rights : ℕ) (token : Token) → OneOf (0 ∷ 1 ∷ 3 ∷ 6 ∷ []) (tagOf the-type token) → recipientOf own rights token ≡ Unlisted (BrokenShape (startOf token))
+pub no-recipient : (own rights : ℕ) (token : Token) → OneOf (0 ∷ 1 ∷ 3 ∷ 6 ∷ []) (tagOf the-type token) → recipientOf own rights token ≡ RefusedRecipient (BrokenShape (startOf token))
 no-recipient own rights (LineEnd at) h = refl
 no-recipient own rights (Open at) h = refl
 no-recipient own rights (Close at) h = absurd (miss (0 ∷ 1 ∷ 3 ∷ 6 ∷ []) 2 tt h)

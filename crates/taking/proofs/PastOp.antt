@@ -13,9 +13,9 @@ use Rattle.text.specs.declared.Token.the-variants.{LineEnd, Open, Close, Word, 
 use Rattle.text.specs.Tokens.{tokenAt}
 use Rattle.taking.proofs.Advance.{then-number}
 use Rattle.taking.specs.declared.OpHead.{OpHead}
-use Rattle.taking.specs.declared.OpHead.the-variants.{Read as ReadWord, Write as WriteWord, Send as SendWord, Receive as ReceiveWord, Compute as ComputeWord, Refused as NoOp}
+use Rattle.taking.specs.declared.OpHead.the-variants.{Read as ReadWord, Write as WriteWord, Send as SendWord, Receive as ReceiveWord, Compute as ComputeWord, Refused as RefusedOpWord}
 use Rattle.taking.specs.declared.OpTaken.{OpTaken}
-use Rattle.taking.specs.declared.OpTaken.the-variants.{Op as Took, Refused as TookNone}
+use Rattle.taking.specs.declared.OpTaken.the-variants.{Op as Took, Refused as RefusedOp}
 use Rattle.taking.specs.Ops.{opHeadAt, opHeadOf, opNumbers, thenOp}
 use Rattle.taking.specs.Tokens.{isWord, takeNumber, thenNumber}
 
@@ -25,11 +25,11 @@ PastOpHead at (WriteWord end) = at ≤ end
 PastOpHead at (SendWord end) = at ≤ end
 PastOpHead at (ReceiveWord end) = at ≤ end
 PastOpHead at (ComputeWord end) = at ≤ end
-PastOpHead at (NoOp refusal) = Unit {0}
+PastOpHead at (RefusedOpWord refusal) = Unit {0}
 
 abbrev pub PastOp : ℕ → OpTaken → Type 0
 PastOp at (Took op end) = at ≤ end
-PastOp at (TookNone refusal) = Unit {0}
+PastOp at (RefusedOp refusal) = Unit {0}
 
 op-head-past : (text : List ℕ) (at : ℕ) → PastOpHead at (opHeadAt text at)
 unfolding opHeadAt
@@ -46,7 +46,7 @@ op-head-past text at = go (tokenAt text at) (token-reached text at)
         cond-holds P (isWord text start end (bytesOf "write")) (WriteWord end) _ (λ _. past) λ _.
         cond-holds P (isWord text start end (bytesOf "send")) (SendWord end) _ (λ _. past) λ _.
         cond-holds P (isWord text start end (bytesOf "receive")) (ReceiveWord end) _ (λ _. past) λ _.
-        cond-holds P (isWord text start end (bytesOf "compute")) (ComputeWord end) (NoOp (BrokenShape start)) (λ _. past) λ _. tt
+        cond-holds P (isWord text start end (bytesOf "compute")) (ComputeWord end) (RefusedOpWord (BrokenShape start)) (λ _. past) λ _. tt
     go (Number start end value) h = tt
     go (LongNumber start end) h = tt
     go (Other start end) h = tt
@@ -56,23 +56,23 @@ unfolding opNumbers
 op-numbers-past text at = go (opHeadAt text at) (op-head-past text at)
   where
     one : (low high here : ℕ) (op : ℕ → Op) → at ≤ here
-        → PastOp at (thenNumber (takeNumber text low high here) TookNone λ value start end. Took (op value) end)
+        → PastOp at (thenNumber (takeNumber text low high here) RefusedOp λ value start end. Took (op value) end)
     one low high here op past =
-        then-number (PastOp at) text low high here TookNone (λ value start end. Took (op value) end) (λ _. tt) (λ value start end _ _ on. omega arith)
+        then-number (PastOp at) text low high here RefusedOp (λ value start end. Took (op value) end) (λ _. tt) (λ value start end _ _ on. omega arith)
 
     go : (head : OpHead) → PastOpHead at head → PastOp at (opNumbers text head)
     go (ReadWord here) h = one 0 65_535 here Read h
     go (WriteWord here) h = one 0 65_535 here Write h
     go (SendWord here) h =
-        then-number (PastOp at) text 0 7 here TookNone
-        (λ recipient first middle. thenNumber (takeNumber text 0 65_535 middle) TookNone λ word start end. Took (Send recipient word) end) (λ _. tt)
+        then-number (PastOp at) text 0 7 here RefusedOp
+        (λ recipient first middle. thenNumber (takeNumber text 0 65_535 middle) RefusedOp λ word start end. Took (Send recipient word) end) (λ _. tt)
         (λ recipient first middle _ _ m. one 0 65_535 middle (Send recipient) (omega arith))
     go (ReceiveWord here) h = one 0 7 here Receive h
     go (ComputeWord here) h = one 1 200 here Compute h
-    go (NoOp refusal) h = tt
+    go (RefusedOpWord refusal) h = tt
 
 -- going on from an op, or handing the refusal on
 pub then-op : {A : Type 0} (P : A → Type 0) (at : ℕ) (taken : OpTaken) (refused : Refusal → A) (go : Op → ℕ → A) → PastOp at taken
     → ((refusal : Refusal) → P (refused refusal)) → ((op : Op) (end : ℕ) → at ≤ end → P (go op end)) → P (thenOp taken refused go)
 then-op P at (Took op end) refused go h f g = g op end h
-then-op P at (TookNone refusal) refused go h f g = f refusal
+then-op P at (RefusedOp refusal) refused go h f g = f refusal

@@ -1,5 +1,5 @@
--- Document 01, "The plan text": an op, one of five words and its numbers, each with its limits. `at` is the offset that is reached.
--- Assumes nothing.
+-- Document 01, "The plan text": an op's word and the numbers after it; their limits, of "What an op costs", are crate script's. `at` is the offset
+-- that is reached. Assumes nothing.
 use Prim.Native.Nat.{ℕ}
 use mathlib.Core.Bool.{cond}
 use mathlib.Core.List.{List}
@@ -8,47 +8,52 @@ use Rattle.refusal.specs.declared.Refusal.{Refusal}
 use Rattle.refusal.specs.declared.Refusal.the-variants.{BrokenShape}
 use Rattle.script.specs.declared.Op.{Op}
 use Rattle.script.specs.declared.Op.the-variants.{Read, Write, Send, Receive, Compute}
+use Rattle.script.specs.Limits.{lastDomain, leastTicks, mostNumber, mostTicks, mostWord}
 use Rattle.text.specs.declared.Token.{Token}
 use Rattle.text.specs.declared.Token.the-variants.{LineEnd, Open, Close, Word, Number, LongNumber, Other}
 use Rattle.text.specs.Tokens.{tokenAt}
 use Rattle.taking.specs.declared.OpHead.{OpHead}
-use Rattle.taking.specs.declared.OpHead.the-variants.{Read as ReadWord, Write as WriteWord, Send as SendWord, Receive as ReceiveWord, Compute as ComputeWord, Refused as NoOp}
+use Rattle.taking.specs.declared.OpHead.the-variants.{Read as ReadWord, Write as WriteWord, Send as SendWord}
+use Rattle.taking.specs.declared.OpHead.the-variants.{Receive as ReceiveWord, Compute as ComputeWord, Refused as RefusedOpWord}
 use Rattle.taking.specs.declared.OpTaken.{OpTaken}
-use Rattle.taking.specs.declared.OpTaken.the-variants.{Op as Took, Refused as TookNone}
+use Rattle.taking.specs.declared.OpTaken.the-variants.{Op as Took, Refused as RefusedOp}
 use Rattle.taking.specs.Tokens.{isWord, takeNumber, thenNumber}
 
+-- which of the five words stands there
 abbrev pub opHeadFor : List ℕ → ℕ → ℕ → OpHead
 opHeadFor text start end =
     cond (isWord text start end (bytesOf "read")) (ReadWord end)
     (cond (isWord text start end (bytesOf "write")) (WriteWord end)
     (cond (isWord text start end (bytesOf "send")) (SendWord end)
     (cond (isWord text start end (bytesOf "receive")) (ReceiveWord end)
-    (cond (isWord text start end (bytesOf "compute")) (ComputeWord end) (NoOp (BrokenShape start))))))
+    (cond (isWord text start end (bytesOf "compute")) (ComputeWord end) (RefusedOpWord (BrokenShape start))))))
 
+-- a word was due
 abbrev pub opHeadOf : List ℕ → Token → OpHead
-opHeadOf text (LineEnd at) = NoOp (BrokenShape at)
-opHeadOf text (Open at) = NoOp (BrokenShape at)
-opHeadOf text (Close at) = NoOp (BrokenShape at)
+opHeadOf text (LineEnd at) = RefusedOpWord (BrokenShape at)
+opHeadOf text (Open at) = RefusedOpWord (BrokenShape at)
+opHeadOf text (Close at) = RefusedOpWord (BrokenShape at)
 opHeadOf text (Word start end) = opHeadFor text start end
-opHeadOf text (Number start end value) = NoOp (BrokenShape start)
-opHeadOf text (LongNumber start end) = NoOp (BrokenShape start)
-opHeadOf text (Other start end) = NoOp (BrokenShape start)
+opHeadOf text (Number start end value) = RefusedOpWord (BrokenShape start)
+opHeadOf text (LongNumber start end) = RefusedOpWord (BrokenShape start)
+opHeadOf text (Other start end) = RefusedOpWord (BrokenShape start)
 
+-- the same of the next token from an offset on
 unfoldable pub opHeadAt : List ℕ → ℕ → OpHead
 opHeadAt text at = opHeadOf text (tokenAt text at)
 
--- read n, write n: 0 to 65,535; send b w: a domain number and 0 to 65,535; receive a: a domain number; compute t: 1 to 200.
--- The other domain of a send or a receive needn't be declared.
+-- the numbers that each word asks for, within the limits of crate script. The other domain of a send or a receive needn't be declared.
 unfoldable pub opNumbers : List ℕ → OpHead → OpTaken
-opNumbers text (ReadWord at) = thenNumber (takeNumber text 0 65_535 at) TookNone λ line start end. Took (Read line) end
-opNumbers text (WriteWord at) = thenNumber (takeNumber text 0 65_535 at) TookNone λ line start end. Took (Write line) end
+opNumbers text (ReadWord at) = thenNumber (takeNumber text 0 mostNumber at) RefusedOp λ line start end. Took (Read line) end
+opNumbers text (WriteWord at) = thenNumber (takeNumber text 0 mostNumber at) RefusedOp λ line start end. Took (Write line) end
 opNumbers text (SendWord at) =
-    thenNumber (takeNumber text 0 7 at) TookNone λ recipient first middle.
-    thenNumber (takeNumber text 0 65_535 middle) TookNone λ word start end. Took (Send recipient word) end
-opNumbers text (ReceiveWord at) = thenNumber (takeNumber text 0 7 at) TookNone λ sender start end. Took (Receive sender) end
-opNumbers text (ComputeWord at) = thenNumber (takeNumber text 1 200 at) TookNone λ ticks start end. Took (Compute ticks) end
-opNumbers text (NoOp refusal) = TookNone refusal
+    thenNumber (takeNumber text 0 lastDomain at) RefusedOp λ recipient first middle.
+    thenNumber (takeNumber text 0 mostWord middle) RefusedOp λ word start end. Took (Send recipient word) end
+opNumbers text (ReceiveWord at) = thenNumber (takeNumber text 0 lastDomain at) RefusedOp λ sender start end. Took (Receive sender) end
+opNumbers text (ComputeWord at) = thenNumber (takeNumber text leastTicks mostTicks at) RefusedOp λ ticks start end. Took (Compute ticks) end
+opNumbers text (RefusedOpWord refusal) = RefusedOp refusal
 
+-- going on from an op, or handing the refusal on
 abbrev pub thenOp : {A : Type 0} → OpTaken → (Refusal → A) → (Op → ℕ → A) → A
 thenOp (Took op end) refused go = go op end
-thenOp (TookNone refusal) refused go = refused refusal
+thenOp (RefusedOp refusal) refused go = refused refusal

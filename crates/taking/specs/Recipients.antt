@@ -1,5 +1,5 @@
--- Document 01, "The plan text": a list of recipients, none or more. `at` is the offset that is reached, and `named` says where the text first
--- names each domain as a recipient. Assumes nothing.
+-- Document 01, "The plan text": the recipients of a *may* list. `at` is the offset that is reached. `named` holds a number for each domain: 0 while
+-- the text names it nowhere as a recipient, else one more than the offset of the first place that does. Assumes nothing.
 use Prim.Native.Nat.{ℕ, zero, suc, _+_, _^_}
 use mathlib.Core.Bool.{cond, _||_}
 use mathlib.Core.List.{List}
@@ -7,34 +7,37 @@ use lib.Dec.{eqb, leb}
 use lib.ListN.{getD, length, set}
 use Rattle.plan.specs.Colours.{hasBit}
 use Rattle.refusal.specs.declared.Refusal.the-variants.{BadRecipient, BrokenShape, NumberOutOfLimits}
+use Rattle.script.specs.Limits.{lastDomain}
 use Rattle.text.specs.declared.Token.{Token}
 use Rattle.text.specs.declared.Token.the-variants.{LineEnd, Open, Close, Word, Number, LongNumber, Other}
 use Rattle.text.specs.Tokens.{tokenAt}
 use Rattle.taking.specs.declared.Passed.the-variants.{To, Refused}
 use Rattle.taking.specs.declared.Recipient.{Recipient}
-use Rattle.taking.specs.declared.Recipient.the-variants.{Next, Done, Refused as Unlisted}
+use Rattle.taking.specs.declared.Recipient.the-variants.{Next, Done, Refused as RefusedRecipient}
 use Rattle.taking.specs.declared.Recipients.{Recipients}
 
--- a recipient is a domain number, 3 outside 0 to 7; 8 for the domain's own number or a repeat
+-- a recipient is a domain number, else 3; 8 for the domain's own number or a repeat
 abbrev pub recipientFor : ℕ → ℕ → ℕ → ℕ → ℕ → Recipient
 recipientFor own rights recipient start end =
-    cond (leb recipient 7)
-    (cond (eqb recipient own || hasBit rights recipient) (Unlisted (BadRecipient start)) (Next recipient start end))
-    (Unlisted (NumberOutOfLimits start))
+    cond (leb recipient lastDomain)
+    (cond (eqb recipient own || hasBit rights recipient) (RefusedRecipient (BadRecipient start)) (Next recipient start end))
+    (RefusedRecipient (NumberOutOfLimits start))
 
+-- what a token is in the list: a recipient, the bracket that closes it, or a refusal
 abbrev pub recipientOf : ℕ → ℕ → Token → Recipient
-recipientOf own rights (LineEnd at) = Unlisted (BrokenShape at)
-recipientOf own rights (Open at) = Unlisted (BrokenShape at)
+recipientOf own rights (LineEnd at) = RefusedRecipient (BrokenShape at)
+recipientOf own rights (Open at) = RefusedRecipient (BrokenShape at)
 recipientOf own rights (Close at) = Done (at + 1)
-recipientOf own rights (Word start end) = Unlisted (BrokenShape start)
+recipientOf own rights (Word start end) = RefusedRecipient (BrokenShape start)
 recipientOf own rights (Number start end value) = recipientFor own rights value start end
-recipientOf own rights (LongNumber start end) = Unlisted (NumberOutOfLimits start)
-recipientOf own rights (Other start end) = Unlisted (BrokenShape start)
+recipientOf own rights (LongNumber start end) = RefusedRecipient (NumberOutOfLimits start)
+recipientOf own rights (Other start end) = RefusedRecipient (BrokenShape start)
 
+-- what stands next in the list from an offset on
 unfoldable pub recipientAt : List ℕ → ℕ → ℕ → ℕ → Recipient
 recipientAt text own rights at = recipientOf own rights (tokenAt text at)
 
--- the text names a domain as a recipient: only the first place counts
+-- the text names a domain as a recipient: only the first place counts, and it is kept as its offset + 1, so that 0 stays none
 unfoldable pub mention : List ℕ → ℕ → ℕ → List ℕ
 mention named recipient start = cond (eqb (getD named recipient 0) 0) (set named recipient (start + 1)) named
 
@@ -45,8 +48,9 @@ recipientsFrom (suc turns) text own rights named at =
     elim (recipientAt text own rights at) [
       | Next recipient start end ↦ recipientsFrom turns text own (rights + 2 ^ recipient) (mention named recipient start) end
       | Done end ↦ record { passed = To end; rights = rights; named = named }
-      | Unlisted refusal ↦ record { passed = Refused refusal; rights = rights; named = named }
+      | RefusedRecipient refusal ↦ record { passed = Refused refusal; rights = rights; named = named }
     ]
 
+-- the whole list from an offset on, with none taken yet
 unfoldable pub recipientsAt : List ℕ → ℕ → List ℕ → ℕ → Recipients
 recipientsAt text own named at = recipientsFrom (length text) text own 0 named at

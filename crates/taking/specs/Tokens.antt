@@ -1,5 +1,5 @@
--- Document 01, "The plan text": a token is taken apart, or the line is refused with its offset. A token of another kind than the one that is due
--- breaks the shape: 2, with the token's first byte, or the line's end where the line stops short. Assumes nothing.
+-- Document 01, "The plan text": what is due is taken from the next token, or the line is refused. A token of another kind than the one due breaks
+-- the shape: 2, with the offset where it begins; where the line stops short, with the offset of its end. Assumes nothing.
 use Prim.Native.Nat.{ℕ, _+_, _-_}
 use mathlib.Core.Bool.{Bool, true, false, cond, _&&_}
 use mathlib.Core.List.{List, [], _∷_}
@@ -13,7 +13,7 @@ use Rattle.text.specs.Tokens.{tokenAt}
 use Rattle.taking.specs.declared.Passed.{Passed}
 use Rattle.taking.specs.declared.Passed.the-variants.{To, Refused}
 use Rattle.taking.specs.declared.Taken.{Taken}
-use Rattle.taking.specs.declared.Taken.the-variants.{Number as Is, Refused as Not}
+use Rattle.taking.specs.declared.Taken.the-variants.{Number as Is, Refused as RefusedNumber}
 
 -- an opening bracket was due
 abbrev pub openOf : Token → Passed
@@ -45,6 +45,7 @@ lineEndOf (Number start end value) = Refused (BrokenShape start)
 lineEndOf (LongNumber start end) = Refused (BrokenShape start)
 lineEndOf (Other start end) = Refused (BrokenShape start)
 
+-- two runs of bytes are equal
 unfoldable pub sameBytes : List ℕ → List ℕ → Bool
 sameBytes [] [] = true
 sameBytes [] (b ∷ bs) = false
@@ -67,28 +68,32 @@ wordOf text word (Other start end) = Refused (BrokenShape start)
 
 -- a number was due, with its limits: 3, with its first byte, where it has over 10 digits or is outside them
 abbrev pub numberOf : ℕ → ℕ → Token → Taken
-numberOf low high (LineEnd at) = Not (BrokenShape at)
-numberOf low high (Open at) = Not (BrokenShape at)
-numberOf low high (Close at) = Not (BrokenShape at)
-numberOf low high (Word start end) = Not (BrokenShape start)
+numberOf low high (LineEnd at) = RefusedNumber (BrokenShape at)
+numberOf low high (Open at) = RefusedNumber (BrokenShape at)
+numberOf low high (Close at) = RefusedNumber (BrokenShape at)
+numberOf low high (Word start end) = RefusedNumber (BrokenShape start)
 numberOf low high (Number start end value) =
-    cond (leb low value && leb value high) (Is value start end) (Not (NumberOutOfLimits start))
-numberOf low high (LongNumber start end) = Not (NumberOutOfLimits start)
-numberOf low high (Other start end) = Not (BrokenShape start)
+    cond (leb low value && leb value high) (Is value start end) (RefusedNumber (NumberOutOfLimits start))
+numberOf low high (LongNumber start end) = RefusedNumber (NumberOutOfLimits start)
+numberOf low high (Other start end) = RefusedNumber (BrokenShape start)
 
--- the same of the next token from an offset on
+-- the next token from an offset on is an opening bracket
 unfoldable pub passOpen : List ℕ → ℕ → Passed
 passOpen text at = openOf (tokenAt text at)
 
+-- it is a closing bracket
 unfoldable pub passClose : List ℕ → ℕ → Passed
 passClose text at = closeOf (tokenAt text at)
 
+-- there is none: the line ends
 unfoldable pub passLineEnd : List ℕ → ℕ → Passed
 passLineEnd text at = lineEndOf (tokenAt text at)
 
+-- it is this word
 unfoldable pub passWord : List ℕ → List ℕ → ℕ → Passed
 passWord text word at = wordOf text word (tokenAt text at)
 
+-- it is a number within its limits
 unfoldable pub takeNumber : List ℕ → ℕ → ℕ → ℕ → Taken
 takeNumber text low high at = numberOf low high (tokenAt text at)
 
@@ -97,6 +102,7 @@ abbrev pub then : {A : Type 0} → Passed → (Refusal → A) → (ℕ → A) �
 then (To at) refused go = go at
 then (Refused refusal) refused go = refused refusal
 
+-- the same of a number, with its value and both its offsets
 abbrev pub thenNumber : {A : Type 0} → Taken → (Refusal → A) → (ℕ → ℕ → ℕ → A) → A
 thenNumber (Is value start end) refused go = go value start end
-thenNumber (Not refusal) refused go = refused refusal
+thenNumber (RefusedNumber refusal) refused go = refused refusal

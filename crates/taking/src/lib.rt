@@ -1,6 +1,6 @@
 // What a form asks for, taken token by token: brackets, words and numbers, an op, a list of recipients; or the refusal and its place.
 pub mod may;
-pub mod ops;
+pub mod op_tokens;
 pub mod tokens;
 
 use refusal::Refusal;
@@ -55,5 +55,6 @@ pub enum Recipient {
 pub struct Recipients {
     pub passed: Passed,
     pub rights: u32,
+    // where the text up to there first names each domain as a recipient, plus one; 0 where it has not
     pub named: [usize; 8],
 }

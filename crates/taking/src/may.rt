@@ -4,6 +4,7 @@ use crate::Recipient;
 use crate::Recipients;
 use plan::sharing::has_bit;
 use refusal::Refusal;
+use script::limits::LAST_DOMAIN;
 use text::Token;
 use text::start_of;
 use text::token_at;
@@ -11,10 +12,11 @@ ghost use mathlib.Core.Path.{_≡_};
 ghost use Prim.Native.Nat.{_+_, _<_, _^_};
 ghost use Rattle.taking.specs.Recipients.{mention, recipientAt, recipientFor, recipientsAt};
 
+// A number stands next in the list: a recipient, or 3 or 8.
 fn recipient_for(own: u32, rights: u32, recipient: u64, start: usize, end: usize) -> Recipient
     ensures { λ r. ⌜ r ≡ recipientFor own rights recipient start end ⌝ }
 {
-    if recipient <= 7 {
+    if recipient <= LAST_DOMAIN as u64 {
         let number = recipient as u32;
         if (number == own) | has_bit(rights, number) {
             Recipient::Refused(Refusal::BadRecipient(start))
@@ -45,7 +47,7 @@ fn recipient_at(text: &[u8], own: u32, rights: u32, at: usize) -> Recipient
     }
 }
 
-// The text names a domain as a recipient: only the first place counts.
+// The text names a domain as a recipient: only the first place counts, kept as its offset + 1.
 fn note_mention(named: &mut [usize; 8], recipient: u32, start: usize)
     requires { ⌜ (recipient < 8) × (start + 1 < 2 ^ 64) ⌝ }
     ensures { λ _. ⌜ now (named .exit) ≡ mention (now (named .entry)) recipient start ⌝ }
@@ -56,6 +58,7 @@ fn note_mention(named: &mut [usize; 8], recipient: u32, start: usize)
     }
 }
 
+// The list of domain `own` from `at` on, up to its closing bracket or a refusal.
 pub fn recipients_at(text: &[u8], own: u32, named: [usize; 8], at: usize) -> Recipients
     ensures { λ r. ⌜ r ≡ recipientsAt (now (text .entry)) own named at ⌝ }
 {

@@ -1,4 +1,4 @@
-// A token is taken apart, or the line is refused with its offset.
+// What is due is taken from the next token, or the line is refused.
 use crate::Passed;
 use crate::Taken;
 use refusal::Refusal;
@@ -10,6 +10,7 @@ ghost use Prim.Native.Nat.{_≤_};
 ghost use lib.ListN.{length};
 ghost use Rattle.taking.specs.Tokens.{isWord, passClose, passLineEnd, passOpen, passWord, sameBytes, takeNumber};
 
+// Whether two runs of bytes are equal.
 fn same_bytes(a: &[u8], b: &[u8]) -> bool
     ensures { λ r. ⌜ r ≡ sameBytes (now (a .entry)) (now (b .entry)) ⌝ }
 {
@@ -34,6 +35,7 @@ pub fn is_word(text: &[u8], start: usize, end: usize, word: &[u8]) -> bool
     same_bytes(&text[start..end], word)
 }
 
+// An opening bracket was due.
 pub fn pass_open(text: &[u8], at: usize) -> Passed
     ensures { λ r. ⌜ r ≡ passOpen (now (text .entry)) at ⌝ }
 {
@@ -44,6 +46,7 @@ pub fn pass_open(text: &[u8], at: usize) -> Passed
     Passed::To(place + 1)
 }
 
+// A closing bracket was due.
 pub fn pass_close(text: &[u8], at: usize) -> Passed
     ensures { λ r. ⌜ r ≡ passClose (now (text .entry)) at ⌝ }
 {
@@ -54,6 +57,7 @@ pub fn pass_close(text: &[u8], at: usize) -> Passed
     Passed::To(place + 1)
 }
 
+// The line's end was due.
 pub fn pass_line_end(text: &[u8], at: usize) -> Passed
     ensures { λ r. ⌜ r ≡ passLineEnd (now (text .entry)) at ⌝ }
 {
@@ -64,6 +68,7 @@ pub fn pass_line_end(text: &[u8], at: usize) -> Passed
     Passed::To(place)
 }
 
+// This word was due.
 pub fn pass_word(text: &[u8], word: &[u8], at: usize) -> Passed
     ensures { λ r. ⌜ r ≡ passWord (now (text .entry)) (now (word .entry)) at ⌝ }
 {

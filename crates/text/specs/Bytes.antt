@@ -11,9 +11,11 @@ isLineFeed byte = eqb byte 10
 abbrev pub isSpace : ℕ → Bool
 isSpace byte = eqb byte 32
 
+-- a bracket that opens
 abbrev pub isOpen : ℕ → Bool
 isOpen byte = eqb byte 40
 
+-- a bracket that closes
 abbrev pub isClose : ℕ → Bool
 isClose byte = eqb byte 41
 
@@ -29,5 +31,6 @@ isDigit byte = leb 48 byte && leb byte 57
 abbrev pub endsRun : ℕ → Bool
 endsRun byte = isSpace byte || isLineFeed byte || isOpen byte || isClose byte
 
+-- where spaces that are passed over end
 abbrev pub isNoSpace : ℕ → Bool
 isNoSpace byte = not (isSpace byte)

@@ -1,4 +1,4 @@
--- Document 01, "The plan text": a token is a bracket or a longest run of bytes that are no bracket, space or LF. Assumes nothing.
+-- Document 01, "The plan text": the tokens of a line, each a bracket by itself or as many other bytes as stand together. Assumes nothing.
 use Prim.Native.Nat.{ℕ, _+_, _*_, _-_}
 use mathlib.Core.Bool.{Bool, cond}
 use mathlib.Core.List.{List, [], _∷_}
@@ -15,6 +15,7 @@ unfoldable pub valueAfter : ℕ → List ℕ → ℕ
 valueAfter before [] = before
 valueAfter before (digit ∷ rest) = valueAfter (before * 10 + (digit - 48)) rest
 
+-- the number that a run of digits writes
 unfoldable pub valueOf : List ℕ → ℕ
 valueOf digits = valueAfter 0 digits
 
@@ -27,7 +28,7 @@ unfoldable pub runToken : List ℕ → ℕ → ℕ → Token
 runToken run start end =
     cond (allBytes isLetter run) (Word start end) (cond (allBytes isDigit run) (digitsToken run start end) (Other start end))
 
--- the longest run of bytes that are no bracket, space or LF, from an offset on
+-- the run from an offset on, up to the first byte that ends one
 unfoldable pub longestRun : List ℕ → ℕ → Token
 longestRun text start = let end = scanOf endsRun text start in runToken (part start (end - start) text) start end
 

@@ -1,4 +1,4 @@
-// The tokens of a plan text: a byte slice, read from an offset.
+// The tokens of a plan text, a byte slice read from an offset; and decimal numbers, written into one.
 mod bytes;
 pub mod decimal;
 mod runs;

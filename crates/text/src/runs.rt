@@ -12,7 +12,7 @@ ghost use Rattle.text.specs.Scan.{allBytes};
 ghost use Rattle.text.specs.Tokens.{digitsToken, longestRun, runToken, valueOf};
 
 // The number that at most ten digits write.
-pub fn value_of(digits: &[u8]) -> u64
+fn value_of(digits: &[u8]) -> u64
     requires { ⌜ (length (now digits) ≤ 10) × (allBytes isDigit (now digits) ≡ true) ⌝ }
     ensures { λ r. ⌜ r ≡ valueOf (now (digits .entry)) ⌝ }
 {
@@ -25,6 +25,7 @@ pub fn value_of(digits: &[u8]) -> u64
     value
 }
 
+// A run of digits: a number, or one of too many digits.
 fn digits_token(run: &[u8], start: usize, end: usize) -> Token
     requires { ⌜ allBytes isDigit (now run) ≡ true ⌝ }
     ensures { λ r. ⌜ r ≡ digitsToken (now (run .entry)) start end ⌝ }
@@ -40,6 +41,7 @@ fn digits_token(run: &[u8], start: usize, end: usize) -> Token
     }
 }
 
+// A run of bytes as a token.
 fn run_token(run: &[u8], start: usize, end: usize) -> Token
     ensures { λ r. ⌜ r ≡ runToken (now (run .entry)) start end ⌝ }
 {

@@ -34,6 +34,7 @@ pub fn run_end(text: &[u8], start: usize) -> usize
     here
 }
 
+// Whether every byte of a run is a letter.
 pub fn all_letters(run: &[u8]) -> bool
     ensures { λ r. ⌜ r ≡ allBytes isLetter (now (run .entry)) ⌝ }
 {
@@ -47,6 +48,7 @@ pub fn all_letters(run: &[u8]) -> bool
     true
 }
 
+// Whether every byte of a run is a digit.
 pub fn all_digits(run: &[u8]) -> bool
     ensures { λ r. ⌜ r ≡ allBytes isDigit (now (run .entry)) ⌝ }
 {

@@ -10,14 +10,15 @@ use lib.ListN.{drop, getD, length, replicate, drop-of-length-le}
 use lib.Seq.{drop-cons}
 use borrow.Author.Tests.{eqb-true, le-ltb, ltb-false, ltb-true, ne-eqb}
 use Rattle.plan.specs.declared.Plan.{Plan}
-use Rattle.plan.specs.Colours.{coloursAt, firstColour, maskAt, maskOf, sharesTotal}
+use Rattle.plan.specs.Colours.{coloursAt, maskAt, maskOf, masksFrom, sharesTotal}
 use Rattle.plan.specs.Possible.{planPossible, windowPossible}
 use Rattle.plan.specs.Windows.{ticksTotal}
+use Rattle.plan.proofs.MaskLists.{mask-alike}
 use Rattle.plan.proofs.Possible.{both, counts, declared, parts, undeclared}
 use Rattle.plan.proofs.Sums.{all-below}
 use Rattle.refusal.specs.declared.Verdict.the-variants.{Accepted}
 use Rattle.reader.specs.Draft.{noPlan}
-use Rattle.reader.specs.Final.{finalVerdict, firstColourless, firstUndeclared, lacking, masksFrom, planWithMasks}
+use Rattle.reader.specs.Final.{finalVerdict, firstColourless, firstUndeclared, lacking, planWithMasks}
 use Rattle.written.specs.Shaped.{Shaped}
 use Rattle.written.proofs.Filled.{filled-all, filled-none}
 use Rattle.written.proofs.Progress.{soFar}
@@ -78,7 +79,7 @@ read-all plan shaped possible =
 
 masks-left :
     (plan : Plan) → planPossible plan ≡ true → length (plan .masks) ≡ 8 → (left domain : ℕ) → domain + left ≡ 8 → masksFrom (unmasked plan) left domain ≡ drop domain (plan .masks)
-unfolding masksFrom maskOf firstColour
+unfolding masksFrom
 masks-left plan possible long zero domain all = sym (drop-of-length-le (plan .masks) {i = domain} (omega arith))
 masks-left plan possible long (suc left) domain all =
     ap₂ (λ (mask : ℕ) (rest : List ℕ). mask ∷ rest) (go (ltb domain (plan .domains)) refl) (masks-left plan possible long left (domain + 1) (omega arith))
@@ -86,7 +87,7 @@ masks-left plan possible long (suc left) domain all =
     ∙ sym (drop-cons (plan .masks) domain 0 (omega arith))
   where
     go : (b : Bool) → ltb domain (plan .domains) ≡ b → cond b (maskOf (unmasked plan) domain) 0 ≡ maskAt plan domain
-    go true e = sym (declared plan domain possible (ltb-true domain (plan .domains) e) .mask)
+    go true e = mask-alike (unmasked plan) plan domain refl ∙ sym (declared plan domain possible (ltb-true domain (plan .domains) e) .mask)
     go false e = sym (undeclared plan domain possible (ltb-false domain (plan .domains) e) (omega arith) .mask)
 
 pub masks-kept : (plan : Plan) → Shaped plan → planPossible plan ≡ true → planWithMasks (unmasked plan) ≡ plan

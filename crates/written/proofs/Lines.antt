@@ -9,7 +9,7 @@ use Rattle.forms.specs.declared.Form.{Form}
 use Rattle.forms.specs.declared.Inside.{Inside}
 use Rattle.forms.specs.Forms.{insideWith}
 use Rattle.line.specs.declared.Head.{Head}
-use Rattle.line.specs.declared.Head.the-variants.{Pad as PadWord, Run as RunWord, Domain as DomainWord, Window as WindowWord, Op as OpWord, Refused as NoForm}
+use Rattle.line.specs.declared.Head.the-variants.{Pad as PadWord, Run as RunWord, Domain as DomainWord, Window as WindowWord, Op as OpWord, Refused as RefusedWord}
 use Rattle.line.specs.declared.Line.{Line}
 use Rattle.line.specs.Heads.{headAt, headOf, insideOf}
 use Rattle.line.specs.Lines.{closedLine, formLine, insideLine, lineAt, lineWith, refusedLine, tokenLine}
@@ -43,7 +43,7 @@ headOn word start end =
     (cond (sameBytes word (bytesOf "run")) (RunWord end)
     (cond (sameBytes word (bytesOf "domain")) (DomainWord end)
     (cond (sameBytes word (bytesOf "window")) (WindowWord end)
-    (cond (sameBytes word (bytesOf "op")) (OpWord end) (NoForm (BrokenShape start))))))
+    (cond (sameBytes word (bytesOf "op")) (OpWord end) (RefusedWord (BrokenShape start))))))
 
 head-read :
     (text : List ℕ) (at : ℕ) (word rest : List ℕ)

@@ -1,5 +1,5 @@
--- "12, both ways": the plans that pass the check for 12 are those that the reader gives with 0, 0. One way is that a possible plan's text is read back;
--- the other is the reader's own law, that what it accepts is possible. Assumes nothing.
+-- What 12 means, in both directions: the plans that pass its check are those that the reader gives with 0, 0. One way is that a possible plan's
+-- text is read back; the other is the reader's own law, that what it accepts is possible. Assumes nothing.
 use Prim.Native.Nat.{ℕ}
 use mathlib.Core.Bool.{true}
 use mathlib.Core.List.{List}

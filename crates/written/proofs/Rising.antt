@@ -2,9 +2,14 @@
 use Prim.Native.Nat.{ℕ, zero, suc, _+_, _≤_}
 use native.Mathlib.Omega.{arith}
 use mathlib.Core.Bool.{Bool, true, false}
-use mathlib.Core.List.{_∷_}
+use mathlib.Core.List.{List, [], _∷_}
 use Rattle.plan.specs.Colours.{hasBit}
-use Rattle.written.specs.Lines.{Rising, recipientsOf, risingFrom}
+use Rattle.written.specs.Lines.{recipientsOf, risingFrom}
+
+-- numbers that rise, from a least one on
+abbrev pub Rising : ℕ → List ℕ → Type 0
+Rising least [] = Unit {0}
+Rising least (number ∷ more) = (least ≤ number) × Rising (number + 1) more
 
 rising-from : (rights left domain least : ℕ) → least ≤ domain → Rising least (risingFrom rights left domain)
 unfolding risingFrom

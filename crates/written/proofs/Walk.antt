@@ -19,7 +19,7 @@ use Rattle.written.proofs.Recipients.{Quiet}
 
 -- a draft with no op so far
 abbrev pub draftWith : Plan → List ℕ → Draft
-draftWith plan named = record { plan = plan; ops = replicate 8 0; named = named }
+draftWith plan named = record { plan = plan; counts = replicate 8 0; named = named }
 
 -- these lines are left, the plan so far is this, and reading on from here gives what the whole walk gives
 pub record Stands (text : List ℕ) (whole : Outcome) (total : ℕ) (lines : List (List ℕ)) (plan : Plan) : Type 0 where

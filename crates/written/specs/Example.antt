@@ -1,4 +1,4 @@
--- A plan and its text in the single form, written out. Assumes nothing.
+-- A plan and its text as Lines.antt spells it, written out. Assumes nothing.
 use Prim.Native.String.{String}
 use mathlib.Core.List.{[], _∷_, _++_}
 use lib.ListN.{replicate}
@@ -19,6 +19,7 @@ examplePlan =
       masks = (63 ∷ 960 ∷ 1_024 ∷ []) ++ replicate 5 0;
     }
 
+-- its text
 abbrev pub exampleText : String
 exampleText =
     "(pad 276)\n(domain 0(share 400)(may 1 2))\n(domain 1(share 300)(may))\n(domain 2(share 67)(may 0))\n(window 0(length 400))\n(window 1(length 1000000))\n(window 2(length 5))\n(run 10)"

@@ -1,12 +1,14 @@
--- Request E4, "The plan written back": a plan's text in its single form. Pad, domains, windows, run; one space between two words or numbers and none
--- beside a bracket; shares as read, recipients rising, no leading zeros; one LF between lines and none after the last. Assumes nothing.
-use Prim.Native.Nat.{ℕ, zero, suc, _+_, _≤_}
+-- For document 01's 12, a value that the reader could not give ("The plan text", table of refusals): a text for each plan value, by which it is
+-- shown that every value that passes the check is read from some text. Pad, domains, windows and run, a line for each, in one fixed spelling.
+-- Assumes nothing.
+use Prim.Native.Nat.{ℕ, zero, suc, _+_}
 use mathlib.Core.Bool.{true, false}
 use mathlib.Core.List.{List, [], _∷_, _++_}
 use lib.ListN.{getD}
 use Rattle.lists.specs.Ascii.{bytesOf}
 use Rattle.plan.specs.declared.Plan.{Plan}
 use Rattle.plan.specs.Colours.{hasBit, shareOf}
+use Rattle.plan.specs.Limits.{mostDomains}
 use Rattle.plan.specs.Rights.{rightsAt}
 use Rattle.text.specs.Decimal.{decimalOf}
 
@@ -21,14 +23,9 @@ risingFrom rights (suc left) domain =
       | false ↦ risingFrom rights left (domain + 1)
     ]
 
--- domain numbers are 0 to 7
+-- all of them
 unfoldable pub recipientsOf : ℕ → List ℕ
-recipientsOf rights = risingFrom rights 8 0
-
--- numbers that rise, from a least one on
-abbrev pub Rising : ℕ → List ℕ → Type 0
-Rising least [] = Unit {0}
-Rising least (number ∷ more) = (least ≤ number) × Rising (number + 1) more
+recipientsOf rights = risingFrom rights mostDomains 0
 
 -- numbers, each after one space
 unfoldable pub spaced : List ℕ → List ℕ
@@ -37,9 +34,11 @@ spaced (number ∷ more) = bytesOf " " ++ decimalOf number ++ spaced more
 
 -- ---- the four lines
 
+-- the pad
 unfoldable pub padLine : Plan → List ℕ
 padLine plan = bytesOf "(pad " ++ decimalOf (plan .pad) ++ bytesOf ")"
 
+-- a domain with its share and its recipients
 unfoldable pub domainLine : Plan → ℕ → List ℕ
 domainLine plan domain =
     bytesOf "(domain "
@@ -50,6 +49,7 @@ domainLine plan domain =
     ++ spaced (recipientsOf (rightsAt plan domain))
     ++ bytesOf "))"
 
+-- a window with its domain and its length
 unfoldable pub windowLine : Plan → ℕ → List ℕ
 windowLine plan slot =
     bytesOf "(window "
@@ -58,6 +58,7 @@ windowLine plan slot =
     ++ decimalOf (getD (plan .lengths) slot 0)
     ++ bytesOf "))"
 
+-- the run
 unfoldable pub runLine : Plan → List ℕ
 runLine plan = bytesOf "(run " ++ decimalOf (plan .run) ++ bytesOf ")"
 
@@ -83,5 +84,6 @@ unfoldable pub joined : List (List ℕ) → List ℕ
 joined [] = []
 joined (line ∷ more) = line ++ followed more
 
+-- the text of a plan
 unfoldable pub planText : Plan → List ℕ
 planText plan = joined (planLines plan)

@@ -4,18 +4,19 @@ use mathlib.Core.List.{List}
 use mathlib.Core.Path.{_≡_}
 use lib.ListN.{length}
 use Rattle.plan.specs.declared.Plan.{Plan}
+use Rattle.plan.specs.Limits.{mostDomains, mostWindows}
 use Rattle.refusal.specs.declared.Verdict.the-variants.{Accepted}
 use Rattle.reader.specs.Read.{readOf}
 
--- a plan's arrays have their lengths: 8 places for domains and 32 for windows. So has every plan value of the code.
+-- a plan's arrays have their lengths: a place for each domain, and one for each window, that there can be. So has every plan value of the code.
 pub record Shaped (plan : Plan) : Type 0 where
-  pub shares : length (plan .shares) ≡ 8
-  pub rights : length (plan .rights) ≡ 8
-  pub masks : length (plan .masks) ≡ 8
-  pub owners : length (plan .owners) ≡ 32
-  pub lengths : length (plan .lengths) ≡ 32
+  pub shares : length (plan .shares) ≡ mostDomains
+  pub rights : length (plan .rights) ≡ mostDomains
+  pub masks : length (plan .masks) ≡ mostDomains
+  pub owners : length (plan .owners) ≡ mostWindows
+  pub lengths : length (plan .lengths) ≡ mostWindows
 
--- a plan that the reader gives with 0, 0, from some text into some script store
+-- document 01's *accepted plan* ("Two lists of calls"): some text, read into some script store, gives it and is not refused
 pub record Given (plan : Plan) : Type 0 where
   pub text : List ℕ
   pub scripts : List ℕ

@@ -1,16 +1,24 @@
 -- `plan::checking::masks_possible` meets its contract. Assumes nothing.
 use mathlib.Core.Bool.{true}
-use mathlib.Core.Path.{_∙_, _≡_, refl, sym}
-use Prim.Native.Nat.{_-_, _≤_, ℕ}
+use mathlib.Core.List.{List}
+use mathlib.Core.Path.{_∙_, _≡_, ap, refl, sym}
+use Prim.Native.Nat.{_-_, _<_, _≤_, ℕ}
 use native.Mathlib.Omega.{arith}
 use lib.Dec.{eqb}
 use lib.ListN.{getD}
 use borrow.Author.Tests.{eq-eqb, eqb-true, ne-eqb}
+use Rattle.plan.specs.declared.Plan.{Plan}
+use Rattle.plan.specs.Colours.{maskFor, masksFrom}
 use Rattle.plan.specs.Possible.{maskPossible}
 use Rattle.plan.specs.Sums.{allBelow}
+use Rattle.plan.proofs.MaskLists.{mask-due}
 use Rattle.plan.proofs.Sums.{all-below, all-below-fails, all-below-more, below-all}
 use Rattle.plan.proofs.checking.masks_possible.Statement.{statement}
 use Rattle.plan.proofs.checking.masks_possible.Tie as tie
+
+-- the masks worked out are those due
+due : (masks : List ℕ) (plan : Plan) → masks ≡ masksFrom plan 8 0 → (domain : ℕ) → domain < 8 → getD masks domain 0 ≡ maskFor plan domain
+due masks plan given domain below = ap (λ (those : List ℕ). getD those domain 0) given ∙ mask-due plan domain below
 
 abbrev Inv-loop : tie.InvT-loop
 Inv-loop kept given domain₀ domain = (domain ≤ 8) × (allBelow (λ (place : ℕ). eqb (getD kept place 0) (getD given place 0)) domain ≡ true)
@@ -42,7 +50,7 @@ unfolding maskPossible
 returns c =
     let loop = c .before .before .loop in
     let start = c .before .before .before .before .before in
-    let given = c .before .before .before .masks-of .ensures .1 (loop .domain) (c .before .loop-test .taken) in
+    let given = due _ (start .args .plan) (c .before .before .before .masks-of .ensures) (loop .domain) (c .before .loop-test .taken) in
     all-below-fails _ 8 (loop .domain) (c .before .loop-test .taken) (ne-eqb _ _ (λ same. c .if1 .taken (same ∙ sym given)))
 
 add-domain : tie.Need-add-domain Inv-loop μ-loop
@@ -60,7 +68,7 @@ returns-2 c =
     let loop = c .before .loop in
     let start = c .before .before .before .before in
     let ended : loop .domain ≡ 8 = omega arith in
-    let given = c .before .before .masks-of .ensures .1 in
+    let given = due _ (start .args .plan) (c .before .before .masks-of .ensures) in
     sym (below-all (maskPossible (start .args .plan)) 8 λ place below.
     let same = eqb-true _ _ (all-below _ (loop .domain) place (loop .inv .1) (omega arith)) in
     eq-eqb _ _ (same ∙ given place below))

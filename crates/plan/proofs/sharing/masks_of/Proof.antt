@@ -9,6 +9,7 @@ use lib.ListN.{getD, length, length-set}
 use borrow.Author.Needs.{needs}
 use Rattle.plan.specs.Colours.{coloursOf, firstColour, maskFrom, maskOf}
 use Rattle.plan.specs.Sums.{sumTo}
+use Rattle.plan.proofs.MaskLists.{masks-are}
 use Rattle.plan.proofs.Sums.{filled-more, filled-none, sum-mono, sum-more}
 use Rattle.plan.proofs.sharing.masks_of.Statement.{statement}
 use Rattle.plan.proofs.sharing.masks_of.Tie as tie
@@ -91,7 +92,8 @@ returns c =
     let loop = c .before .loop in
     let start = c .before .before .before .before in
     let ended : loop .i ≡ start .args .plan .domains = omega arith in
-    (loop .inv .3, λ place below. loop .inv .4 place below ∙ ap (λ (n : ℕ). cond (ltb place n) (ruleOf (start .args .plan .shares) place) 0) ended)
+    masks-are (start .args .plan) (loop .masks) (loop .inv .3)
+    (λ place below. loop .inv .4 place below ∙ ap (λ (n : ℕ). cond (ltb place n) (ruleOf (start .args .plan .shares) place) 0) ended)
 
 pub masks-of-spec : {M : Type 1} → statement M
 masks-of-spec =

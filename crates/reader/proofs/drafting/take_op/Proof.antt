@@ -33,14 +33,14 @@ mul-store-2 c = search needs
 element-write-store : tie.Need-element-write-store
 element-write-store c = search needs
 
-add-ops : tie.Need-add-ops
-add-ops c = search needs
+add-counts : tie.Need-add-counts
+add-counts c = search needs
 
-mul-ops : tie.Need-mul-ops
-mul-ops c = search needs
+mul-counts : tie.Need-mul-counts
+mul-counts c = search needs
 
-array-write-ops : tie.Need-array-write-ops
-array-write-ops c = search needs
+array-write-counts : tie.Need-array-write-counts
+array-write-counts c = search needs
 
 returns-2 : tie.Need-returns-2
 unfolding takeOp
@@ -59,7 +59,7 @@ take-op-spec =
     add-store
     mul-store-2
     element-write-store
-    add-ops
-    mul-ops
-    array-write-ops
+    add-counts
+    mul-counts
+    array-write-counts
     returns-2)

@@ -28,6 +28,9 @@ shares-total-requires c κs = search needs
 cast-total : tie.Need-cast-total
 cast-total c = search needs
 
+cast-if3 : tie.Need-cast-if3
+cast-if3 c = search needs
+
 returns-3 : tie.Need-returns-3
 unfolding finalVerdict
 returns-3 c = simp (← (c .before .before .before .before .before .before .is-lacking .ensures), c .before .before .before .before .before .if1 .left, ← (c .before .before .before .first-undeclared .ensures), le-ltb _ _ (c .before .before .if2 .left), ← (c .before .shares-total .ensures), lt-ltb _ _ (c .if3 .taken))
@@ -64,6 +67,7 @@ final-verdict-spec =
     returns-2
     shares-total-requires
     cast-total
+    cast-if3
     returns-3
     first-colourless-requires
     cast-if4

@@ -8,7 +8,7 @@ masks-of-requires : tie.Need-masks-of-requires
 masks-of-requires c κs = search needs
 
 returns : tie.Need-returns
-returns c = masked _ _ (c .masks-of .ensures .0) (c .masks-of .ensures .1)
+returns c = masked _ _ (c .masks-of .ensures)
 
 pub plan-with-masks-spec : {M : Type 1} → statement M
 plan-with-masks-spec = tie.close (tie.spec masks-of-requires returns)

@@ -4,6 +4,9 @@ use borrow.Author.Tests.{le-leb, lt-leb}
 use Rattle.taking.proofs.may.recipient_for.Statement.{statement}
 use Rattle.taking.proofs.may.recipient_for.Tie as tie
 
+cast-if1 : tie.Need-cast-if1
+cast-if1 c = search needs
+
 cast-number : tie.Need-cast-number
 cast-number c = search needs
 
@@ -20,4 +23,4 @@ returns-3 : tie.Need-returns-3
 returns-3 c = simp (lt-leb _ _ (c .if1 .left))
 
 pub recipient-for-spec : {M : Type 1} → statement M
-recipient-for-spec = tie.close (tie.spec cast-number has-bit-requires returns returns-2 returns-3)
+recipient-for-spec = tie.close (tie.spec cast-if1 cast-number has-bit-requires returns returns-2 returns-3)
