@@ -1,7 +1,7 @@
 // The commands that call the entry points of a run, and print what they answer. Each prints its label first, and of each table as much is
 // lent as the example says.
-use crate::bench::Bench;
-use crate::bench::with_state;
+use crate::example::Example;
+use crate::example::with_state;
 use engine::Ending;
 use engine::Progress;
 use engine::asking::log_of;
@@ -22,12 +22,17 @@ use vectors::printing::print_word;
 use vectors::tables::at_most;
 
 // f LABEL: a fresh start.
-pub fn start_command(bench: Bench, line: &[u8], cache: &mut [u16], boxes: &mut [u32]) -> Bench {
+pub fn start_command(
+    example: Example,
+    line: &[u8],
+    cache: &mut [u16],
+    boxes: &mut [u32],
+) -> Example {
     let first: usize = 0;
-    let lent_cache = at_most(bench.cache, cache.len());
-    let lent_boxes = at_most(bench.boxes, boxes.len());
-    let plan = bench.plan;
-    let state = bench.state;
+    let lent_cache = at_most(example.cache, cache.len());
+    let lent_boxes = at_most(example.boxes, boxes.len());
+    let plan = example.plan;
+    let state = example.state;
     print_label(line);
     let started = fresh_start(
         plan,
@@ -39,7 +44,7 @@ pub fn start_command(bench: Bench, line: &[u8], cache: &mut [u16], boxes: &mut [
     print_verdict(verdict);
     print_line_end();
     let left = started.state;
-    with_state(bench, left)
+    with_state(example, left)
 }
 
 // A single step, or a run with a limit.
@@ -87,21 +92,21 @@ pub fn advances(letter: u8) -> bool {
 
 // g LABEL N: run with limit N. s LABEL: a single step.
 pub fn advance_command(
-    bench: Bench,
+    example: Example,
     letter: u8,
     line: &[u8],
     scripts: &[u32],
     cache: &mut [u16],
     boxes: &mut [u32],
     log: &mut [u8],
-) -> Bench {
+) -> Example {
     let first: usize = 0;
-    let lent_scripts = at_most(bench.scripts, scripts.len());
-    let lent_cache = at_most(bench.cache, cache.len());
-    let lent_boxes = at_most(bench.boxes, boxes.len());
-    let lent_log = at_most(bench.log, log.len());
-    let plan = bench.plan;
-    let state = bench.state;
+    let lent_scripts = at_most(example.scripts, scripts.len());
+    let lent_cache = at_most(example.cache, cache.len());
+    let lent_boxes = at_most(example.boxes, boxes.len());
+    let lent_log = at_most(example.log, log.len());
+    let plan = example.plan;
+    let state = example.state;
     let limit = number_in(line, 2);
     print_label(line);
     let progress = advance(
@@ -116,15 +121,15 @@ pub fn advance_command(
     );
     print_progress(progress);
     let left = progress.state;
-    with_state(bench, left)
+    with_state(example, left)
 }
 
 // a LABEL D: ask for the log of domain D. The answer to the second question, then the records that the asking hands back.
-pub fn asking_command(bench: Bench, line: &[u8], log: &[u8]) {
+pub fn asking_command(example: Example, line: &[u8], log: &[u8]) {
     let first: usize = 0;
-    let lent_log = at_most(bench.log, log.len());
-    let plan = bench.plan;
-    let state = bench.state;
+    let lent_log = at_most(example.log, log.len());
+    let plan = example.plan;
+    let state = example.state;
     let domain = word_in(line, 2);
     let lent = &log[first..lent_log];
     print_label(line);

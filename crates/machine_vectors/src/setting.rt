@@ -1,7 +1,7 @@
 // The commands that set what an example works on: how much of a table is lent, the state, the plan, and single numbers of the tables.
-use crate::bench::Bench;
-use crate::bench::with_plan;
-use crate::bench::with_state;
+use crate::example::Example;
+use crate::example::with_plan;
+use crate::example::with_state;
 use plan::Plan;
 use state::State;
 use vectors::lines::half_in;
@@ -25,9 +25,9 @@ pub fn sets_length(letter: u8) -> bool {
 }
 
 // S N, A N, B N, L N: lend so much of the script store, the cache table, the boxes, the log. L also blanks the log.
-pub fn length_command(bench: Bench, letter: u8, line: &[u8], log: &mut [u8]) -> Bench {
+pub fn length_command(example: Example, letter: u8, line: &[u8], log: &mut [u8]) -> Example {
     let length = place_in(line, 1);
-    let mut next = bench;
+    let mut next = example;
     if letter == b'S' {
         next.scripts = length;
         return next;
@@ -72,10 +72,10 @@ fn changed_state(state: State, letter: u8, first: u64, second: u64) -> State {
 }
 
 // W N, C N: the state's windows and clock. P D N, R D N: the script position and the record count of domain D.
-pub fn state_command(bench: Bench, letter: u8, line: &[u8]) -> Bench {
-    let state = bench.state;
+pub fn state_command(example: Example, letter: u8, line: &[u8]) -> Example {
+    let state = example.state;
     with_state(
-        bench,
+        example,
         changed_state(state, letter, number_in(line, 1), number_in(line, 2)),
     )
 }
@@ -135,16 +135,16 @@ fn changed_domain(plan: Plan, field: u64, place: usize, number: u32) -> Plan {
 }
 
 // D FIELD PLACE N: a number of the plan. Fields are counted as the plan declares them: 0 is the pad, 8 the masks.
-pub fn plan_command(bench: Bench, letter: u8, line: &[u8]) -> Bench {
+pub fn plan_command(example: Example, letter: u8, line: &[u8]) -> Example {
     if letter != b'D' {
-        return bench;
+        return example;
     }
     let field = number_in(line, 1);
     let place = place_in(line, 2);
     let number = word_in(line, 3);
-    let plan = bench.plan;
+    let plan = example.plan;
     let timed = changed_timing(plan, field, place, number);
-    with_plan(bench, changed_domain(timed, field, place, number))
+    with_plan(example, changed_domain(timed, field, place, number))
 }
 
 pub fn sets_table(letter: u8) -> bool {

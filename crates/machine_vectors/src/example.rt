@@ -1,9 +1,9 @@
-// What the examples work on: the plan and the state of the example at hand, and how much of each table is lent.
+// The example at hand, beside its tables: its plan and its state, and how much of each table is lent.
 use plan::Plan;
 use state::State;
 use vectors::reading::no_plan;
 
-pub struct Bench {
+pub struct Example {
     pub plan: Plan,
     pub state: State,
     // the numbers or bytes of each table that a call is lent
@@ -23,10 +23,10 @@ fn no_state() -> State {
 }
 
 // Before the first line: tables of the right lengths, and a log of 64 bytes.
-pub fn first_bench() -> Bench {
+pub fn first_example() -> Example {
     let plan = no_plan();
     let state = no_state();
-    Bench {
+    Example {
         plan,
         state,
         scripts: 2_048,
@@ -36,14 +36,14 @@ pub fn first_bench() -> Bench {
     }
 }
 
-pub fn with_plan(bench: Bench, plan: Plan) -> Bench {
-    let mut next = bench;
+pub fn with_plan(example: Example, plan: Plan) -> Example {
+    let mut next = example;
     next.plan = plan;
     next
 }
 
-pub fn with_state(bench: Bench, state: State) -> Bench {
-    let mut next = bench;
+pub fn with_state(example: Example, state: State) -> Example {
+    let mut next = example;
     next.state = state;
     next
 }
