@@ -20,14 +20,20 @@ use vectors::printing::print_records;
 use vectors::printing::print_verdict;
 use vectors::printing::print_word;
 use vectors::tables::at_most;
+ghost use mathlib.Core.Path.{_≡_};
+ghost use Rattle.machine.specs.View.{worldWith};
+ghost use Rattle.engine.specs.Answers.{runWith};
+ghost use Rattle.vectors.specs.Lending.{handedBack};
+ghost use Rattle.machine_vectors.specs.Examples.{withState};
+ghost use Rattle.machine_vectors.specs.Calls.{advanceOf, afterWith, goOn, startOf};
+ghost use Rattle.machine_vectors.specs.Calls.{advances as goesOn};
 
 // f LABEL: a fresh start.
-pub fn start_command(
-    example: Example,
-    line: &[u8],
-    cache: &mut [u16],
-    boxes: &mut [u32],
-) -> Example {
+pub fn start_command(example: Example, line: &[u8], cache: &mut [u16], boxes: &mut [u32]) -> Example
+    ensures { λ r. ⌜ (r ≡ withState example (startOf example (now (cache .entry)) (now (boxes .entry)) .state))
+        × (now (cache .exit) ≡ handedBack (example .cache) (startOf example (now (cache .entry)) (now (boxes .entry)) .cache) (now (cache .entry)))
+        × (now (boxes .exit) ≡ handedBack (example .boxes) (startOf example (now (cache .entry)) (now (boxes .entry)) .boxes) (now (boxes .entry))) ⌝ }
+{
     let first: usize = 0;
     let lent_cache = at_most(example.cache, cache.len());
     let lent_boxes = at_most(example.boxes, boxes.len());
@@ -57,7 +63,10 @@ fn advance(
     boxes: &mut [u32],
     log: &mut [u8],
     limit: u64,
-) -> Progress {
+) -> Progress
+    ensures { λ r. ⌜ runWith r (now (cache .exit)) (now (boxes .exit)) (now (log .exit))
+        ≡ goOn letter plan (now (scripts .entry)) (worldWith state (now (cache .entry)) (now (boxes .entry)) (now (log .entry))) limit ⌝ }
+{
     if letter == b's' {
         return step(plan, scripts, state, cache, boxes, log);
     }
@@ -86,7 +95,9 @@ fn print_progress(progress: Progress) {
     print_line_end();
 }
 
-pub fn advances(letter: u8) -> bool {
+pub fn advances(letter: u8) -> bool
+    ensures { λ r. ⌜ r ≡ goesOn letter ⌝ }
+{
     (letter == b'g') | (letter == b's')
 }
 
@@ -99,7 +110,10 @@ pub fn advance_command(
     cache: &mut [u16],
     boxes: &mut [u32],
     log: &mut [u8],
-) -> Example {
+) -> Example
+    ensures { λ r. ⌜ afterWith r (now (cache .exit)) (now (boxes .exit)) (now (log .exit))
+        ≡ advanceOf example letter (now (line .entry)) (now (scripts .entry)) (now (cache .entry)) (now (boxes .entry)) (now (log .entry)) ⌝ }
+{
     let first: usize = 0;
     let lent_scripts = at_most(example.scripts, scripts.len());
     let lent_cache = at_most(example.cache, cache.len());

@@ -2,6 +2,9 @@
 use plan::Plan;
 use state::State;
 use vectors::reading::no_plan;
+ghost use mathlib.Core.Path.{_≡_};
+ghost use Rattle.state.specs.World.{freshState};
+ghost use Rattle.machine_vectors.specs.Examples.{firstExample, withPlan, withState};
 
 pub struct Example {
     pub plan: Plan,
@@ -13,7 +16,9 @@ pub struct Example {
     pub log: usize,
 }
 
-fn no_state() -> State {
+fn no_state() -> State
+    ensures { λ r. ⌜ r ≡ freshState ⌝ }
+{
     State {
         windows: 0,
         clock: 0,
@@ -23,7 +28,9 @@ fn no_state() -> State {
 }
 
 // Before the first line: tables of the right lengths, and a log of 64 bytes.
-pub fn first_example() -> Example {
+pub fn first_example() -> Example
+    ensures { λ r. ⌜ r ≡ firstExample ⌝ }
+{
     let plan = no_plan();
     let state = no_state();
     Example {
@@ -36,13 +43,17 @@ pub fn first_example() -> Example {
     }
 }
 
-pub fn with_plan(example: Example, plan: Plan) -> Example {
+pub fn with_plan(example: Example, plan: Plan) -> Example
+    ensures { λ r. ⌜ r ≡ withPlan example plan ⌝ }
+{
     let mut next = example;
     next.plan = plan;
     next
 }
 
-pub fn with_state(example: Example, state: State) -> Example {
+pub fn with_state(example: Example, state: State) -> Example
+    ensures { λ r. ⌜ r ≡ withState example state ⌝ }
+{
     let mut next = example;
     next.state = state;
     next

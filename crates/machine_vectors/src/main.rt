@@ -1,5 +1,6 @@
 // machine_vectors: runs outside examples of the machine, written as lines of commands on standard input, and prints what each gives.
 mod calls;
+mod changing;
 mod example;
 mod setting;
 mod showing;
