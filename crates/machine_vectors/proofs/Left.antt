@@ -80,16 +80,18 @@ module _ (example : Example) (letter : ℕ) (line scripts cache boxes log : List
       ≡ advanceOf example letter line scripts cache boxes log
   unfolding advanceOf
   went stored caches boxed logged limited =
+      let own : List ℕ → List ℕ → List ℕ → World = worldWith (example .state) in
       let go : List ℕ → World → ℕ → Run = goOn letter (example .plan) in
-      let world : worldWith (example .state) (first lentCache cache) (first lentBoxes boxes) (first lentLog log)
-      ≡ worldWith (example .state) (lent (example .cache) cache) (lent (example .boxes) boxes) (lent (example .log) log) =
-      ap (λ (l : List ℕ). worldWith (example .state) l (first lentBoxes boxes) (first lentLog log)) (lent-is (example .cache) lentCache cache caches)
-      ∙ ap (λ (l : List ℕ). worldWith (example .state) (lent (example .cache) cache) l (first lentLog log)) (lent-is (example .boxes) lentBoxes boxes boxed)
-      ∙ ap (worldWith (example .state) (lent (example .cache) cache) (lent (example .boxes) boxes)) (lent-is (example .log) lentLog log logged) in
+      let before : World = own (first lentCache cache) (first lentBoxes boxes) (first lentLog log) in
+      let handed : World = own (lent (example .cache) cache) (lent (example .boxes) boxes) (lent (example .log) log) in
+      let world : before ≡ handed =
+      ap (λ (l : List ℕ). own l (first lentBoxes boxes) (first lentLog log)) (lent-is (example .cache) lentCache cache caches)
+      ∙ ap (λ (l : List ℕ). own (lent (example .cache) cache) l (first lentLog log)) (lent-is (example .boxes) lentBoxes boxes boxed)
+      ∙ ap (own (lent (example .cache) cache) (lent (example .boxes) boxes)) (lent-is (example .log) lentLog log logged) in
       ap (ranOn example cache boxes log)
-      (ap (λ (l : List ℕ). go l (worldWith (example .state) (first lentCache cache) (first lentBoxes boxes) (first lentLog log)) limit) (lent-is (example .scripts) lentScripts scripts stored)
+      (ap (λ (l : List ℕ). go l before limit) (lent-is (example .scripts) lentScripts scripts stored)
       ∙ ap (λ (w : World). go (lent (example .scripts) scripts) w limit) world
-      ∙ ap (go (lent (example .scripts) scripts) (worldWith (example .state) (lent (example .cache) cache) (lent (example .boxes) boxes) (lent (example .log) log))) limited)
+      ∙ ap (go (lent (example .scripts) scripts) handed) limited)
 
   pub advance-left :
       (progress : Progress) (leftCache leftBoxes leftLog : List ℕ) (after : Example)

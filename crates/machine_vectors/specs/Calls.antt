@@ -1,5 +1,5 @@
 -- Document 01, "Settled numbers", the test program again: the commands that call the entry points of a run, each on as much of a table as the
--- example lends. What a call answers and leaves is read off the definition of its entry point. Assumes nothing.
+-- example lends. The definition of the entry point gives the answer, and what becomes of the things lent. Assumes nothing.
 use Prim.Native.Nat.{ℕ}
 use mathlib.Core.Bool.{Bool, cond, _||_}
 use mathlib.Core.List.{List}

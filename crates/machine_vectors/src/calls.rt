@@ -31,8 +31,10 @@ ghost use Rattle.machine_vectors.specs.Calls.{advances as goesOn};
 // f LABEL: a fresh start.
 pub fn start_command(example: Example, line: &[u8], cache: &mut [u16], boxes: &mut [u32]) -> Example
     ensures { λ r. ⌜ (r ≡ withState example (startOf example (now (cache .entry)) (now (boxes .entry)) .state))
-        × (now (cache .exit) ≡ handedBack (example .cache) (startOf example (now (cache .entry)) (now (boxes .entry)) .cache) (now (cache .entry)))
-        × (now (boxes .exit) ≡ handedBack (example .boxes) (startOf example (now (cache .entry)) (now (boxes .entry)) .boxes) (now (boxes .entry))) ⌝ }
+        × (now (cache .exit)
+        ≡ handedBack (example .cache) (startOf example (now (cache .entry)) (now (boxes .entry)) .cache) (now (cache .entry)))
+        × (now (boxes .exit)
+        ≡ handedBack (example .boxes) (startOf example (now (cache .entry)) (now (boxes .entry)) .boxes) (now (boxes .entry))) ⌝ }
 {
     let first: usize = 0;
     let lent_cache = at_most(example.cache, cache.len());

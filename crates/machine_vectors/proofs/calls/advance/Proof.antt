@@ -7,7 +7,7 @@ use Rattle.machine_vectors.proofs.calls.advance.Statement.{statement}
 use Rattle.machine_vectors.proofs.calls.advance.Tie as tie
 
 step-requires : tie.Need-step-requires
-step-requires c κs = search needs
+step-requires c κs = tt
 
 same-length : tie.Need-same-length
 same-length c = search needs
@@ -20,10 +20,12 @@ same-length-3 c = search needs
 
 returns : tie.Need-returns
 unfolding goOn
-returns c = c .before .before .before .before .before .before .step .ensures ∙ simp (eq-eqb _ _ (c .before .before .before .before .before .before .before .before .before .before .if1 .taken))
+returns c =
+    let is = c .before .before .before .before .before .before .before .before .before .before .if1 .taken in
+    c .before .before .before .before .before .before .step .ensures ∙ simp (eq-eqb _ _ is)
 
 run-requires : tie.Need-run-requires
-run-requires c κs = search needs
+run-requires c κs = tt
 
 same-length-4 : tie.Need-same-length-4
 same-length-4 c = search needs
@@ -36,7 +38,9 @@ same-length-6 c = search needs
 
 returns-2 : tie.Need-returns-2
 unfolding goOn
-returns-2 c = c .before .before .before .before .before .before .run .ensures ∙ simp (ne-eqb _ _ (c .before .before .before .before .before .before .before .before .before .before .if1 .left))
+returns-2 c =
+    let isnt = c .before .before .before .before .before .before .before .before .before .before .if1 .left in
+    c .before .before .before .before .before .before .run .ensures ∙ simp (ne-eqb _ _ isnt)
 
 pub advance-spec : {M : Type 1} → statement M
 advance-spec =

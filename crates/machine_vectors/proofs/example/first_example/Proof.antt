@@ -5,10 +5,10 @@ use Rattle.machine_vectors.proofs.example.first_example.Statement.{stat
 use Rattle.machine_vectors.proofs.example.first_example.Tie as tie
 
 no-plan-requires : tie.Need-no-plan-requires
-no-plan-requires c κs = search needs
+no-plan-requires c κs = tt
 
 no-state-requires : tie.Need-no-state-requires
-no-state-requires c κs = search needs
+no-state-requires c κs = tt
 
 returns : tie.Need-returns
 unfolding firstExample

@@ -5,31 +5,31 @@ use Rattle.machine_vectors.proofs.setting.changed_plan.Statement.{state
 use Rattle.machine_vectors.proofs.setting.changed_plan.Tie as tie
 
 changed-word-requires : tie.Need-changed-word-requires
-changed-word-requires c κs = search needs
+changed-word-requires c κs = tt
 
 changed-word-requires-2 : tie.Need-changed-word-requires-2
-changed-word-requires-2 c κs = search needs
+changed-word-requires-2 c κs = tt
 
 changed-word-requires-3 : tie.Need-changed-word-requires-3
-changed-word-requires-3 c κs = search needs
+changed-word-requires-3 c κs = tt
 
 changed-word-requires-4 : tie.Need-changed-word-requires-4
-changed-word-requires-4 c κs = search needs
+changed-word-requires-4 c κs = tt
 
 changed-domains-requires : tie.Need-changed-domains-requires
-changed-domains-requires c κs = search needs
+changed-domains-requires c κs = tt
 
 changed-domains-requires-2 : tie.Need-changed-domains-requires-2
-changed-domains-requires-2 c κs = search needs
+changed-domains-requires-2 c κs = tt
 
 changed-windows-requires : tie.Need-changed-windows-requires
-changed-windows-requires c κs = search needs
+changed-windows-requires c κs = tt
 
 changed-windows-requires-2 : tie.Need-changed-windows-requires-2
-changed-windows-requires-2 c κs = search needs
+changed-windows-requires-2 c κs = tt
 
 changed-masks-requires : tie.Need-changed-masks-requires
-changed-masks-requires c κs = search needs
+changed-masks-requires c κs = tt
 
 returns : tie.Need-returns
 unfolding planSet

@@ -5,16 +5,16 @@ use Rattle.machine_vectors.proofs.setting.changed_state.Statement.{stat
 use Rattle.machine_vectors.proofs.setting.changed_state.Tie as tie
 
 changed-count-requires : tie.Need-changed-count-requires
-changed-count-requires c κs = search needs
+changed-count-requires c κs = tt
 
 changed-count-requires-2 : tie.Need-changed-count-requires-2
-changed-count-requires-2 c κs = search needs
+changed-count-requires-2 c κs = tt
 
 changed-counts-requires : tie.Need-changed-counts-requires
-changed-counts-requires c κs = search needs
+changed-counts-requires c κs = tt
 
 changed-counts-requires-2 : tie.Need-changed-counts-requires-2
-changed-counts-requires-2 c κs = search needs
+changed-counts-requires-2 c κs = tt
 
 returns : tie.Need-returns
 unfolding stateSet

@@ -7,13 +7,13 @@ use Rattle.machine_vectors.proofs.setting.length_command.Statement.{sta
 use Rattle.machine_vectors.proofs.setting.length_command.Tie as tie
 
 place-in-requires : tie.Need-place-in-requires
-place-in-requires c κs = search needs
+place-in-requires c κs = tt
 
 with-length-requires : tie.Need-with-length-requires
-with-length-requires c κs = search needs
+with-length-requires c κs = tt
 
 blank-log-requires : tie.Need-blank-log-requires
-blank-log-requires c κs = search needs
+blank-log-requires c κs = tt
 
 same-length : tie.Need-same-length
 same-length c = search needs

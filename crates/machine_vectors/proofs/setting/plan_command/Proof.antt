@@ -11,19 +11,19 @@ unfolding planCommand
 returns c = simp (ne-eqb _ _ (c .if1 .taken))
 
 number-in-requires : tie.Need-number-in-requires
-number-in-requires c κs = search needs
+number-in-requires c κs = tt
 
 place-in-requires : tie.Need-place-in-requires
-place-in-requires c κs = search needs
+place-in-requires c κs = tt
 
 word-in-requires : tie.Need-word-in-requires
-word-in-requires c κs = search needs
+word-in-requires c κs = tt
 
 changed-plan-requires : tie.Need-changed-plan-requires
-changed-plan-requires c κs = search needs
+changed-plan-requires c κs = tt
 
 with-plan-requires : tie.Need-with-plan-requires
-with-plan-requires c κs = search needs
+with-plan-requires c κs = tt
 
 returns-2 : tie.Need-returns-2
 unfolding planCommand

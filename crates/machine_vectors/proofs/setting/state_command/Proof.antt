@@ -5,16 +5,16 @@ use Rattle.machine_vectors.proofs.setting.state_command.Statement.{stat
 use Rattle.machine_vectors.proofs.setting.state_command.Tie as tie
 
 number-in-requires : tie.Need-number-in-requires
-number-in-requires c κs = search needs
+number-in-requires c κs = tt
 
 number-in-requires-2 : tie.Need-number-in-requires-2
-number-in-requires-2 c κs = search needs
+number-in-requires-2 c κs = tt
 
 changed-state-requires : tie.Need-changed-state-requires
-changed-state-requires c κs = search needs
+changed-state-requires c κs = tt
 
 with-state-requires : tie.Need-with-state-requires
-with-state-requires c κs = search needs
+with-state-requires c κs = tt
 
 returns : tie.Need-returns
 returns c =

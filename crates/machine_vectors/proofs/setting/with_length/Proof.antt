@@ -5,16 +5,16 @@ use Rattle.machine_vectors.proofs.setting.with_length.Statement.{statem
 use Rattle.machine_vectors.proofs.setting.with_length.Tie as tie
 
 changed-length-requires : tie.Need-changed-length-requires
-changed-length-requires c κs = search needs
+changed-length-requires c κs = tt
 
 changed-length-requires-2 : tie.Need-changed-length-requires-2
-changed-length-requires-2 c κs = search needs
+changed-length-requires-2 c κs = tt
 
 changed-length-requires-3 : tie.Need-changed-length-requires-3
-changed-length-requires-3 c κs = search needs
+changed-length-requires-3 c κs = tt
 
 changed-length-requires-4 : tie.Need-changed-length-requires-4
-changed-length-requires-4 c κs = search needs
+changed-length-requires-4 c κs = tt
 
 returns : tie.Need-returns
 unfolding lengthSet
