@@ -1,4 +1,4 @@
--- Document 01, "Settled numbers", as above: an example says how much of a table a call is lent, so that a wrong length can be tried too.
+-- Document 01, "Settled numbers", the test program's examples: each says how much of a table a call is lent, so that wrong lengths are tried too.
 -- Assumes nothing.
 use Prim.Native.Nat.{ℕ}
 use mathlib.Core.List.{List, _++_}
