@@ -1,7 +1,7 @@
 // The commands that call the entry points of a run, and print what they answer. Each prints its label first, and of each table as much is
 // lent as the example says.
-use crate::bench::Bench;
-use crate::bench::with_state;
+use crate::example::Example;
+use crate::example::with_state;
 use engine::Ending;
 use engine::Progress;
 use engine::asking::log_of;
@@ -20,14 +20,27 @@ use vectors::printing::print_records;
 use vectors::printing::print_verdict;
 use vectors::printing::print_word;
 use vectors::tables::at_most;
+ghost use mathlib.Core.Path.{_≡_};
+ghost use Rattle.machine.specs.View.{worldWith};
+ghost use Rattle.engine.specs.Answers.{runWith};
+ghost use Rattle.vectors.specs.Lending.{handedBack};
+ghost use Rattle.machine_vectors.specs.Examples.{withState};
+ghost use Rattle.machine_vectors.specs.Calls.{advanceOf, afterWith, goOn, startOf};
+ghost use Rattle.machine_vectors.specs.Calls.{advances as goesOn};
 
 // f LABEL: a fresh start.
-pub fn start_command(bench: Bench, line: &[u8], cache: &mut [u16], boxes: &mut [u32]) -> Bench {
+pub fn start_command(example: Example, line: &[u8], cache: &mut [u16], boxes: &mut [u32]) -> Example
+    ensures { λ r. ⌜ (r ≡ withState example (startOf example (now (cache .entry)) (now (boxes .entry)) .state))
+        × (now (cache .exit)
+        ≡ handedBack (example .cache) (startOf example (now (cache .entry)) (now (boxes .entry)) .cache) (now (cache .entry)))
+        × (now (boxes .exit)
+        ≡ handedBack (example .boxes) (startOf example (now (cache .entry)) (now (boxes .entry)) .boxes) (now (boxes .entry))) ⌝ }
+{
     let first: usize = 0;
-    let lent_cache = at_most(bench.cache, cache.len());
-    let lent_boxes = at_most(bench.boxes, boxes.len());
-    let plan = bench.plan;
-    let state = bench.state;
+    let lent_cache = at_most(example.cache, cache.len());
+    let lent_boxes = at_most(example.boxes, boxes.len());
+    let plan = example.plan;
+    let state = example.state;
     print_label(line);
     let started = fresh_start(
         plan,
@@ -39,7 +52,7 @@ pub fn start_command(bench: Bench, line: &[u8], cache: &mut [u16], boxes: &mut [
     print_verdict(verdict);
     print_line_end();
     let left = started.state;
-    with_state(bench, left)
+    with_state(example, left)
 }
 
 // A single step, or a run with a limit.
@@ -52,7 +65,10 @@ fn advance(
     boxes: &mut [u32],
     log: &mut [u8],
     limit: u64,
-) -> Progress {
+) -> Progress
+    ensures { λ r. ⌜ runWith r (now (cache .exit)) (now (boxes .exit)) (now (log .exit))
+        ≡ goOn letter plan (now (scripts .entry)) (worldWith state (now (cache .entry)) (now (boxes .entry)) (now (log .entry))) limit ⌝ }
+{
     if letter == b's' {
         return step(plan, scripts, state, cache, boxes, log);
     }
@@ -81,27 +97,32 @@ fn print_progress(progress: Progress) {
     print_line_end();
 }
 
-pub fn advances(letter: u8) -> bool {
+pub fn advances(letter: u8) -> bool
+    ensures { λ r. ⌜ r ≡ goesOn letter ⌝ }
+{
     (letter == b'g') | (letter == b's')
 }
 
 // g LABEL N: run with limit N. s LABEL: a single step.
 pub fn advance_command(
-    bench: Bench,
+    example: Example,
     letter: u8,
     line: &[u8],
     scripts: &[u32],
     cache: &mut [u16],
     boxes: &mut [u32],
     log: &mut [u8],
-) -> Bench {
+) -> Example
+    ensures { λ r. ⌜ afterWith r (now (cache .exit)) (now (boxes .exit)) (now (log .exit))
+        ≡ advanceOf example letter (now (line .entry)) (now (scripts .entry)) (now (cache .entry)) (now (boxes .entry)) (now (log .entry)) ⌝ }
+{
     let first: usize = 0;
-    let lent_scripts = at_most(bench.scripts, scripts.len());
-    let lent_cache = at_most(bench.cache, cache.len());
-    let lent_boxes = at_most(bench.boxes, boxes.len());
-    let lent_log = at_most(bench.log, log.len());
-    let plan = bench.plan;
-    let state = bench.state;
+    let lent_scripts = at_most(example.scripts, scripts.len());
+    let lent_cache = at_most(example.cache, cache.len());
+    let lent_boxes = at_most(example.boxes, boxes.len());
+    let lent_log = at_most(example.log, log.len());
+    let plan = example.plan;
+    let state = example.state;
     let limit = number_in(line, 2);
     print_label(line);
     let progress = advance(
@@ -116,15 +137,15 @@ pub fn advance_command(
     );
     print_progress(progress);
     let left = progress.state;
-    with_state(bench, left)
+    with_state(example, left)
 }
 
 // a LABEL D: ask for the log of domain D. The answer to the second question, then the records that the asking hands back.
-pub fn asking_command(bench: Bench, line: &[u8], log: &[u8]) {
+pub fn asking_command(example: Example, line: &[u8], log: &[u8]) {
     let first: usize = 0;
-    let lent_log = at_most(bench.log, log.len());
-    let plan = bench.plan;
-    let state = bench.state;
+    let lent_log = at_most(example.log, log.len());
+    let plan = example.plan;
+    let state = example.state;
     let domain = word_in(line, 2);
     let lent = &log[first..lent_log];
     print_label(line);

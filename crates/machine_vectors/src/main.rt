@@ -1,16 +1,17 @@
 // machine_vectors: runs outside examples of the machine, written as lines of commands on standard input, and prints what each gives.
-mod bench;
 mod calls;
+mod changing;
+mod example;
 mod setting;
 mod showing;
 
-use bench::Bench;
-use bench::first_bench;
-use bench::with_plan;
 use calls::advance_command;
 use calls::advances;
 use calls::asking_command;
 use calls::start_command;
+use example::Example;
+use example::first_example;
+use example::with_plan;
 use libc::STDIN_FILENO;
 use setting::length_command;
 use setting::plan_command;
@@ -22,14 +23,14 @@ use showing::shows_table;
 use showing::table_show_command;
 use vectors::lines::letter_of;
 use vectors::lines::line_end;
-use vectors::lines::past_line;
+use vectors::lines::place_past;
 use vectors::reading::read_command;
 ghost use Prim.Native.Nat.{_≤_};
 
 // Prints what a line asks for, and changes nothing.
-fn show(bench: Bench, letter: u8, line: &[u8], cache: &[u16], boxes: &[u32], log: &[u8]) {
+fn show(example: Example, letter: u8, line: &[u8], cache: &[u16], boxes: &[u32], log: &[u8]) {
     if letter == b'a' {
-        asking_command(bench, line, log);
+        asking_command(example, line, log);
     }
     if shows_table(letter) {
         table_show_command(letter, line, cache, boxes, log);
@@ -38,34 +39,34 @@ fn show(bench: Bench, letter: u8, line: &[u8], cache: &[u16], boxes: &[u32], log
 
 // Does what one line says, with the text just above it; its letter tells what kind of command it is. A letter of no kind is a comment's.
 fn obey(
-    bench: Bench,
+    example: Example,
     text: &[u8],
     line: &[u8],
     scripts: &mut [u32],
     cache: &mut [u16],
     boxes: &mut [u32],
     log: &mut [u8],
-) -> Bench {
+) -> Example {
     let letter = letter_of(line);
     if advances(letter) {
-        return advance_command(bench, letter, line, scripts, cache, boxes, log);
+        return advance_command(example, letter, line, scripts, cache, boxes, log);
     }
     if letter == b'f' {
-        return start_command(bench, line, cache, boxes);
+        return start_command(example, line, cache, boxes);
     }
     if letter == b'r' {
-        let plan = read_command(line, text, scripts, bench.scripts);
-        return with_plan(bench, plan);
+        let plan = read_command(line, text, scripts, example.scripts);
+        return with_plan(example, plan);
     }
     if sets_length(letter) {
-        return length_command(bench, letter, line, log);
+        return length_command(example, letter, line, log);
     }
     if sets_table(letter) {
         table_command(letter, line, scripts, cache, boxes);
-        return bench;
+        return example;
     }
-    show(bench, letter, line, cache, boxes, log);
-    plan_command(state_command(bench, letter, line), letter, line)
+    show(example, letter, line, cache, boxes, log);
+    plan_command(state_command(example, letter, line), letter, line)
 }
 
 // Where the text just above the next line begins; a line whose first byte is a bracket is text.
@@ -88,15 +89,15 @@ fn obey_all(
     boxes: &mut [u32],
     log: &mut [u8],
 ) {
-    let mut bench = first_bench();
+    let mut example = first_example();
     let mut start: usize = 0;
     let mut at: usize = 0;
     while at < input.len() {
         let end = line_end(input, at);
-        let next = past_line(end, input.len());
+        let next = place_past(end, input.len());
         let below = text_start(input[at], start, next);
-        bench = obey(
-            bench,
+        example = obey(
+            example,
             &input[start..at],
             &input[at..end],
             scripts,

@@ -5,8 +5,12 @@ use vectors::printing::print_line_end;
 use vectors::tables::print_some_bytes;
 use vectors::tables::print_some_halves;
 use vectors::tables::print_some_words;
+ghost use mathlib.Core.Path.{_≡_};
+ghost use Rattle.machine_vectors.specs.Calls.{showsTable};
 
-pub fn shows_table(letter: u8) -> bool {
+pub fn shows_table(letter: u8) -> bool
+    ensures { λ r. ⌜ r ≡ showsTable letter ⌝ }
+{
     (letter == b'e') | (letter == b'y') | (letter == b'j')
 }
 

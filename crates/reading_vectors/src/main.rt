@@ -10,14 +10,14 @@ use texts::text_command;
 use texts::writes_text;
 use vectors::lines::letter_of;
 use vectors::lines::line_end;
-use vectors::lines::past_line;
 use vectors::lines::place_in;
+use vectors::lines::place_past;
 use vectors::reading::no_plan;
 use vectors::reading::read_command;
 use vectors::tables::at_most;
 
-// What the examples work on.
-struct Bench {
+// The example at hand, beside its text and the script store.
+struct Example {
     // the plan of the last reading
     plan: Plan,
     // the bytes of the text written so far
@@ -27,18 +27,18 @@ struct Bench {
 }
 
 // Does what one line says; its letter tells what kind of command it is. A letter of no kind is a comment's.
-fn obey(bench: Bench, line: &[u8], text: &mut [u8], scripts: &mut [u32]) -> Bench {
+fn obey(example: Example, line: &[u8], text: &mut [u8], scripts: &mut [u32]) -> Example {
     let letter = letter_of(line);
-    let mut next = bench;
+    let mut next = example;
     if writes_text(letter) {
-        next.text = text_command(letter, line, text, bench.text);
+        next.text = text_command(letter, line, text, example.text);
         return next;
     }
     // the next example's text begins anew
     if letter == b'r' {
         let first: usize = 0;
-        let written = at_most(bench.text, text.len());
-        let plan = read_command(line, &text[first..written], scripts, bench.scripts);
+        let written = at_most(example.text, text.len());
+        let plan = read_command(line, &text[first..written], scripts, example.scripts);
         next.plan = plan;
         next.text = 0;
         return next;
@@ -52,7 +52,7 @@ fn obey(bench: Bench, line: &[u8], text: &mut [u8], scripts: &mut [u32]) -> Benc
         store_show_command(line, scripts);
         return next;
     }
-    let plan = bench.plan;
+    let plan = example.plan;
     plan_show_command(plan, letter, line);
     next
 }
@@ -60,7 +60,7 @@ fn obey(bench: Bench, line: &[u8], text: &mut [u8], scripts: &mut [u32]) -> Benc
 // Does what every line of the input says, in order.
 fn obey_all(input: &[u8], text: &mut [u8], scripts: &mut [u32]) {
     let plan = no_plan();
-    let mut bench = Bench {
+    let mut example = Example {
         plan,
         text: 0,
         scripts: 2_048,
@@ -68,8 +68,8 @@ fn obey_all(input: &[u8], text: &mut [u8], scripts: &mut [u32]) {
     let mut at: usize = 0;
     while at < input.len() {
         let end = line_end(input, at);
-        bench = obey(bench, &input[at..end], text, scripts);
-        at = past_line(end, input.len());
+        example = obey(example, &input[at..end], text, scripts);
+        at = place_past(end, input.len());
     }
 }
 

@@ -4,10 +4,8 @@ use vectors::lines::place_in;
 use vectors::printing::print_label;
 use vectors::printing::print_line_end;
 use vectors::printing::print_number;
-use vectors::tables::print_halves;
+use vectors::tables::print_some_halves;
 use vectors::tables::print_some_words;
-use vectors::tables::print_words;
-use vectors::tables::word;
 
 fn print_counts(plan: Plan) {
     print_number(plan.pad as u64);
@@ -22,21 +20,19 @@ fn print_list(plan: Plan, letter: u8) {
     let rights = plan.rights;
     let masks = plan.masks;
     match letter {
-        b'h' => print_words(&shares),
-        b'i' => print_words(&rights),
-        b'k' => print_halves(&masks),
+        b'h' => print_some_words(&shares, 0, 8),
+        b'i' => print_some_words(&rights, 0, 8),
+        b'k' => print_some_halves(&masks, 0, 8),
         _ => print_counts(plan),
     }
 }
 
-// A window's owner and its length.
+// A window's owner and its length; nothing of a window past the last.
 fn print_window(plan: Plan, window: usize) {
     let owners = plan.owners;
     let lengths = plan.lengths;
-    if window < 32 {
-        print_number(word(owners[window]));
-        print_number(word(lengths[window]));
-    }
+    print_some_words(&owners, window, 1);
+    print_some_words(&lengths, window, 1);
 }
 
 fn shows_list(letter: u8) -> bool {

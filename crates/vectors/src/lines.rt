@@ -1,12 +1,13 @@
 // A line of the input: a letter, then fields with one space before each. The letter is field 0.
 ghost use mathlib.Core.Path.{_≡_};
-ghost use Prim.Native.Nat.{_+_, _≤_, min};
+ghost use Prim.Native.Nat.{_+_, _%_, _≤_, min};
 ghost use lib.ListN.{length};
+ghost use Rattle.vectors.specs.Fields.{digitOf, fieldEnd, fieldOf, fieldStart, letterOf, lineEnd, numberIn, restFrom, spelledAfter, withDigit};
 
 // The end of the line that begins at `at`.
 pub fn line_end(input: &[u8], at: usize) -> usize
     requires { ⌜ at ≤ length (now input) ⌝ }
-    ensures { λ r. ⌜ (at ≤ r) × (r ≤ length (now (input .entry))) ⌝ }
+    ensures { λ r. ⌜ (r ≡ lineEnd (now (input .entry)) at) × (at ≤ r) × (r ≤ length (now (input .entry))) ⌝ }
 {
     let mut end = at;
     while end < input.len() {
@@ -18,43 +19,27 @@ pub fn line_end(input: &[u8], at: usize) -> usize
     end
 }
 
-// Where the next line begins, or the input's end.
-pub fn past_line(end: usize, length: usize) -> usize
+// The place past the byte that ends a line or a field; the length where nothing comes after it.
+pub fn place_past(end: usize, length: usize) -> usize
     ensures { λ r. ⌜ r ≡ min (end + 1) length ⌝ }
 {
     if end < length { end + 1 } else { length }
 }
 
 // A line's letter; a line that has none is a comment.
-pub fn letter_of(line: &[u8]) -> u8 {
+pub fn letter_of(line: &[u8]) -> u8
+    ensures { λ r. ⌜ r ≡ letterOf (now (line .entry)) ⌝ }
+{
     if line.len() == 0 {
         return b'#';
     }
     line[0]
 }
 
-// The offset at which a field begins, or the line's end.
-pub fn field_start(line: &[u8], field: usize) -> usize
-    ensures { λ r. ⌜ r ≤ length (now (line .entry)) ⌝ }
-{
-    let mut left = field;
-    let mut at: usize = 0;
-    while at < line.len() {
-        if left == 0 {
-            return at;
-        }
-        if line[at] == b' ' {
-            left -= 1;
-        }
-        at += 1;
-    }
-    at
-}
-
 // The offset past the field that begins at `start`.
-pub fn field_end(line: &[u8], start: usize) -> usize
+fn field_end(line: &[u8], start: usize) -> usize
     requires { ⌜ start ≤ length (now line) ⌝ }
-    ensures { λ r. ⌜ (start ≤ r) × (r ≤ length (now (line .entry))) ⌝ }
+    ensures { λ r. ⌜ (r ≡ fieldEnd (now (line .entry)) start) × (start ≤ r) × (r ≤ length (now (line .entry))) ⌝ }
 {
     let mut end = start;
     while end < line.len() {
@@ -66,8 +51,38 @@ pub fn field_end(line: &[u8], start: usize) -> usize
     end
 }
 
+// The offset at which a field begins, or the line's end.
+fn field_start(line: &[u8], field: usize) -> usize
+    ensures { λ r. ⌜ (r ≡ fieldStart (now (line .entry)) field) × (r ≤ length (now (line .entry))) ⌝ }
+{
+    let mut start: usize = 0;
+    let mut passed: usize = 0;
+    while passed < field {
+        start = place_past(field_end(line, start), line.len());
+        passed += 1;
+    }
+    start
+}
+
+// The bytes of a field.
+pub fn field_of(line: &[u8], field: usize) -> &[u8]
+    ensures { λ r. ⌜ now r ≡ fieldOf (now (line .entry)) field ⌝ }
+{
+    let start = field_start(line, field);
+    let end = field_end(line, start);
+    &line[start..end]
+}
+
+// A field and all that stands behind it in its line.
+pub fn rest_from(line: &[u8], field: usize) -> &[u8]
+    ensures { λ r. ⌜ now r ≡ restFrom (now (line .entry)) field ⌝ }
+{
+    let start = field_start(line, field);
+    &line[start..]
+}
+
 fn digit_of(byte: u8) -> u64
-    ensures { λ r. ⌜ r ≤ 9 ⌝ }
+    ensures { λ r. ⌜ (r ≡ digitOf byte) × (r ≤ 9) ⌝ }
 {
     if byte < b'0' {
         return 0;
@@ -81,6 +96,7 @@ fn digit_of(byte: u8) -> u64
 // A number with one digit more; the largest number where that is too much.
 fn with_digit(value: u64, digit: u64) -> u64
     requires { ⌜ digit ≤ 9 ⌝ }
+    ensures { λ r. ⌜ r ≡ withDigit value digit ⌝ }
 {
     if value < 1_000_000_000_000_000_000 {
         10 * value + digit
@@ -90,7 +106,9 @@ fn with_digit(value: u64, digit: u64) -> u64
 }
 
 // The number that some digits spell.
-fn value_of(digits: &[u8]) -> u64 {
+fn value_of(digits: &[u8]) -> u64
+    ensures { λ r. ⌜ r ≡ spelledAfter 0 (now (digits .entry)) ⌝ }
+{
     let mut value: u64 = 0;
     let mut at: usize = 0;
     while at < digits.len() {
@@ -101,28 +119,36 @@ fn value_of(digits: &[u8]) -> u64 {
 }
 
 // The number in a field; 0 where the line has no such field.
-pub fn number_in(line: &[u8], field: usize) -> u64 {
-    let start = field_start(line, field);
-    let end = field_end(line, start);
-    value_of(&line[start..end])
+pub fn number_in(line: &[u8], field: usize) -> u64
+    ensures { λ r. ⌜ r ≡ numberIn (now (line .entry)) field ⌝ }
+{
+    value_of(field_of(line, field))
 }
 
 // The same as a place or a length.
-pub fn place_in(line: &[u8], field: usize) -> usize {
+pub fn place_in(line: &[u8], field: usize) -> usize
+    ensures { λ r. ⌜ r ≡ numberIn (now (line .entry)) field ⌝ }
+{
     number_in(line, field) as usize
 }
 
 // The same within 32 bits.
-pub fn word_in(line: &[u8], field: usize) -> u32 {
+pub fn word_in(line: &[u8], field: usize) -> u32
+    ensures { λ r. ⌜ r ≡ numberIn (now (line .entry)) field % 4_294_967_296 ⌝ }
+{
     (number_in(line, field) % 4_294_967_296) as u32
 }
 
 // The same within 16 bits.
-pub fn half_in(line: &[u8], field: usize) -> u16 {
+pub fn half_in(line: &[u8], field: usize) -> u16
+    ensures { λ r. ⌜ r ≡ numberIn (now (line .entry)) field % 65_536 ⌝ }
+{
     (number_in(line, field) % 65_536) as u16
 }
 
 // The same within 8 bits.
-pub fn byte_in(line: &[u8], field: usize) -> u8 {
+pub fn byte_in(line: &[u8], field: usize) -> u8
+    ensures { λ r. ⌜ r ≡ numberIn (now (line .entry)) field % 256 ⌝ }
+{
     (number_in(line, field) % 256) as u8
 }

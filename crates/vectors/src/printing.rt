@@ -1,27 +1,20 @@
 // What an example prints: its label, numbers, verdicts and records.
-use crate::lines::field_end;
-use crate::lines::field_start;
+use crate::lines::field_of;
 use libc::STDOUT_FILENO;
 use refusal::Verdict;
 use refusal::code_of;
 ghost use Prim.Native.Nat.{_+_, _<_, _≤_};
 ghost use lib.ListN.{length};
 
-fn print_field(line: &[u8], field: usize) {
-    let start = field_start(line, field);
-    let end = field_end(line, start);
-    io::write_all(STDOUT_FILENO, &line[start..end]);
-}
-
 // The label of an example: its line's first field.
 pub fn print_label(line: &[u8]) {
-    print_field(line, 1);
+    io::write_all(STDOUT_FILENO, field_of(line, 1));
 }
 
 // One of some words.
 pub fn print_word(words: &[u8], word: usize) {
     io::write_all(STDOUT_FILENO, b" ");
-    print_field(words, word);
+    io::write_all(STDOUT_FILENO, field_of(words, word));
 }
 
 pub fn print_number(number: u64) {

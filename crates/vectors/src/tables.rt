@@ -1,28 +1,34 @@
 // The numbers of a table: as many of them as there are, one set, and some printed.
 use crate::printing::print_number;
-ghost use Prim.Native.Nat.{_≤_};
+ghost use mathlib.Core.Path.{_≡_};
+ghost use Prim.Native.Nat.{min};
+ghost use lib.ListN.{set};
 
 // A number that is no more than `most`.
 pub fn at_most(number: usize, most: usize) -> usize
-    ensures { λ r. ⌜ r ≤ most ⌝ }
+    ensures { λ r. ⌜ r ≡ min number most ⌝ }
 {
     if number < most { number } else { most }
 }
 
 // A number of a table; a place past its end is passed over.
-pub fn set_half(table: &mut [u16], place: usize, number: u16) {
+pub fn set_half(table: &mut [u16], place: usize, number: u16)
+    ensures { λ _. ⌜ now (table .exit) ≡ set (now (table .entry)) place number ⌝ }
+{
     if place < table.len() {
         table[place] = number;
     }
 }
 
-pub fn set_word(table: &mut [u32], place: usize, number: u32) {
+pub fn set_word(table: &mut [u32], place: usize, number: u32)
+    ensures { λ _. ⌜ now (table .exit) ≡ set (now (table .entry)) place number ⌝ }
+{
     if place < table.len() {
         table[place] = number;
     }
 }
 
-pub fn print_words(numbers: &[u32]) {
+fn print_words(numbers: &[u32]) {
     let mut at: usize = 0;
     while at < numbers.len() {
         print_number(word(numbers[at]));
@@ -30,7 +36,7 @@ pub fn print_words(numbers: &[u32]) {
     }
 }
 
-pub fn print_halves(numbers: &[u16]) {
+fn print_halves(numbers: &[u16]) {
     let mut at: usize = 0;
     while at < numbers.len() {
         print_number(half(numbers[at]));
@@ -46,18 +52,25 @@ fn print_bytes(bytes: &[u8]) {
     }
 }
 
-pub fn word(number: u32) -> u64 {
+fn word(number: u32) -> u64
+    ensures { λ r. ⌜ r ≡ number ⌝ }
+{
     number as u64
 }
 
-fn half(number: u16) -> u64 {
+fn half(number: u16) -> u64
+    ensures { λ r. ⌜ r ≡ number ⌝ }
+{
     number as u64
 }
 
-fn byte(number: u8) -> u64 {
+fn byte(number: u8) -> u64
+    ensures { λ r. ⌜ r ≡ number ⌝ }
+{
     number as u64
 }
 
+// The numbers of a table from a place on, so many of them, or as many as there are.
 pub fn print_some_words(table: &[u32], first: usize, count: usize) {
     let from = at_most(first, table.len());
     let to = from + at_most(count, table.len() - from);

@@ -9,14 +9,14 @@ use Rattle.machine_vectors.proofs.obey_all.Statement.{statement}
 use Rattle.machine_vectors.proofs.obey_all.Tie as tie
 
 abbrev Inv-loop : tie.InvT-loop
-Inv-loop input scripts₀ cache₀ boxes₀ log₀ bench₀ start₀ at₀ scripts cache boxes log bench start at =
+Inv-loop input scripts₀ cache₀ boxes₀ log₀ example₀ start₀ at₀ scripts cache boxes log example start at =
     (start ≤ at) × (length scripts ≡ length scripts₀) × (length cache ≡ length cache₀) × (length boxes ≡ length boxes₀) × (length log ≡ length log₀)
 
 abbrev μ-loop : tie.MeasureT-loop
-μ-loop input scripts₀ cache₀ boxes₀ log₀ bench₀ start₀ at₀ scripts cache boxes log bench start at = length input - at
+μ-loop input scripts₀ cache₀ boxes₀ log₀ example₀ start₀ at₀ scripts cache boxes log example start at = length input - at
 
-first-bench-requires : tie.Need-first-bench-requires Inv-loop μ-loop
-first-bench-requires c κs = search needs
+first-example-requires : tie.Need-first-example-requires Inv-loop μ-loop
+first-example-requires c κs = search needs
 
 loop-holds : tie.Need-loop-holds Inv-loop μ-loop
 loop-holds c = search needs
@@ -24,8 +24,8 @@ loop-holds c = search needs
 line-end-requires : tie.Need-line-end-requires Inv-loop μ-loop
 line-end-requires c κs = search needs
 
-past-line-requires : tie.Need-past-line-requires Inv-loop μ-loop
-past-line-requires c κs = search needs
+place-past-requires : tie.Need-place-past-requires Inv-loop μ-loop
+place-past-requires c κs = search needs
 
 shared-slice-read-text-start : tie.Need-shared-slice-read-text-start Inv-loop μ-loop
 shared-slice-read-text-start c = search needs
@@ -85,10 +85,10 @@ obey-all-spec =
     (tie.spec
     Inv-loop
     μ-loop
-    first-bench-requires
+    first-example-requires
     loop-holds
     line-end-requires
-    past-line-requires
+    place-past-requires
     shared-slice-read-text-start
     text-start-requires
     sub-obey

@@ -7,10 +7,10 @@ use Rattle.reading_vectors.proofs.obey_all.Statement.{statement}
 use Rattle.reading_vectors.proofs.obey_all.Tie as tie
 
 abbrev Inv-loop : tie.InvT-loop
-Inv-loop input text₀ scripts₀ bench₀ at₀ text scripts bench at = (length text ≡ length text₀) × (length scripts ≡ length scripts₀)
+Inv-loop input text₀ scripts₀ example₀ at₀ text scripts example at = (length text ≡ length text₀) × (length scripts ≡ length scripts₀)
 
 abbrev μ-loop : tie.MeasureT-loop
-μ-loop input text₀ scripts₀ bench₀ at₀ text scripts bench at = length input - at
+μ-loop input text₀ scripts₀ example₀ at₀ text scripts example at = length input - at
 
 no-plan-requires : tie.Need-no-plan-requires Inv-loop μ-loop
 no-plan-requires c κs = search needs
@@ -33,8 +33,8 @@ part-obey-end c = search needs
 obey-requires : tie.Need-obey-requires Inv-loop μ-loop
 obey-requires c κs = search needs
 
-past-line-requires : tie.Need-past-line-requires Inv-loop μ-loop
-past-line-requires c κs = search needs
+place-past-requires : tie.Need-place-past-requires Inv-loop μ-loop
+place-past-requires c κs = search needs
 
 loop-less : tie.Need-loop-less Inv-loop μ-loop
 loop-less c = search needs
@@ -64,7 +64,7 @@ obey-all-spec =
     part-obey-start
     part-obey-end
     obey-requires
-    past-line-requires
+    place-past-requires
     loop-less
     loop-again
     same-length

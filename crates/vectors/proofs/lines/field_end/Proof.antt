@@ -1,24 +1,33 @@
--- `vectors::lines::field_end` meets its contract. The loop's invariant: the place lies between the start and the line's end. Assumes nothing.
+-- `vectors::lines::field_end` meets its contract. The loop's invariant: the place lies between the start and the line's end,
+-- and the walk goes on from it as it would from the first. Assumes nothing.
 use Prim.Native.Nat.{_-_, _≤_}
+use native.Mathlib.Omega.{arith}
+use mathlib.Core.Path.{_≡_, refl, sym, _∙_}
 use lib.ListN.{length}
 use borrow.Author.Needs.{needs}
+use borrow.Author.Tests.{eq-eqb, ne-eqb}
+use Rattle.text.proofs.Scanning.{scan-here, scan-next, scan-end}
+use Rattle.text.specs.Bytes.{isSpace}
+use Rattle.text.specs.Scan.{scanOf}
 use Rattle.vectors.proofs.lines.field_end.Statement.{statement}
 use Rattle.vectors.proofs.lines.field_end.Tie as tie
 
 abbrev Inv-loop : tie.InvT-loop
-Inv-loop line start end₀ end = (start ≤ end) × (end ≤ length line)
+Inv-loop line start end₀ end = (start ≤ end) × (end ≤ length line) × (scanOf isSpace line end ≡ scanOf isSpace line start)
 
 abbrev μ-loop : tie.MeasureT-loop
 μ-loop line start end₀ end = length line - end
 
 loop-holds : tie.Need-loop-holds Inv-loop μ-loop
-loop-holds c = search needs
+loop-holds c = (search needs, search needs, refl)
 
 shared-slice-read-if1 : tie.Need-shared-slice-read-if1 Inv-loop μ-loop
 shared-slice-read-if1 c = search needs
 
 returns : tie.Need-returns Inv-loop μ-loop
-returns c = search needs
+returns c =
+    let reached = c .before .before .before .loop .inv in
+    (sym (scan-here isSpace _ _ (search needs) (eq-eqb _ _ (c .if1 .taken))) ∙ reached .2, search needs, search needs)
 
 add-end : tie.Need-add-end Inv-loop μ-loop
 add-end c = search needs
@@ -27,10 +36,12 @@ loop-less : tie.Need-loop-less Inv-loop μ-loop
 loop-less c = search needs
 
 loop-again : tie.Need-loop-again Inv-loop μ-loop
-loop-again c = search needs
+loop-again c =
+    let reached = c .before .before .before .loop .inv in
+    (search needs, search needs, scan-next isSpace _ _ (search needs) (ne-eqb _ _ (c .if1 .left)) ∙ reached .2)
 
 returns-2 : tie.Need-returns-2 Inv-loop μ-loop
-returns-2 c = search needs
+returns-2 c = (sym (scan-end isSpace _ _ (search needs)) ∙ c .before .loop .inv .2, search needs, search needs)
 
 pub field-end-spec : {M : Type 1} → statement M
 field-end-spec =

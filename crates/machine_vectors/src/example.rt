@@ -1,0 +1,60 @@
+// The example at hand, beside its tables: its plan and its state, and how much of each table is lent.
+use plan::Plan;
+use state::State;
+use vectors::reading::no_plan;
+ghost use mathlib.Core.Path.{_≡_};
+ghost use Rattle.state.specs.World.{freshState};
+ghost use Rattle.machine_vectors.specs.Examples.{firstExample, withPlan, withState};
+
+pub struct Example {
+    pub plan: Plan,
+    pub state: State,
+    // the numbers or bytes of each table that a call is lent
+    pub scripts: usize,
+    pub cache: usize,
+    pub boxes: usize,
+    pub log: usize,
+}
+
+fn no_state() -> State
+    ensures { λ r. ⌜ r ≡ freshState ⌝ }
+{
+    State {
+        windows: 0,
+        clock: 0,
+        positions: [0; 8],
+        records: [0; 8],
+    }
+}
+
+// Before the first line: tables of the right lengths, and a log of 64 bytes.
+pub fn first_example() -> Example
+    ensures { λ r. ⌜ r ≡ firstExample ⌝ }
+{
+    let plan = no_plan();
+    let state = no_state();
+    Example {
+        plan,
+        state,
+        scripts: 2_048,
+        cache: 272,
+        boxes: 64,
+        log: 64,
+    }
+}
+
+pub fn with_plan(example: Example, plan: Plan) -> Example
+    ensures { λ r. ⌜ r ≡ withPlan example plan ⌝ }
+{
+    let mut next = example;
+    next.plan = plan;
+    next
+}
+
+pub fn with_state(example: Example, state: State) -> Example
+    ensures { λ r. ⌜ r ≡ withState example state ⌝ }
+{
+    let mut next = example;
+    next.state = state;
+    next
+}

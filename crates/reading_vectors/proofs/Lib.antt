@@ -1,0 +1,2 @@
+-- The laws on the text of an example that the proofs cite.
+pub mod Behind

@@ -1,0 +1,19 @@
+-- `vectors::lines::number_in` meets its contract. Assumes nothing.
+use mathlib.Core.Path.{ap, _∙_}
+use Rattle.vectors.specs.Fields.{numberIn, spelledAfter}
+use borrow.Author.Needs.{needs}
+use Rattle.vectors.proofs.lines.number_in.Statement.{statement}
+use Rattle.vectors.proofs.lines.number_in.Tie as tie
+
+field-of-requires : tie.Need-field-of-requires
+field-of-requires c κs = search needs
+
+value-of-requires : tie.Need-value-of-requires
+value-of-requires c κs = search needs
+
+returns : tie.Need-returns
+unfolding numberIn
+returns c = c .value-of .ensures ∙ ap (spelledAfter 0) (c .before .field-of .ensures)
+
+pub number-in-spec : {M : Type 1} → statement M
+number-in-spec = tie.close (tie.spec field-of-requires value-of-requires returns)
