@@ -6,6 +6,7 @@ use Prim.Native.Nat.{ℕ, _≤_}
 use lib.ListN.{length, replicate}
 use Rattle.plan.specs.declared.Plan.{Plan}
 use Rattle.plan.specs.Possible.{planPossible}
+use Rattle.script.specs.Limits.{scriptsLength}
 use Rattle.records.specs.Records.{partRecords}
 use Rattle.state.specs.declared.State.{State}
 use Rattle.state.specs.Impossible.{statePossible}
@@ -19,7 +20,7 @@ use Rattle.refusal.specs.declared.Verdict.{Verdict}
 use Rattle.refusal.specs.declared.Verdict.the-variants.{Accepted, Refused}
 use Rattle.engine.specs.Answers.{freshWith}
 use Rattle.engine.specs.declared.Ending.the-variants.{Ended}
-use Rattle.engine.specs.Checks.{freshVerdict, runVerdict, scriptsLength}
+use Rattle.engine.specs.Checks.{freshVerdict, runVerdict}
 use Rattle.machine.specs.Fresh.{freshWorld}
 use Rattle.engine.specs.FreshStart.{Fresh, freshFrom, freshStartOf}
 use Rattle.engine.specs.Running.{endingOf, ranFrom, runCallOf, runFrom}

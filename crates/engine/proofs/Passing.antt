@@ -7,6 +7,7 @@ use lib.ListN.{length}
 use borrow.Author.Tests.{eq-eqb, lt-ltb}
 use Rattle.plan.specs.declared.Plan.{Plan}
 use Rattle.plan.specs.Possible.{planPossible}
+use Rattle.script.specs.Limits.{scriptsLength}
 use Rattle.cache.specs.Lines.{tableLength}
 use Rattle.records.specs.Records.{partRecords}
 use Rattle.ops.specs.Ops.{boxesLength}
@@ -16,7 +17,7 @@ use Rattle.state.specs.Impossible.{statePossible}
 use Rattle.state.specs.World.{World}
 use Rattle.refusal.specs.declared.Verdict.the-variants.{Accepted}
 use Rattle.engine.specs.Asking.{logRefusalOf}
-use Rattle.engine.specs.Checks.{logVerdict, runVerdict, scriptsLength, stateVerdict}
+use Rattle.engine.specs.Checks.{logVerdict, runVerdict, stateVerdict}
 
 -- a state
 pub state-passes : (plan : Plan) (state : State) (logLength : ℕ)

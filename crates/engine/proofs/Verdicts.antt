@@ -11,6 +11,7 @@ use borrow.Author.Tests.{eqb-true, leb-true, lt-ltb, ltb-true}
 use Rattle.lists.specs.Part.{part}
 use Rattle.plan.specs.declared.Plan.{Plan}
 use Rattle.plan.specs.Possible.{planPossible}
+use Rattle.script.specs.Limits.{scriptsLength}
 use Rattle.state.specs.declared.State.{State}
 use Rattle.state.specs.Damage.{tablesSound}
 use Rattle.plan.proofs.Possible.{counts}
@@ -32,7 +33,7 @@ use Rattle.engine.specs.declared.Ending.the-variants.{Stopped}
 use Rattle.engine.specs.Running.{endingOf, ranFrom, runCallOf, runFrom}
 use Rattle.engine.specs.Asking.{logCallOf, logFrom}
 use Rattle.engine.specs.FreshStart.{freshFrom, freshStartOf}
-use Rattle.engine.specs.Checks.{declaredVerdict, freshVerdict, logVerdict, runVerdict, scriptsLength, stateVerdict, tablesFit, unless}
+use Rattle.engine.specs.Checks.{declaredVerdict, freshVerdict, logVerdict, runVerdict, stateVerdict, tablesFit, unless}
 
 -- acceptance is no refusal
 pub not-refused : (refusal : Refusal) → Refused refusal ≡ Accepted → ⊥

@@ -5,22 +5,11 @@ use cache::flush::empty;
 use plan::Plan;
 use refusal::Verdict;
 use state::State;
+use state::fresh_state;
 ghost use mathlib.Core.Path.{_≡_};
 ghost use lib.ListN.{length, replicate};
-ghost use Rattle.state.specs.World.{freshState};
 ghost use Rattle.engine.specs.Answers.{freshWith};
 ghost use Rattle.engine.specs.FreshStart.{freshStartOf};
-
-fn fresh_state() -> State
-    ensures { λ r. ⌜ r ≡ freshState ⌝ }
-{
-    State {
-        windows: 0,
-        clock: 0,
-        positions: [0; 8],
-        records: [0; 8],
-    }
-}
 
 // Empties every box.
 fn clear_boxes(boxes: &mut [u32])

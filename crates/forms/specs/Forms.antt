@@ -15,7 +15,7 @@ use Rattle.taking.specs.Ops.{opHeadAt, opNumbers, thenOp}
 use Rattle.taking.specs.Recipients.{recipientsAt}
 use Rattle.taking.specs.Tokens.{passClose, passOpen, passWord, takeNumber, then, thenNumber}
 use Rattle.forms.specs.declared.Form.{Form}
-use Rattle.forms.specs.declared.Form.the-variants.{Blank, Pad, Run, Domain, Window, Op as Script, Refused as RefusedForm}
+use Rattle.forms.specs.declared.Form.the-variants.{Pad, Run, Domain, Window, Op as Script, Refused as RefusedForm}
 use Rattle.forms.specs.declared.Inside.{Inside}
 
 -- a refused form; where it was reached no longer matters

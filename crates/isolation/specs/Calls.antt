@@ -8,12 +8,12 @@ use mathlib.Core.Path.{_≡_}
 use lib.Dec.{eqb}
 use lib.ListN.{length}
 use Rattle.plan.specs.declared.Plan.{Plan}
+use Rattle.script.specs.Limits.{scriptsLength}
 use Rattle.state.specs.declared.State.{State}
 use Rattle.state.specs.World.{World}
 use Rattle.refusal.specs.declared.Verdict.{Verdict}
 use Rattle.refusal.specs.Code.{codeOf}
 use Rattle.engine.specs.Asking.{logRefusalOf}
-use Rattle.engine.specs.Checks.{scriptsLength}
 use Rattle.engine.specs.FreshStart.{Fresh, freshStartOf}
 use Rattle.engine.specs.Running.{Run, runCallOf, stepCallOf}
 

@@ -5,7 +5,6 @@ use mathlib.Core.List.{List, _++_, append-nil}
 use mathlib.Core.Path.{_≡_, ap, _∙_}
 use lib.ListN.{drop, length, length-append, length-drop, length-replicate, replicate, take}
 use lib.Seq.{drop-length}
-use Rattle.plan.specs.declared.Plan.{Plan}
 use Rattle.refusal.specs.declared.Verdict.{Verdict}
 use Rattle.state.specs.declared.State.{State}
 use Rattle.state.specs.World.{World}

@@ -9,7 +9,7 @@ use Rattle.plan.specs.declared.Plan.{Plan}
 use Rattle.state.specs.declared.State.{State}
 use Rattle.vectors.specs.Fields.{numberIn}
 use Rattle.machine_vectors.specs.declared.example.Example.{Example}
-use Rattle.machine_vectors.specs.Examples.{withPlan, withState}
+use Rattle.machine_vectors.specs.Examples.{withPlan}
 
 -- a number in place of the one before, where it is the one meant
 abbrev pub changed : Bool → ℕ → ℕ → ℕ

@@ -1,9 +1,9 @@
 // The example at hand, beside its tables: its plan and its state, and how much of each table is lent.
 use plan::Plan;
+use plan::no_plan;
 use state::State;
-use vectors::reading::no_plan;
+use state::fresh_state;
 ghost use mathlib.Core.Path.{_≡_};
-ghost use Rattle.state.specs.World.{freshState};
 ghost use Rattle.machine_vectors.specs.Examples.{firstExample, withPlan, withState};
 
 pub struct Example {
@@ -16,23 +16,12 @@ pub struct Example {
     pub log: usize,
 }
 
-fn no_state() -> State
-    ensures { λ r. ⌜ r ≡ freshState ⌝ }
-{
-    State {
-        windows: 0,
-        clock: 0,
-        positions: [0; 8],
-        records: [0; 8],
-    }
-}
-
 // Before the first line: tables of the right lengths, and a log of 64 bytes.
 pub fn first_example() -> Example
     ensures { λ r. ⌜ r ≡ firstExample ⌝ }
 {
     let plan = no_plan();
-    let state = no_state();
+    let state = fresh_state();
     Example {
         plan,
         state,

@@ -11,7 +11,7 @@ use Rattle.plan.proofs.Masks.{mask-most}
 use Rattle.plan.proofs.Sums.{below-all}
 use Rattle.state.specs.declared.State.{State}
 use Rattle.state.specs.World.{World}
-use Rattle.reader.specs.Draft.{noPlan}
+use Rattle.plan.specs.Zeros.{noPlan}
 use Rattle.engine.specs.FreshStart.{freshStartOf}
 use Rattle.engine.specs.Checks.{freshVerdict}
 use Rattle.engine.specs.Running.{runCallOf}

@@ -6,14 +6,17 @@ use mathlib.Core.List.{List}
 use Prim.Native.Nat.{ℕ, zero, suc, _+_}
 use lib.Dec.{eqb, ltb}
 use lib.ListN.{length}
+use Rattle.plan.specs.Zeros.{noPlan}
+use Rattle.plan.specs.Colours.{masksFrom}
 use Rattle.plan.specs.declared.Plan.{Plan}
+use Rattle.script.specs.Limits.{scriptsLength}
 use Rattle.refusal.specs.declared.Refusal.{Refusal}
 use Rattle.refusal.specs.declared.Refusal.the-variants.{TextTooLong, WrongLength}
 use Rattle.refusal.specs.declared.Verdict.{Verdict}
 use Rattle.refusal.specs.declared.Verdict.the-variants.{Accepted, Refused}
 use Rattle.reader.specs.declared.Draft.{Draft}
-use Rattle.reader.specs.Draft.{Outcome, kept, noDraft, noOps, noPlan, refused, storeLength}
-use Rattle.reader.specs.Final.{finalVerdict, masksFrom, planWithMasks}
+use Rattle.reader.specs.Draft.{Outcome, kept, noDraft, noOps, refused}
+use Rattle.reader.specs.Final.{finalVerdict, planWithMasks}
 use Rattle.reader.specs.Read.{Read, finished, judged, readOf, refusedRead, walkFrom}
 use Rattle.reader.proofs.GoodDraft.{GoodDraft, GoodOutcome, draft-first}
 use Rattle.reader.proofs.Walking.{walk-good}
@@ -54,7 +57,7 @@ finished-long size textLength (kept draft store) scripts good = judged-long (fin
 -- every reading, refused or not, gives a plan whose arrays have their lengths
 pub read-long : (text scripts : List ℕ) → PlanLengths (readOf text scripts .plan)
 unfolding readOf
-read-long text scripts = by-length (eqb (length scripts) storeLength)
+read-long text scripts = by-length (eqb (length scripts) scriptsLength)
   where
     walked : Read
     walked = finished (length text) (walkFrom (length text) text 0 noDraft noOps) scripts

@@ -7,7 +7,7 @@ use lib.ListN.{getD}
 use Rattle.plan.specs.declared.Plan.{Plan}
 use Rattle.plan.specs.Sums.{allBelow}
 use Rattle.state.specs.declared.State.{State}
-use Rattle.reader.specs.Draft.{noPlan}
+use Rattle.plan.specs.Zeros.{noPlan}
 
 -- the `count` numbers of a list from the place `first` on; past the list's end they are 0
 unfoldable pub numbersFrom : List ℕ → ℕ → ℕ → List ℕ

@@ -1,14 +1,14 @@
 -- The bits of a mask: those of a run of ones, and none past a number's highest. Assumes nothing.
-use mathlib.Core.Path.{_≡_, refl, sym, ap, _∙_, subst}
-use mathlib.Core.Bool.{Bool, true, false, true≢false, false≢true}
-use Prim.Native.Nat.{ℕ, zero, suc, _+_, _*_, _-_, _/_, _%_, _^_, _≤_, _<_}
+use mathlib.Core.Path.{_≡_, refl, sym, ap, _∙_}
+use mathlib.Core.Bool.{Bool, true, false}
+use Prim.Native.Nat.{ℕ, suc, _+_, _*_, _-_, _/_, _%_, _^_, _≤_, _<_}
 use native.Mathlib.Nat.{add-zero, div-eq-of-lt, lt-of-lt-of-le, mul-assoc, one-mul}
 use native.Mathlib.Omega.{arith}
 use lib.Bits.{shifted-even}
 use lib.Count.{ones, ones-cat, ones-ones}
-use lib.Dec.{eqb, ltb}
+use lib.Dec.{ltb}
 use lib.Pow.{ones-lt, pow-add, pow-mono, pow-pos, shl-exact, shl-lt, shl-shr}
-use borrow.Author.Tests.{eqb-true, le-ltb, lt-ltb, ltb-false, ltb-true, ne-eqb}
+use borrow.Author.Tests.{eqb-true, ltb-false, ltb-true}
 use Rattle.plan.specs.Colours.{hasBit, maskFrom}
 
 -- a number has no bit at or past its width

@@ -1,19 +1,19 @@
 -- The masks of a possible plan: disjoint, within colours 0 to 14, laid from colour 0 upwards, with as many ones as the share gives colours.
 -- Everything above cites these laws and never the rule from shares to colours. Assumes nothing.
-use mathlib.Core.Path.{_≡_, refl, sym, ap, _∙_}
+use mathlib.Core.Path.{_≡_, refl, ap, _∙_}
 use mathlib.Core.Bool.{Bool, true, false}
-use Prim.Native.Nat.{ℕ, suc, _+_, _≤_, _<_}
+use Prim.Native.Nat.{ℕ, suc, _≤_, _<_}
 use native.Mathlib.Omega.{arith}
 use lib.Count.{ones}
 use lib.Dec.{ltb}
 use borrow.Author.Tests.{ltb-true, ltb-false}
 use Rattle.plan.specs.declared.Plan.{Plan}
-use Rattle.plan.specs.Colours.{coloursAt, firstColour, hasBit, holdingOf, maskAt, maskOf, ownsColour}
+use Rattle.plan.specs.Colours.{coloursAt, firstColour, holdingOf, maskAt, maskOf, ownsColour}
 use Rattle.plan.specs.Possible.{planPossible}
 use Rattle.plan.specs.Rights.{maySend, rightsAt}
 use Rattle.plan.specs.Sums.{sumTo}
 use Rattle.plan.proofs.Bits.{mask-bits, mask-fits, mask-ones, no-high-bit, zero-no-bit}
-use Rattle.plan.proofs.Possible.{counts, declared, parts, undeclared}
+use Rattle.plan.proofs.Possible.{declared, parts, undeclared}
 use Rattle.plan.proofs.Shares.{colours-at-most}
 use Rattle.plan.proofs.Sums.{sum-mono}
 

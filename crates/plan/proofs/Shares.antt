@@ -1,6 +1,5 @@
 -- The rule from shares to colours: shares of at most 1,000 together give at most 15 colours together. Assumes nothing.
-use mathlib.Core.Path.{_≡_}
-use Prim.Native.Nat.{ℕ, zero, suc, _+_, _*_, _≤_}
+use Prim.Native.Nat.{ℕ, zero, suc, _*_, _≤_}
 use native.Mathlib.Omega.{arith}
 use Rattle.plan.specs.declared.Plan.{Plan}
 use Rattle.plan.specs.Colours.{coloursAt, coloursOf, firstColour, shareOf, sharesTotal}

@@ -1,6 +1,6 @@
 -- The windows of a possible plan: their owners and lengths, and their starts in closed form. Assumes nothing.
-use mathlib.Core.Path.{_≡_, refl, sym, ap, _∙_}
-use mathlib.Core.Bool.{Bool, true}
+use mathlib.Core.Path.{_≡_, sym, ap, _∙_}
+use mathlib.Core.Bool.{true}
 use Prim.Native.Nat.{ℕ, zero, suc, _+_, _*_, _-_, _/_, _%_, _≤_, _<_}
 use native.Mathlib.Nat.{add-suc, add-zero, div-add-mod', mod-lt, mod-eq-of-lt, mul-add-mod-self-right, suc-mul, zero-mul}
 use native.Mathlib.Omega.{arith}
@@ -8,7 +8,7 @@ use lib.ListN.{getD}
 use Rattle.plan.specs.declared.Plan.{Plan}
 use Rattle.plan.specs.Possible.{planPossible}
 use Rattle.plan.specs.Sums.{sumTo}
-use Rattle.plan.specs.Windows.{endOf, lengthOf, ownerOf, paddedLength, slotOf, startOf, ticksTotal, windowsTotal}
+use Rattle.plan.specs.Windows.{lengthOf, ownerOf, paddedLength, slotOf, startOf, ticksTotal, windowsTotal}
 use Rattle.plan.proofs.Possible.{counts, declared-window, parts}
 use Rattle.plan.proofs.Sums.{sum-most}
 

@@ -1,6 +1,6 @@
 -- Document 01, "Two lists of calls", 12: the plan values that the reader could give, and none besides: the one of zeros alone is no such value.
 -- The limits stand in Limits.antt. Assumes nothing.
-use Prim.Native.Nat.{ℕ, _+_, _-_, _^_}
+use Prim.Native.Nat.{ℕ, _^_}
 use mathlib.Core.Bool.{Bool, cond, not, _&&_}
 use lib.Dec.{eqb, leb, ltb}
 use lib.ListN.{getD}

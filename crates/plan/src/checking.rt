@@ -26,7 +26,7 @@ ghost use lib.Dec.{ltb};
 ghost use lib.ListN.{getD};
 ghost use Rattle.plan.specs.Colours.{firstColour};
 ghost use Rattle.plan.specs.Possible.{countsPossible, declaredPossible, domainPossible, maskPossible};
-ghost use Rattle.plan.specs.Possible.{planPossible, undeclaredPossible, windowPossible, within};
+ghost use Rattle.plan.specs.Possible.{planPossible, windowPossible, within};
 ghost use Rattle.plan.specs.Sums.{allBelow};
 
 // Whether a number is within limits, both included.

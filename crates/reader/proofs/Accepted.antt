@@ -14,6 +14,7 @@ use Rattle.plan.specs.declared.Plan.{Plan}
 use Rattle.plan.specs.Colours.{coloursAt, sharesTotal}
 use Rattle.plan.specs.Possible.{countsPossible, declaredPossible, domainPossible, maskPossible, planPossible, undeclaredPossible, windowPossible, within}
 use Rattle.plan.specs.Windows.{ticksTotal}
+use Rattle.script.specs.Limits.{scriptsLength}
 use Rattle.refusal.specs.declared.Refusal.{Refusal}
 use Rattle.refusal.specs.declared.Refusal.the-variants.{TextTooLong, WrongLength}
 use Rattle.refusal.specs.declared.Verdict.{Verdict}
@@ -25,7 +26,7 @@ use Rattle.reader.proofs.HighBits.{high-off}
 use Rattle.reader.proofs.LastChecks.{Passes, coloured-each, passes, undeclared-none}
 use Rattle.reader.proofs.Walking.{walk-good}
 use Rattle.reader.specs.declared.Draft.{Draft}
-use Rattle.reader.specs.Draft.{Outcome, kept, noDraft, noOps, refused, storeLength}
+use Rattle.reader.specs.Draft.{Outcome, kept, noDraft, noOps, refused}
 use Rattle.reader.specs.Final.{finalVerdict, lacking, planWithMasks}
 use Rattle.reader.specs.Read.{Read, finished, judged, readOf, refusedRead, walkFrom}
 
@@ -153,12 +154,12 @@ finished-possible size textLength (kept draft store) scripts good e =
 -- what holds of every refusal, and of what comes after the last line, holds of a reading
 read-holds : (Holds : Read → Type 0) (text scripts : List ℕ)
     → ((why : Refusal) → Holds (refusedRead why scripts))
-    → (length scripts ≡ storeLength → Holds (finished (length text) (walkFrom (length text) text 0 noDraft noOps) scripts))
+    → (length scripts ≡ scriptsLength → Holds (finished (length text) (walkFrom (length text) text 0 noDraft noOps) scripts))
     → Holds (readOf text scripts)
 unfolding readOf
-read-holds Holds text scripts broken walked = by-length (eqb (length scripts) storeLength) refl
+read-holds Holds text scripts broken walked = by-length (eqb (length scripts) scriptsLength) refl
   where
-    by-size : (long : Bool) → length scripts ≡ storeLength
+    by-size : (long : Bool) → length scripts ≡ scriptsLength
         → Holds (elim long as (λ _. Read) [
           | true ↦ refusedRead TextTooLong scripts
           | false ↦ finished (length text) (walkFrom (length text) text 0 noDraft noOps) scripts
@@ -166,7 +167,7 @@ read-holds Holds text scripts broken walked = by-length (eqb (length scripts) st
     by-size true fit = broken TextTooLong
     by-size false fit = walked fit
 
-    by-length : (fits : Bool) → eqb (length scripts) storeLength ≡ fits
+    by-length : (fits : Bool) → eqb (length scripts) scriptsLength ≡ fits
         → Holds (elim fits as (λ _. Read) [
           | false ↦ refusedRead WrongLength scripts
           | true ↦
@@ -202,8 +203,8 @@ read-store text scripts =
     by-verdict Accepted draft store same = same
     by-verdict (Refused why) draft store same = refl
 
-    stored : (outcome : Outcome) → GoodOutcome (length noOps) outcome → length scripts ≡ storeLength
+    stored : (outcome : Outcome) → GoodOutcome (length noOps) outcome → length scripts ≡ scriptsLength
         → length (finished (length text) outcome scripts .scripts) ≡ length scripts
     stored (refused why) good fit = refl
     stored (kept draft store) good fit =
-        by-verdict (finalVerdict (length text) draft) draft store (good .1 ∙ length-replicate {A = ℕ} storeLength 0 ∙ sym fit)
+        by-verdict (finalVerdict (length text) draft) draft store (good .1 ∙ length-replicate {A = ℕ} scriptsLength 0 ∙ sym fit)

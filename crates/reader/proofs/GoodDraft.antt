@@ -9,6 +9,7 @@ use lib.Dec.{eqb, leb, ltb}
 use lib.ListN.{length, getD, length-set, replicate, set, getD-replicate, length-replicate, List·getD-eq-default}
 use lib.Seq.{getD-set-other, getD-set-same}
 use borrow.Author.Tests.{leb-false, ltb-false, ltb-true}
+use Rattle.plan.specs.Zeros.{noPlan}
 use Rattle.forms.proofs.GoodForm.{GoodForm}
 use Rattle.forms.specs.declared.DomainLine.{DomainLine}
 use Rattle.forms.specs.declared.Form.{Form}
@@ -24,7 +25,7 @@ use Rattle.taking.proofs.Choices.{same-or-not}
 use Rattle.taking.proofs.GoodList.{Noted, Recorded}
 use Rattle.text.proofs.Reached.{cond-holds}
 use Rattle.reader.specs.declared.Draft.{Draft}
-use Rattle.reader.specs.Draft.{Outcome, kept, noDraft, noPlan, planWithDomain, planWithPad, planWithRun, planWithWindow, refused, takeDomain, takeForm, takeLine, takeOp, takePad, takeRun, takeWindow, withPlan}
+use Rattle.reader.specs.Draft.{Outcome, kept, noDraft, planWithDomain, planWithPad, planWithRun, planWithWindow, refused, takeDomain, takeForm, takeLine, takeOp, takePad, takeRun, takeWindow, withPlan}
 
 -- ---- domains
 

@@ -4,6 +4,7 @@ use mathlib.Core.List.{List}
 use mathlib.Core.Path.{_≡_, sym, subst, ap, _∙_}
 use lib.ListN.{length}
 use borrow.Author.Tests.{eq-eqb, le-ltb, lt-ltb, ne-eqb}
+use Rattle.plan.specs.Zeros.{noPlan}
 use Rattle.plan.specs.declared.Plan.{Plan}
 use Rattle.refusal.specs.declared.Refusal.{Refusal}
 use Rattle.refusal.specs.declared.Refusal.the-variants.{TextTooLong, WrongLength}
@@ -12,7 +13,7 @@ use Rattle.refusal.specs.declared.Verdict.the-variants.{Accepted, Refused}
 use Rattle.reader.proofs.GoodDraft.{GoodDraft, GoodOutcome, draft-first}
 use Rattle.reader.proofs.Walking.{walk-good}
 use Rattle.reader.specs.declared.Draft.{Draft}
-use Rattle.reader.specs.Draft.{kept, noDraft, noOps, noPlan, outcomeWith}
+use Rattle.reader.specs.Draft.{kept, noDraft, noOps, outcomeWith}
 use Rattle.reader.specs.Final.{finalVerdict, planWithMasks}
 use Rattle.reader.specs.Read.{Read, finished, judged, readOf, refusedRead, walkFrom}
 

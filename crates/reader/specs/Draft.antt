@@ -1,6 +1,6 @@
 -- Document 01, "The plan text": what a good line adds to the plan and the scripts; at a line's end 5 and 10. Assumes nothing.
 use Prim.Native.Nat.{ℕ, _+_, _*_}
-use mathlib.Core.Bool.{Bool, true, false, cond}
+use mathlib.Core.Bool.{cond}
 use mathlib.Core.List.{List}
 use lib.Dec.{eqb, leb}
 use lib.ListN.{getD, replicate, set}
@@ -12,13 +12,12 @@ use Rattle.forms.specs.declared.WindowLine.{WindowLine}
 use Rattle.line.specs.declared.Line.{Line}
 use Rattle.plan.specs.declared.Plan.{Plan}
 use Rattle.plan.specs.Limits.{mostDomains, mostWindows}
--- crate plan's, under this module's name too
-unfoldable pub use Rattle.plan.specs.Zeros.{noPlan}
+use Rattle.plan.specs.Zeros.{noPlan}
 use Rattle.refusal.specs.declared.Refusal.{Refusal}
 use Rattle.refusal.specs.declared.Refusal.the-variants.{RepeatedOrMissing, TooMany}
 use Rattle.refusal.specs.declared.Verdict.{Verdict}
 use Rattle.refusal.specs.declared.Verdict.the-variants.{Accepted, Refused}
-use Rattle.script.specs.Limits.{mostOps}
+use Rattle.script.specs.Limits.{mostOps, scriptsLength}
 use Rattle.script.specs.Stored.{storedOf}
 use Rattle.reader.specs.declared.Draft.{Draft}
 
@@ -26,13 +25,9 @@ use Rattle.reader.specs.declared.Draft.{Draft}
 unfoldable pub noDraft : Draft
 noDraft = record { plan = noPlan; counts = replicate mostDomains 0; named = replicate mostDomains 0 }
 
--- the script store's length
-abbrev pub storeLength : ℕ
-storeLength = 2_048
-
 -- a store that holds no op
 unfoldable pub noOps : List ℕ
-noOps = replicate storeLength 0
+noOps = replicate scriptsLength 0
 
 -- the lines read so far gave a draft and a store, or were refused
 pub data Outcome : Type 0 where

@@ -1,16 +1,13 @@
 -- Document 01, "The plan text": the checks of a whole text, once no line of it was refused, in their order. Assumes nothing.
 use Prim.Native.Nat.{ℕ, zero, suc, _+_, _-_}
-use mathlib.Core.Bool.{Bool, true, false, cond, _&&_, _||_}
+use mathlib.Core.Bool.{Bool, true, false, cond, _||_}
 use mathlib.Core.List.{List}
 use lib.Dec.{eqb, leb, ltb}
 use lib.ListN.{getD}
 use Rattle.plan.specs.declared.Plan.{Plan}
-use Rattle.plan.specs.Colours.{coloursAt, sharesTotal}
--- crate plan's, under this module's name too
-unfoldable pub use Rattle.plan.specs.Colours.{masksFrom}
+use Rattle.plan.specs.Colours.{coloursAt, masksFrom, sharesTotal}
 use Rattle.plan.specs.Limits.{mostDomains, mostRunTicks, mostShares}
 use Rattle.plan.specs.Windows.{ticksTotal}
-use Rattle.refusal.specs.declared.Refusal.{Refusal}
 use Rattle.refusal.specs.declared.Refusal.the-variants.{NoColour, RepeatedOrMissing, RunTooLong, SharesOverThousand, WrongDomain}
 use Rattle.refusal.specs.declared.Verdict.{Verdict}
 use Rattle.refusal.specs.declared.Verdict.the-variants.{Accepted, Refused}

@@ -1,9 +1,10 @@
 -- Document 01, "The plan text": reading a plan. 11, then 1; then line by line; then the checks after the last line. Assumes nothing.
 use Prim.Native.Nat.{ℕ, zero, suc, _+_}
-use mathlib.Core.Bool.{Bool, true, false, cond}
+use mathlib.Core.Bool.{true, false}
 use mathlib.Core.List.{List}
 use lib.Dec.{eqb, ltb}
 use lib.ListN.{length}
+use Rattle.script.specs.Limits.{scriptsLength}
 use Rattle.line.specs.declared.Line.{Line}
 use Rattle.line.specs.Lines.{lineAt}
 use Rattle.plan.specs.declared.Plan.{Plan}
@@ -13,7 +14,7 @@ use Rattle.refusal.specs.declared.Refusal.the-variants.{TextTooLong, WrongLengt
 use Rattle.refusal.specs.declared.Verdict.{Verdict}
 use Rattle.refusal.specs.declared.Verdict.the-variants.{Accepted, Refused}
 use Rattle.reader.specs.declared.Draft.{Draft}
-use Rattle.reader.specs.Draft.{Outcome, refused, kept, noDraft, noOps, storeLength, takeLine}
+use Rattle.reader.specs.Draft.{Outcome, refused, kept, noDraft, noOps, takeLine}
 use Rattle.reader.specs.Final.{finalVerdict, planWithMasks}
 
 -- the line at an offset, after the lines that gave a draft
@@ -56,7 +57,7 @@ finished textLength (kept draft store) scripts = judged (finalVerdict textLength
 -- a text of at most 32,768 bytes, and a store of 2,048 numbers
 unfoldable pub readOf : List ℕ → List ℕ → Read
 readOf text scripts =
-    elim (eqb (length scripts) storeLength) [
+    elim (eqb (length scripts) scriptsLength) [
       | false ↦ refusedRead WrongLength scripts
       | true ↦
           elim (ltb 32_768 (length text)) [

@@ -4,10 +4,10 @@ use native.Mathlib.Nat.{add-zero}
 use native.Mathlib.Numerals.{add-one}
 use native.Mathlib.Omega.{arith}
 use mathlib.Core.Bool.{Bool, true, false}
-use mathlib.Core.List.{List, [], _∷_, _++_, append-assoc}
+use mathlib.Core.List.{List, [], _∷_, _++_}
 use mathlib.Core.Path.{_≡_, refl, sym, ap, subst, _∙_}
 use lib.Dec.{ltb}
-use lib.ListN.{getD, length, length-append, set, take}
+use lib.ListN.{getD, length, length-append, take}
 use lib.Seq.{length-sets, set-out, sets, take-all, take-suc}
 use borrow.Author.Tests.{ltb-false, ltb-true}
 use Rattle.lists.proofs.Stores.{sets-append}

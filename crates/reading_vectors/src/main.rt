@@ -4,6 +4,7 @@ mod texts;
 
 use libc::STDIN_FILENO;
 use plan::Plan;
+use plan::no_plan;
 use showing::plan_show_command;
 use showing::store_show_command;
 use texts::text_command;
@@ -12,7 +13,6 @@ use vectors::lines::letter_of;
 use vectors::lines::line_end;
 use vectors::lines::place_in;
 use vectors::lines::place_past;
-use vectors::reading::no_plan;
 use vectors::reading::read_command;
 use vectors::tables::at_most;
 

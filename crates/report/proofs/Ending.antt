@@ -4,12 +4,12 @@ use mathlib.Core.List.{List}
 use mathlib.Core.Path.{_≡_, ap, _∙_}
 use native.Mathlib.Omega.{arith}
 use lib.ListN.{length, length-replicate}
+use Rattle.script.specs.Limits.{scriptsLength}
 use Rattle.refusal.specs.declared.Verdict.{Verdict}
 use Rattle.refusal.specs.declared.Verdict.the-variants.{Accepted}
-use Rattle.reader.specs.Draft.{noOps, storeLength}
+use Rattle.reader.specs.Draft.{noOps}
 use Rattle.reader.specs.Read.{readOf}
 use Rattle.reader.proofs.Accepted.{accepted-possible, read-store}
-use Rattle.engine.specs.Checks.{scriptsLength}
 use Rattle.machine.specs.Fresh.{freshWorld}
 use Rattle.engine.specs.Running.{ranFrom, runCallOf, runFrom}
 use Rattle.engine.proofs.FreshRuns.{fresh-run-accepted, fresh-run-ends}
@@ -24,7 +24,7 @@ planrun-ends text accepted =
     let plan = readOf text noOps .plan in
     let scripts = readOf text noOps .scripts in
     let possible = accepted-possible text noOps accepted in
-    let store : length scripts ≡ scriptsLength = read-store text noOps ∙ length-replicate {A = ℕ} storeLength 0 in
+    let store : length scripts ≡ scriptsLength = read-store text noOps ∙ length-replicate {A = ℕ} scriptsLength 0 in
     record {
       accepted =
           ap (λ (verdict : Verdict). runFrom verdict plan scripts (freshWorld lentLog) largestLimit .verdict)

@@ -7,7 +7,7 @@ use plan::Plan;
 use reader::read_plan;
 use refusal::Verdict;
 use refusal::code_of;
-use state::State;
+use state::fresh_state;
 ghost use mathlib.Core.Path.{_≡_};
 ghost use mathlib.Core.Bool.{true};
 ghost use lib.ListN.{length};
@@ -26,12 +26,7 @@ fn run_lines(plan: Plan, scripts: &[u32], out: &mut [u8]) -> usize
     let mut cache = [0u16; 272];
     let mut boxes = [0u32; 64];
     let mut log = [0u8; 16_384];
-    let nothing = State {
-        windows: 0,
-        clock: 0,
-        positions: [0; 8],
-        records: [0; 8],
-    };
+    let nothing = fresh_state();
     let started = fresh_start(plan, nothing, &mut cache, &mut boxes);
     let fresh = started.state;
     let progress = run(

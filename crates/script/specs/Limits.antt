@@ -28,6 +28,10 @@ mostTicks = 200
 abbrev pub mostOps : ℕ
 mostOps = 256
 
+-- how many numbers the script store has: one for each place of each of the eight domains
+abbrev pub scriptsLength : ℕ
+scriptsLength = 2_048
+
 -- an op's numbers are within their limits
 unfoldable pub Within : Op → Type 0
 Within (Read line) = line ≤ mostNumber

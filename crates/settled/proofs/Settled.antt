@@ -2,11 +2,12 @@
 -- named on the one `unfolding` line below; a name that two files share is written with its crate. Assumes nothing.
 use mathlib.Core.Path.{_≡_, refl}
 use mathlib.Core.Bool.{true}
+use Rattle.plan.specs.Zeros.{noPlan}
 use Rattle.lists.specs.Ascii.{bytesOf}
 use Rattle.lists.specs.Part.{part, splice}
 use Rattle.script.specs.Fetch.{opOf, decodeOf, fetchOf}
 use Rattle.script.specs.Stored.{storedOf}
-use Rattle.plan.specs.Colours.{coloursOf, sharesTotal, firstColour, maskFrom, maskOf, holdingOf, hasBit}
+use Rattle.plan.specs.Colours.{coloursOf, firstColour, hasBit, holdingOf, maskFrom, maskOf, masksFrom, sharesTotal}
 use Rattle.plan.specs.Possible.{countsPossible, declaredPossible, undeclaredPossible, domainPossible, maskPossible, windowPossible, planPossible}
 use Rattle.plan.specs.Sums.{sumTo, allBelow}
 use Rattle.plan.specs.Windows.{ownerOf, lengthOf, startOf, endOf, windowsTotal, ticksTotal}
@@ -19,8 +20,8 @@ use Rattle.taking.specs.Tokens.{sameBytes, isWord, passOpen, passClose, passLin
 use Rattle.forms.specs.Forms.{padInside, runInside, lengthInside, windowInside, scriptInside, opInside, listedInside, mayInside, shareInside, domainInside}
 use Rattle.line.specs.Heads.{headAt, insideOf}
 use Rattle.line.specs.Lines.{closedLine, insideLine, tokenLine, lineAt}
-use Rattle.reader.specs.Draft.{noPlan, noDraft, noOps, planWithPad, planWithRun, planWithDomain, planWithWindow, takePad, takeRun, takeDomain, takeWindow, takeOp, takeLine}
-use Rattle.reader.specs.Final.{lacking, firstUndeclared, firstColourless, finalVerdict, masksFrom, planWithMasks}
+use Rattle.reader.specs.Draft.{noDraft, noOps, planWithPad, planWithRun, planWithDomain, planWithWindow, takePad, takeRun, takeDomain, takeWindow, takeOp, takeLine}
+use Rattle.reader.specs.Final.{lacking, firstUndeclared, firstColourless, finalVerdict, planWithMasks}
 use Rattle.reader.specs.Read.{walkFrom, refusedRead, readOf}
 use Rattle.cache.specs.Access.{lookHit1, lookL2, lookOf, lookAt, accessOf}
 use Rattle.cache.specs.Flush.{countOf, dirtyLines, validLines, kernelFlushTicks, l1FlushTicks, kernelFlushed, l1Flushed}

@@ -2,6 +2,9 @@
 pub mod states;
 pub mod tables;
 
+ghost use mathlib.Core.Path.{_≡_};
+ghost use Rattle.state.specs.World.{freshState};
+
 // Document 01's small state. Every field is wide enough for any number that a caller may lend.
 pub struct State {
     // windows completed
@@ -11,4 +14,16 @@ pub struct State {
     pub positions: [u64; 8],
     // each domain's number of records
     pub records: [u64; 8],
+}
+
+// The state of a fresh start.
+pub fn fresh_state() -> State
+    ensures { λ r. ⌜ r ≡ freshState ⌝ }
+{
+    State {
+        windows: 0,
+        clock: 0,
+        positions: [0; 8],
+        records: [0; 8],
+    }
 }

@@ -5,11 +5,10 @@ use mathlib.Core.Bool.{Bool, true, false}
 use mathlib.Core.List.{List, [], _∷_, _++_, append-assoc}
 use native.Mathlib.Nat.{not-suc-le-zero, pow-suc}
 use native.Mathlib.Omega.{arith}
-use lib.Dec.{ltb}
-use lib.ListN.{drop, length, length-append, length-drop, length-set, set, take}
+use lib.ListN.{drop, length, length-drop, length-set, set, take}
 use lib.Seq.{drop-cons, drop-set-lt, getD-set-same, take-all}
 use borrow.Author.Tests.{le-ltb, lt-ltb}
-use Rattle.text.specs.Decimal.{decimalOf, digitsOf}
+use Rattle.text.specs.Decimal.{digitsOf}
 
 -- what a number's digits are by the test whether it has one digit alone
 abbrev byTest : ℕ → ℕ → Bool → List ℕ

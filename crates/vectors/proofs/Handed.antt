@@ -1,5 +1,5 @@
 -- Laws of what a call is lent of a table, and of the table that it hands back, where the code lends a part of it from place 0 on. Assumes nothing.
-use Prim.Native.Nat.{ℕ, zero, suc, min, _-_, _≤_}
+use Prim.Native.Nat.{ℕ, zero, suc, min, _-_}
 use native.Mathlib.Omega.{arith}
 use mathlib.Core.List.{List, [], _∷_, _++_}
 use mathlib.Core.Path.{_≡_, ap, _∙_}

@@ -1,8 +1,7 @@
 -- Laws of a line's letter, of where its fields begin, and of the number that digits spell: one digit more, and the end. Assumes nothing.
-use Prim.Native.Nat.{ℕ, zero, suc, min, _+_, _≤_, _<_}
+use Prim.Native.Nat.{ℕ, min, _+_, _≤_, _<_}
 use native.Mathlib.Nat.{not-suc-le-zero}
 use native.Mathlib.Numerals.{add-one}
-use native.Mathlib.Omega.{arith}
 use mathlib.Core.List.{List, [], _∷_}
 use mathlib.Core.Path.{_≡_, refl, ap, _∙_}
 use lib.ListN.{drop, drop-of-length-le, getD, length}

@@ -6,26 +6,8 @@ use crate::tables::at_most;
 use plan::Plan;
 use reader::read_plan;
 ghost use mathlib.Core.Path.{_≡_};
-ghost use Rattle.reader.specs.Draft.{noPlan};
 ghost use Rattle.reader.specs.Read.{readOf};
 ghost use Rattle.vectors.specs.Lending.{handedBack, lent};
-
-// The plan before the first reading.
-pub fn no_plan() -> Plan
-    ensures { λ r. ⌜ r ≡ noPlan ⌝ }
-{
-    Plan {
-        pad: 0,
-        run: 0,
-        domains: 0,
-        windows: 0,
-        shares: [0; 8],
-        rights: [0; 8],
-        owners: [0; 32],
-        lengths: [0; 32],
-        masks: [0; 8],
-    }
-}
 
 // r LABEL: read the text, and print number and companion. Of the script store as much is lent as the example says.
 pub fn read_command(line: &[u8], text: &[u8], scripts: &mut [u32], store: usize) -> Plan

@@ -17,7 +17,7 @@ use Rattle.plan.proofs.MaskLists.{mask-alike}
 use Rattle.plan.proofs.Possible.{both, counts, declared, parts, undeclared}
 use Rattle.plan.proofs.Sums.{all-below}
 use Rattle.refusal.specs.declared.Verdict.the-variants.{Accepted}
-use Rattle.reader.specs.Draft.{noPlan}
+use Rattle.plan.specs.Zeros.{noPlan}
 use Rattle.reader.specs.Final.{finalVerdict, firstColourless, firstUndeclared, lacking, planWithMasks}
 use Rattle.written.specs.Shaped.{Shaped}
 use Rattle.written.proofs.Filled.{filled-all, filled-none}

@@ -2,15 +2,13 @@
 -- text is read back; the other is the reader's own law, that what it accepts is possible. Assumes nothing.
 use Prim.Native.Nat.{ℕ}
 use mathlib.Core.Bool.{true}
-use mathlib.Core.List.{List}
 use mathlib.Core.Logic.{_↔_}
 use mathlib.Core.Path.{_≡_, ap, _∙_, sym}
 use lib.ListN.{length-replicate}
 use Rattle.plan.specs.declared.Plan.{Plan}
 use Rattle.plan.specs.Possible.{planPossible}
-use Rattle.refusal.specs.declared.Verdict.the-variants.{Accepted}
 use Rattle.reader.specs.Draft.{noOps}
-use Rattle.reader.specs.Read.{Read, readOf}
+use Rattle.reader.specs.Read.{Read}
 use Rattle.reader.proofs.Accepted.{accepted-possible}
 use Rattle.written.specs.Lines.{planText}
 use Rattle.written.specs.Shaped.{Given, Shaped}

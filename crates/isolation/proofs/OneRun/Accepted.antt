@@ -7,6 +7,7 @@ use mathlib.Core.Path.{_≡_, sym, ap, subst, _∙_}
 use lib.ListN.{length}
 use Rattle.plan.specs.declared.Plan.{Plan}
 use Rattle.plan.specs.Possible.{planPossible}
+use Rattle.script.specs.Limits.{scriptsLength}
 use Rattle.records.specs.Records.{partRecords}
 use Rattle.state.specs.Impossible.{statePossible}
 use Rattle.state.specs.World.{World}
@@ -14,7 +15,7 @@ use Rattle.reached.proofs.Reached.{boxes-length, cache-length, log-length, stat
 use Rattle.refusal.specs.declared.Refusal.the-variants.{WrongDomain}
 use Rattle.refusal.specs.declared.Verdict.the-variants.{Accepted, Refused}
 use Rattle.engine.specs.Asking.{logRefusalOf}
-use Rattle.engine.specs.Checks.{runVerdict, scriptsLength}
+use Rattle.engine.specs.Checks.{runVerdict}
 use Rattle.machine.specs.Fresh.{freshWorld}
 use Rattle.engine.specs.Running.{stepCallOf}
 use Rattle.engine.proofs.Passing.{asking-passes, run-passes}

@@ -7,6 +7,7 @@ use native.Mathlib.Decide.{ℕ-discrete}
 use lib.ListN.{length}
 use Rattle.plan.specs.declared.Plan.{Plan}
 use Rattle.plan.specs.Possible.{planPossible}
+use Rattle.script.specs.Limits.{scriptsLength}
 use Rattle.records.specs.Records.{partRecords}
 use Rattle.state.specs.World.{World}
 use Rattle.machine.specs.Steps.{runOf}
@@ -14,7 +15,7 @@ use Rattle.machine.proofs.Runs.{run-add, run-world}
 use Rattle.refusal.specs.declared.Refusal.{Refusal}
 use Rattle.refusal.specs.declared.Verdict.{Verdict}
 use Rattle.refusal.specs.declared.Verdict.the-variants.{Accepted, Refused}
-use Rattle.engine.specs.Checks.{runVerdict, scriptsLength}
+use Rattle.engine.specs.Checks.{runVerdict}
 use Rattle.engine.specs.Running.{Run, ranFrom, runCallOf, runFrom}
 use Rattle.isolation.specs.Calls.{CallList, IsList, leavesOf, pointOf, runTwice}
 use Rattle.isolation.specs.Points.{FreshRun, worldAfter}

@@ -8,6 +8,7 @@ use lib.ListN.{length}
 use borrow.Author.Tests.{le-ltb, ne-eqb}
 use Rattle.plan.specs.declared.Plan.{Plan}
 use Rattle.plan.specs.Possible.{planPossible}
+use Rattle.script.specs.Limits.{scriptsLength}
 use Rattle.records.specs.Records.{partRecords}
 use Rattle.state.specs.declared.State.{State}
 use Rattle.state.specs.Impossible.{statePossible}
@@ -21,7 +22,7 @@ use Rattle.refusal.specs.declared.Refusal.the-variants.{WrongLength, Impossible
 use Rattle.refusal.specs.declared.Verdict.{Verdict}
 use Rattle.refusal.specs.declared.Verdict.the-variants.{Accepted, Refused}
 use Rattle.engine.specs.Asking.{logRefusalOf}
-use Rattle.engine.specs.Checks.{freshVerdict, logVerdict, runVerdict, scriptsLength, tablesFit, unless}
+use Rattle.engine.specs.Checks.{freshVerdict, logVerdict, runVerdict, tablesFit, unless}
 use Rattle.machine.specs.Fresh.{freshWorld}
 use Rattle.engine.specs.FreshStart.{Fresh, freshFrom, freshStartOf}
 use Rattle.engine.specs.Running.{ranFrom, runCallOf, runFrom}

@@ -1,6 +1,5 @@
 -- `machine_vectors::setting::changed_plan` meets its contract. Each field has its number. Assumes nothing.
 use Rattle.machine_vectors.specs.Setting.{planSet}
-use borrow.Author.Needs.{needs}
 use Rattle.machine_vectors.proofs.setting.changed_plan.Statement.{statement}
 use Rattle.machine_vectors.proofs.setting.changed_plan.Tie as tie
 

@@ -1,6 +1,5 @@
 -- `machine_vectors::setting::changed_state` meets its contract. Each number has its letter. Assumes nothing.
 use Rattle.machine_vectors.specs.Setting.{stateSet}
-use borrow.Author.Needs.{needs}
 use Rattle.machine_vectors.proofs.setting.changed_state.Statement.{statement}
 use Rattle.machine_vectors.proofs.setting.changed_state.Tie as tie
 

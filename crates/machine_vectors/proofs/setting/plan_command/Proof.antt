@@ -2,7 +2,6 @@
 use mathlib.Core.Path.{_∙_}
 use borrow.Author.Tests.{eq-eqb, ne-eqb}
 use Rattle.machine_vectors.specs.Setting.{planCommand}
-use borrow.Author.Needs.{needs}
 use Rattle.machine_vectors.proofs.setting.plan_command.Statement.{statement}
 use Rattle.machine_vectors.proofs.setting.plan_command.Tie as tie
 

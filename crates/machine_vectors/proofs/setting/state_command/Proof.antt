@@ -1,6 +1,5 @@
 -- `machine_vectors::setting::state_command` meets its contract. Assumes nothing.
 use mathlib.Core.Path.{_∙_}
-use borrow.Author.Needs.{needs}
 use Rattle.machine_vectors.proofs.setting.state_command.Statement.{statement}
 use Rattle.machine_vectors.proofs.setting.state_command.Tie as tie
 

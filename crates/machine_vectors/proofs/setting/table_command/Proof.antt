@@ -1,5 +1,5 @@
 -- `machine_vectors::setting::table_command` meets its contract. Each table has its letter. Assumes nothing.
-use mathlib.Core.Path.{_≡_, _∙_}
+use mathlib.Core.Path.{_∙_}
 use borrow.Author.Tests.{ne-eqb}
 use Rattle.machine_vectors.specs.Setting.{tableSet}
 use borrow.Author.Needs.{needs}

@@ -1,6 +1,5 @@
 -- `machine_vectors::setting::with_length` meets its contract. Each length has its letter. Assumes nothing.
 use Rattle.machine_vectors.specs.Setting.{lengthSet}
-use borrow.Author.Needs.{needs}
 use Rattle.machine_vectors.proofs.setting.with_length.Statement.{statement}
 use Rattle.machine_vectors.proofs.setting.with_length.Tie as tie
 

@@ -6,13 +6,12 @@ use lib.ListN.{length, length-replicate}
 use lib.Seq.{sets}
 use borrow.Author.Needs.{needs}
 use Rattle.engine.proofs.FreshRuns.{Left, run-left, started-fresh}
-use Rattle.machine.specs.Fresh.{freshWorld}
 use Rattle.engine.specs.Running.{Run, runCallOf}
 use Rattle.records.specs.Records.{partRecords}
 use Rattle.state.specs.Impossible.{statePossible}
 use Rattle.state.specs.World.{World}
 use Rattle.machine.specs.View.{worldWith}
-use Rattle.report.specs.Planrun.{largestLimit, lentLog, ranLines}
+use Rattle.report.specs.Planrun.{largestLimit, lentLog, planrunRun, ranLines}
 use Rattle.report.proofs.program.run_lines.Statement.{statement}
 use denote.Ref.{now}
 use Rattle.report.proofs.program.run_lines.Tie as tie
@@ -20,19 +19,27 @@ use Rattle.report.proofs.program.run_lines.Tie as tie
 -- the run starts from a fresh start, so it leaves what the definition says
 world-is :
     (c : tie.After-run)
-    → worldWith (c .run .result .state) (c .run .last .1 .1 .1 .0) (c .run .last .1 .1 .1 .1 .0) (c .run .last .1 .1 .1 .1 .1 .0)
-    ≡ runCallOf (c .before .before .before .before .before .before .before .before .before .before .before .before .args .plan) (now (c .before .before .before .before .before .before .before .before .before .before .before .before .args .scripts)) (freshWorld lentLog) largestLimit .world
+    → let start = c .before .before .before .before .before .before .before .before .before .before .before .before .before in
+    worldWith (c .run .result .state) (c .run .last .1 .1 .1 .0) (c .run .last .1 .1 .1 .1 .0) (c .run .last .1 .1 .1 .1 .1 .0)
+    ≡ planrunRun (start .args .plan) (now (start .args .scripts)) .world
 world-is c =
+    let start = c .before .before .before .before .before .before .before .before .before .before .before .before .before in
     ap (λ (r : Run). r .world) (c .run .ensures)
-    ∙ ap (λ (w : World). runCallOf (c .before .before .before .before .before .before .before .before .before .before .before .before .args .plan) (now (c .before .before .before .before .before .before .before .before .before .before .before .before .args .scripts)) w largestLimit .world)
-    (started-fresh _ _ _ _ _ _ lentLog (c .before .before .before .before .before .before .before .before .before .before .before .before .pre) (c .before .before .before .before .before .before .before .fresh-start .ensures))
+    ∙ ap (λ (w : World). runCallOf (start .args .plan) (now (start .args .scripts)) w largestLimit .world)
+    (started-fresh _ _ _ _ _ _ lentLog (start .pre) (c .before .before .before .before .before .before .before .fresh-start .ensures))
 
+-- and passes the check for 14
 left-by :
     (c : tie.After-run)
-    → Left (c .before .before .before .before .before .before .before .before .before .before .before .before .args .plan) lentLog
+    → Left (c .before .before .before .before .before .before .before .before .before .before .before .before .before .args .plan) lentLog
     (worldWith (c .run .result .state) (c .run .last .1 .1 .1 .0) (c .run .last .1 .1 .1 .1 .0) (c .run .last .1 .1 .1 .1 .1 .0))
 left-by c =
-    subst (Left (c .before .before .before .before .before .before .before .before .before .before .before .before .args .plan) lentLog) (sym (world-is c)) (run-left (c .before .before .before .before .before .before .before .before .before .before .before .before .args .plan) (now (c .before .before .before .before .before .before .before .before .before .before .before .before .args .scripts)) lentLog largestLimit (c .before .before .before .before .before .before .before .before .before .before .before .before .pre))
+    let start = c .before .before .before .before .before .before .before .before .before .before .before .before .before in
+    subst (Left (start .args .plan) lentLog) (sym (world-is c))
+    (run-left (start .args .plan) (now (start .args .scripts)) lentLog largestLimit (start .pre))
+
+fresh-state-requires : tie.Need-fresh-state-requires
+fresh-state-requires c κs = search needs
 
 slice-aggregate-fresh-start : tie.Need-slice-aggregate-fresh-start
 slice-aggregate-fresh-start c = search needs
@@ -60,9 +67,11 @@ slice-aggregate-write-run c = search needs
 
 write-run-requires : tie.Need-write-run-requires
 write-run-requires c κs =
-    let left = left-by (c .before .before .before .before .before .before) in (
-      (c .before .before .before .before .before .before .before .before .before .before .before .before .before .before .before .before .before .before .pre),
-      ap (λ (n : ℕ). statePossible (c .before .before .before .before .before .before .before .before .before .before .before .before .before .before .before .before .before .before .args .plan) (partRecords (c .before .before .before .before .before .before .before .before .before .before .before .before .before .before .before .before .before .before .args .plan) n) (c .before .before .before .before .before .before .run .result .state)) (left .long) ∙ left .possible,
+    let start = c .before .before .before .before .before .before .before .before .before .before .before .before .before .before .before .before .before .before .before in
+    let ran = c .before .before .before .before .before .before in
+    let left = left-by ran in (
+      start .pre,
+      ap (λ (n : ℕ). statePossible (start .args .plan) (partRecords (start .args .plan) n) (ran .run .result .state)) (left .long) ∙ left .possible,
       rw (left .long) (rw length-replicate (omega arith)),
     )
 
@@ -72,13 +81,18 @@ same-length c = search needs
 returns : tie.Need-returns
 unfolding ranLines
 returns c =
-    let lines = ap (λ (w : World). ranLines (c .before .before .before .before .before .before .before .before .before .before .before .before .before .before .before .before .before .before .before .before .before .args .plan) w) (world-is (c .before .before .before .before .before .before .before .before .before)) in
-    (c .before .before .write-run .ensures .0 ∙ ap length lines, c .before .before .write-run .ensures .1 ∙ ap (sets (now (c .before .before .before .before .before .before .before .before .before .before .before .before .before .before .before .before .before .before .before .before .before .args .out)) 0) lines)
+    let start = c .before .before .before .before .before .before .before .before .before .before .before .before .before .before .before .before .before .before .before .before .before .before in
+    let wrote = c .before .before .write-run .ensures in
+    let lines =
+    ap (λ (w : World). ranLines (start .args .plan) w)
+    (world-is (c .before .before .before .before .before .before .before .before .before)) in
+    (wrote .0 ∙ ap length lines, wrote .1 ∙ ap (sets (now (start .args .out)) 0) lines)
 
 pub run-lines-spec : {M : Type 1} → statement M
 run-lines-spec =
     tie.close
     (tie.spec
+    fresh-state-requires
     slice-aggregate-fresh-start
     slice-aggregate-fresh-start-2
     fresh-start-requires

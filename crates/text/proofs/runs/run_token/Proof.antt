@@ -1,6 +1,5 @@
 -- `text::runs::run_token` meets its contract. Assumes nothing.
 use mathlib.Core.Path.{sym, _∙_}
-use borrow.Author.Needs.{needs}
 use Rattle.text.specs.Tokens.{runToken}
 use Rattle.text.proofs.runs.run_token.Statement.{statement}
 use Rattle.text.proofs.runs.run_token.Tie as tie

@@ -1,7 +1,6 @@
 -- `vectors::lines::field_end` meets its contract. The loop's invariant: the place lies between the start and the line's end,
 -- and the walk goes on from it as it would from the first. Assumes nothing.
 use Prim.Native.Nat.{_-_, _≤_}
-use native.Mathlib.Omega.{arith}
 use mathlib.Core.Path.{_≡_, refl, sym, _∙_}
 use lib.ListN.{length}
 use borrow.Author.Needs.{needs}
