@@ -15,7 +15,7 @@ use Rattle.machine.specs.Steps.{steps}
 use Rattle.machine.specs.View.{worldWith}
 use Rattle.machine.proofs.Runs.{run-world}
 use Rattle.reached.proofs.Ending.{ends}
-use Rattle.reached.proofs.Reached.{boxes-length, cache-length, log-length, state-possible, tables-sound}
+use Rattle.reached.proofs.Reached.{boxes-length, cache-length, log-length, reachedWorld, state-possible, tables-sound}
 use Rattle.refusal.specs.declared.Verdict.{Verdict}
 use Rattle.refusal.specs.declared.Verdict.the-variants.{Accepted, Refused}
 use Rattle.engine.specs.Answers.{freshWith}
@@ -55,19 +55,28 @@ run-left plan scripts log limit possible = go (runVerdict plan scripts (freshWor
     go Accepted = subst (Left plan log) (sym (run-world plan scripts (partRecords plan (length log)) limit (freshWorld log))) (reached limit)
     go (Refused refusal) = reached 0
 
--- a run from a fresh start, beside a script store of the right length, is not refused
+-- a run that goes on from any world which so many steps reach, beside a script store of the right length, is not refused
+pub reached-accepted : (plan : Plan) (scripts log : List ℕ) (count : ℕ)
+    → planPossible plan ≡ true
+    → length scripts ≡ scriptsLength
+    → runVerdict plan scripts (reachedWorld plan scripts log count) ≡ Accepted
+reached-accepted plan scripts log count possible store =
+    run-passes plan scripts (reachedWorld plan scripts log count) store
+    (cache-length plan scripts log count possible)
+    (boxes-length plan scripts log count possible)
+    possible
+    (tables-sound plan scripts log count possible)
+    (subst (λ size. statePossible plan (partRecords plan size) (reachedWorld plan scripts log count .state) ≡ true)
+    (sym (log-length plan scripts log count possible))
+    (state-possible plan scripts log count possible))
+
+-- nor is one right after a fresh start
 pub fresh-run-accepted : (plan : Plan) (scripts log : List ℕ)
     → planPossible plan ≡ true
     → length scripts ≡ scriptsLength
     → runVerdict plan scripts (freshWorld log) ≡ Accepted
-unfolding freshWorld steps
-fresh-run-accepted plan scripts log possible store =
-    run-passes plan scripts (freshWorld log) store
-    (cache-length plan scripts log 0 possible)
-    (boxes-length plan scripts log 0 possible)
-    possible
-    (tables-sound plan scripts log 0 possible)
-    (state-possible plan scripts log 0 possible)
+unfolding steps
+fresh-run-accepted plan scripts log possible store = reached-accepted plan scripts log 0 possible store
 
 -- and it ends, where its limit is large enough for every plan
 pub fresh-run-ends : (plan : Plan) (scripts log : List ℕ) (limit : ℕ)

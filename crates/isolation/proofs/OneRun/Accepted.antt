@@ -11,14 +11,15 @@ use Rattle.script.specs.Limits.{scriptsLength}
 use Rattle.records.specs.Records.{partRecords}
 use Rattle.state.specs.Impossible.{statePossible}
 use Rattle.state.specs.World.{World}
-use Rattle.reached.proofs.Reached.{boxes-length, cache-length, log-length, state-possible, tables-sound}
+use Rattle.reached.proofs.Reached.{log-length, state-possible}
 use Rattle.refusal.specs.declared.Refusal.the-variants.{WrongDomain}
 use Rattle.refusal.specs.declared.Verdict.the-variants.{Accepted, Refused}
 use Rattle.engine.specs.Asking.{logRefusalOf}
 use Rattle.engine.specs.Checks.{runVerdict}
 use Rattle.machine.specs.Fresh.{freshWorld}
 use Rattle.engine.specs.Running.{stepCallOf}
-use Rattle.engine.proofs.Passing.{asking-passes, run-passes}
+use Rattle.engine.proofs.FreshRuns.{reached-accepted}
+use Rattle.engine.proofs.Passing.{asking-passes}
 use Rattle.isolation.specs.Calls.{Admissible, AllOwn, Call, CallList, IsList, LogThings, RunThings, isRefused, leavesOf, logAnswer, logCall, logQuestion, pointOf, runAnswer, runCall, stepAnswer, stepCall, verdictAfter, verdictOf}
 use Rattle.isolation.specs.Points.{FreshRun, worldAfter}
 use Rattle.isolation.specs.Statement.{runOfList}
@@ -37,14 +38,8 @@ module _ (run : FreshRun) (count : ℕ) (possible : planPossible (run .plan) ≡
       (state-possible (run .plan) (run .scripts) (run .log) count possible)
 
   pub run-verdict-accepted : length (run .scripts) ≡ scriptsLength → runVerdict (run .plan) (run .scripts) (worldAfter run count) ≡ Accepted
-  unfolding worldAfter freshWorld
-  run-verdict-accepted store =
-      run-passes (run .plan) (run .scripts) (worldAfter run count) store
-      (cache-length (run .plan) (run .scripts) (run .log) count possible)
-      (boxes-length (run .plan) (run .scripts) (run .log) count possible)
-      possible
-      (tables-sound (run .plan) (run .scripts) (run .log) count possible)
-      state-passes
+  unfolding worldAfter
+  run-verdict-accepted store = reached-accepted (run .plan) (run .scripts) (run .log) count possible store
 
   pub asking-accepted : (domain : ℕ) → domain < run .plan .domains
       → logRefusalOf (run .plan) (worldAfter run count .state) (worldAfter run count .log) domain ≡ Accepted
