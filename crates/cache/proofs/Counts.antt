@@ -7,7 +7,7 @@ use native.Mathlib.Omega.{arith}
 use lib.ListN.{getD, length}
 use Rattle.lists.specs.Part.{part}
 use Rattle.lists.proofs.Parts.{part-next}
-use Rattle.cache.specs.Flush.{countOf}
+use Rattle.cache.specs.Flush.{countWhere}
 use Rattle.cache.proofs.Ticks.{choice-limit, count-part-limit}
 
 -- a number that is not 0 is above it
@@ -16,8 +16,8 @@ above-zero {left} some = omega (arith, some)
 
 module _ (test : ℕ → Bool) (at : ℕ) (table : List ℕ) where
   -- none left
-  pub count-none : countOf test (part at 0 table) ≡ 0
-  unfolding countOf part
+  pub count-none : countWhere test (part at 0 table) ≡ 0
+  unfolding countWhere part
   count-none = refl
 
   -- the first number, then the rest
@@ -25,8 +25,8 @@ module _ (test : ℕ → Bool) (at : ℕ) (table : List ℕ) where
       (left : ℕ)
       → 0 < left
       → at + left ≤ length table
-      → cond (test (getD table at 0)) 1 0 + countOf test (part (at + 1) (left - 1) table) ≡ countOf test (part at left table)
-  unfolding countOf
+      → cond (test (getD table at 0)) 1 0 + countWhere test (part (at + 1) (left - 1) table) ≡ countWhere test (part at left table)
+  unfolding countWhere
   count-next left some within = rw (part-next at left table (omega arith) some)
 
   -- what a turn adds up is at most the number that was left
@@ -34,7 +34,7 @@ module _ (test : ℕ → Bool) (at : ℕ) (table : List ℕ) where
       (left one rest : ℕ)
       → 0 < left
       → one ≡ cond (test (getD table at 0)) 1 0
-      → rest ≡ countOf test (part (at + 1) (left - 1) table)
+      → rest ≡ countWhere test (part (at + 1) (left - 1) table)
       → one + rest ≤ left
   count-turn-limit left one rest some is counted =
       omega (

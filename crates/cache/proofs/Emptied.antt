@@ -7,7 +7,7 @@ use lib.ListN.{drop, length, replicate, take, length-append, length-drop, length
 use lib.Seq.{drop-length}
 use Rattle.lists.specs.Part.{part, splice}
 use Rattle.cache.specs.Lines.{isDirty, isValid}
-use Rattle.cache.specs.Flush.{countOf, dirtyLines, kernelFlushed, kernelFlushTicks, l1Flushed, l1FlushTicks, validLines}
+use Rattle.cache.specs.Flush.{countWhere, dirtyLines, kernelFlushed, kernelFlushTicks, l1Flushed, l1FlushTicks, validLines}
 
 -- so many emptied, it is as long as before
 pub emptied-length :
@@ -36,7 +36,7 @@ emptied-part first count fresh table within is =
 pub kernel-outcome :
     (valid : ℕ) (fresh table : List ℕ)
     → length table ≡ 272
-    → valid ≡ countOf isValid (part 256 16 table)
+    → valid ≡ countWhere isValid (part 256 16 table)
     → fresh ≡ replicate (length (take 16 (drop 256 table))) 0
     → (8 + valid ≡ kernelFlushTicks table) × (take 256 table ++ (fresh ++ drop 16 (drop 256 table)) ≡ kernelFlushed table)
 unfolding kernelFlushTicks kernelFlushed validLines
@@ -46,7 +46,7 @@ kernel-outcome valid fresh table long counted is = (rw counted, emptied-part 256
 pub l1-outcome :
     (dirty : ℕ) (fresh table : List ℕ)
     → length table ≡ 272
-    → dirty ≡ countOf isDirty (part 0 16 table)
+    → dirty ≡ countWhere isDirty (part 0 16 table)
     → fresh ≡ replicate (length (take 16 table)) 0
     → (8 + 2 * dirty ≡ l1FlushTicks table) × (fresh ++ drop 16 table ≡ l1Flushed table)
 unfolding l1FlushTicks l1Flushed dirtyLines

@@ -8,10 +8,10 @@ use lib.ListN.{drop, getD, length, replicate, length-replicate, length-set}
 use lib.Seq.{drop-set-lt}
 use Rattle.lists.specs.Part.{splice}
 use Rattle.lists.proofs.Parts.{part-length, splice-length, splice-part}
-use Rattle.cache.specs.declared.Found.the-variants.{Hit1, Hit2, Miss}
-use Rattle.cache.specs.Lines.{cleanEntry, indexOf, indexes, kernelNumbers, kernelPlace, setOf, setPlace, waysOfSet}
+use Rattle.cache.specs.declared.AccessKind.the-variants.{Hit1, Hit2, Miss}
+use Rattle.cache.specs.Lines.{cleanEntry, l1Index, l1Length, kernelEntries, kernelIndex, setOf, setIndex, waysPerSet}
 use Rattle.cache.specs.Sets.{has}
-use Rattle.cache.specs.Access.{accessOf, lookAt, lookHit1, lookL2}
+use Rattle.cache.specs.Access.{accessOf, lookupAt, lookupL1, lookupL2}
 use Rattle.cache.specs.Flush.{kernelFlushed, l1Flushed}
 use Rattle.cache.proofs.Outcome.{inL1, look-held, look-lacked, waysOf}
 use Rattle.cache.proofs.Ways.{used-length}
@@ -22,8 +22,8 @@ no-hit1 true is = let wrong : _≡_ {A = ℕ} 0 1 = cc in omega arith
 no-hit1 false is = let wrong : _≡_ {A = ℕ} 0 1 = cc in omega arith
 
 module _ (writes : Bool) (line : ℕ) (table : List ℕ) where
-  ways-length : (held : Bool) → inL1 line table ≡ held → length (lookAt writes line table .ways) ≡ length (waysOf line table)
-  unfolding lookHit1 lookL2
+  ways-length : (held : Bool) → inL1 line table ≡ held → length (lookupAt writes line table .ways) ≡ length (waysOf line table)
+  unfolding lookupL1 lookupL2
   ways-length true held = rw (look-held writes line table held)
   ways-length false lacked = rw (look-lacked writes line table lacked) (used-length (cleanEntry line) (waysOf line table))
 
@@ -31,12 +31,12 @@ module _ (writes : Bool) (line : ℕ) (table : List ℕ) where
   pub access-length : length (accessOf writes line table .table) ≡ length table
   unfolding accessOf
   access-length =
-      let look = lookAt writes line table in
-      length-set (splice (setPlace (setOf line)) waysOfSet (look .ways) table) (indexOf line) (look .entry)
-      ∙ splice-length (setPlace (setOf line)) waysOfSet (look .ways) table (ways-length (inL1 line table) refl)
+      let look = lookupAt writes line table in
+      length-set (splice (setIndex (setOf line)) waysPerSet (look .ways) table) (l1Index line) (look .entry)
+      ∙ splice-length (setIndex (setOf line)) waysPerSet (look .ways) table (ways-length (inL1 line table) refl)
 
   hit1-held : (held : Bool) → inL1 line table ≡ held → accessOf writes line table .found ≡ Hit1 → inL1 line table ≡ true
-  unfolding accessOf lookL2
+  unfolding accessOf lookupL2
   hit1-held true holds is = holds
   hit1-held false lacks is =
       absurd (no-hit1 (has (cleanEntry line) (waysOf line table)) (rw (look-lacked writes line table lacks) at is))
@@ -47,19 +47,19 @@ module _ (writes : Bool) (line : ℕ) (table : List ℕ) where
 
   -- a hit in L1 leaves L2 alone
   pub hit1-keeps-l2 : accessOf writes line table .found ≡ Hit1 → drop 16 (accessOf writes line table .table) ≡ drop 16 table
-  unfolding accessOf lookHit1
+  unfolding accessOf lookupL1
   hit1-keeps-l2 is =
       rw (look-held writes line table (hit1-holds is), splice-part)
-      (drop-set-lt 16 table (indexOf line) (lookHit1 writes line (getD table (indexOf line) 0) (waysOf line table) .entry) (omega arith))
+      (drop-set-lt 16 table (l1Index line) (lookupL1 writes line (getD table (l1Index line) 0) (waysOf line table) .entry) (omega arith))
 
 -- a flush keeps the length of a whole table
 pub kernel-flush-length : (table : List ℕ) → length table ≡ 272 → length (kernelFlushed table) ≡ length table
 unfolding kernelFlushed
 kernel-flush-length table long =
-    splice-length kernelPlace kernelNumbers (replicate kernelNumbers 0) table
-    (length-replicate {A = ℕ} kernelNumbers 0 ∙ sym (part-length kernelPlace kernelNumbers table (omega arith)))
+    splice-length kernelIndex kernelEntries (replicate kernelEntries 0) table
+    (length-replicate {A = ℕ} kernelEntries 0 ∙ sym (part-length kernelIndex kernelEntries table (omega arith)))
 
 pub l1-flush-length : (table : List ℕ) → length table ≡ 272 → length (l1Flushed table) ≡ length table
 unfolding l1Flushed
 l1-flush-length table long =
-    splice-length 0 indexes (replicate indexes 0) table (length-replicate {A = ℕ} indexes 0 ∙ sym (part-length 0 indexes table (omega arith)))
+    splice-length 0 l1Length (replicate l1Length 0) table (length-replicate {A = ℕ} l1Length 0 ∙ sym (part-length 0 l1Length table (omega arith)))

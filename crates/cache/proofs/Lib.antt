@@ -3,6 +3,6 @@ pub mod Counts
 pub mod Emptied
 pub mod Laws
 pub mod Outcome
-mod Taken
+mod NumberParse
 pub mod Ticks
 pub mod Ways

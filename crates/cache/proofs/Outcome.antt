@@ -6,38 +6,38 @@ use mathlib.Core.List.{List, _++_}
 use lib.ListN.{drop, getD, set, take}
 use Rattle.lists.specs.Part.{part, splice}
 use Rattle.lists.proofs.Parts.{splice-part}
-use Rattle.cache.specs.declared.Found.{Found}
-use Rattle.cache.specs.declared.Found.the-variants.{Hit1, Hit2, Miss}
-use Rattle.cache.specs.Lines.{cleanEntry, dirtyEntry, entryFor, holdsLine, indexOf, setOf, setPlace, waysOfSet}
+use Rattle.cache.specs.declared.AccessKind.{AccessKind}
+use Rattle.cache.specs.declared.AccessKind.the-variants.{Hit1, Hit2, Miss}
+use Rattle.cache.specs.Lines.{cleanEntry, dirtyEntry, entryFor, holdsLine, l1Index, setOf, setIndex, waysPerSet}
 use Rattle.cache.specs.Sets.{has, used}
-use Rattle.cache.specs.Access.{accessOf, lookAt, lookHit1, lookL2, lookOf, replaceTicks}
+use Rattle.cache.specs.Access.{accessOf, lookupAt, lookupL1, lookupL2, lookupOf, replaceTicks}
 
 -- L1 holds a line where its index has the line's number
 abbrev pub inL1 : ℕ → List ℕ → Bool
-inL1 line table = holdsLine (getD table (indexOf line) 0) line
+inL1 line table = holdsLine (getD table (l1Index line) 0) line
 
 -- the ways of a line's set
 abbrev pub waysOf : ℕ → List ℕ → List ℕ
-waysOf line table = part (setPlace (setOf line)) waysOfSet table
+waysOf line table = part (setIndex (setOf line)) waysPerSet table
 
 module _ (writes : Bool) (line : ℕ) (table : List ℕ) where
   -- L1 holds the line
   pub look-held :
       inL1 line table ≡ true
-      → lookAt writes line table ≡ lookHit1 writes line (getD table (indexOf line) 0) (waysOf line table)
-  unfolding lookAt lookOf
+      → lookupAt writes line table ≡ lookupL1 writes line (getD table (l1Index line) 0) (waysOf line table)
+  unfolding lookupAt lookupOf
   look-held held = rw held
 
   -- L1 lacks the line
   pub look-lacked :
       inL1 line table ≡ false
-      → lookAt writes line table ≡ lookL2 writes line (getD table (indexOf line) 0) (waysOf line table)
-  unfolding lookAt lookOf
+      → lookupAt writes line table ≡ lookupL2 writes line (getD table (l1Index line) 0) (waysOf line table)
+  unfolding lookupAt lookupOf
   look-lacked lacked = rw lacked
 
   -- what an access answers and leaves
-  abbrev pub Outcome : Found → ℕ → List ℕ → Type 0
-  Outcome found ticks left =
+  abbrev pub DraftOutcome : AccessKind → ℕ → List ℕ → Type 0
+  DraftOutcome found ticks left =
       (found ≡ accessOf writes line table .found)
       × (ticks ≡ accessOf writes line table .ticks)
       × (left ≡ accessOf writes line table .table)
@@ -46,26 +46,26 @@ module _ (writes : Bool) (line : ℕ) (table : List ℕ) where
   pub held-outcome :
       (entry : ℕ)
       → inL1 line table ≡ true
-      → entry ≡ cond writes (dirtyEntry line) (getD table (indexOf line) 0)
-      → Outcome Hit1 1 (set table (indexOf line) entry)
-  unfolding accessOf lookHit1
+      → entry ≡ cond writes (dirtyEntry line) (getD table (l1Index line) 0)
+      → DraftOutcome Hit1 1 (set table (l1Index line) entry)
+  unfolding accessOf lookupL1
   held-outcome entry held is = rw (look-held held, is, splice-part) (refl, refl, refl)
 
   -- what the code does where L1 lacks the line: the set, so many ways from the place first, is lent on
-  module _ (width : ℕ) (wide : width ≡ waysOfSet) where
+  module _ (width : ℕ) (wide : width ≡ waysPerSet) where
     abbrev first : ℕ
-    first = setPlace (setOf line)
+    first = setIndex (setOf line)
 
     pub lacked-outcome :
-        (known : Bool) (ways : List ℕ) (found : Found) (entry search late : ℕ)
+        (known : Bool) (ways : List ℕ) (found : AccessKind) (entry search late : ℕ)
         → inL1 line table ≡ false
         → known ≡ has (cleanEntry line) (take width (drop first table))
         → ways ≡ used (cleanEntry line) (take width (drop first table))
         → found ≡ cond known Hit2 Miss
         → entry ≡ entryFor writes line
         → search ≡ cond known 10 100
-        → late ≡ replaceTicks (getD table (indexOf line) 0)
-        → Outcome found (search + late) (set (take first table ++ (ways ++ drop width (drop first table))) (indexOf line) entry)
-    unfolding accessOf lookL2 part splice
+        → late ≡ replaceTicks (getD table (l1Index line) 0)
+        → DraftOutcome found (search + late) (set (take first table ++ (ways ++ drop width (drop first table))) (l1Index line) entry)
+    unfolding accessOf lookupL2 part splice
     lacked-outcome known ways found entry search late lacked knows uses finds enters searched lately =
         rw (look-lacked lacked, finds, searched, lately, enters, uses, knows, wide) (refl, refl, refl)

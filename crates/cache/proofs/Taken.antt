@@ -9,7 +9,7 @@ use lib.ListN.{getD, length, set, take, drop, length-drop}
 use lib.Seq.{getD-drop, take-all, take-suc, take-suc-set}
 use Rattle.lists.specs.Part.{part}
 use Rattle.lists.proofs.Parts.{part-limit}
-use Rattle.cache.specs.Flush.{countOf}
+use Rattle.cache.specs.Flush.{countWhere}
 
 -- a part that is one number longer has that number last
 part-last :
@@ -45,8 +45,8 @@ taken-all first i count table taken long ended so-far = sym (take-all count take
 pub counted-there :
     (test : ℕ → Bool) (first count answer : ℕ) (table taken : List ℕ)
     → taken ≡ part first count table
-    → answer ≡ countOf test (part 0 count taken)
-    → answer ≡ countOf test (part first count table)
+    → answer ≡ countWhere test (part 0 count taken)
+    → answer ≡ countWhere test (part first count table)
 unfolding part
 counted-there test first count answer table taken is counted =
-    counted ∙ ap (countOf test) (ap (take count) is ∙ take-all count (part first count table) (part-limit first count table))
+    counted ∙ ap (countWhere test) (ap (take count) is ∙ take-all count (part first count table) (part-limit first count table))

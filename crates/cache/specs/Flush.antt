@@ -4,20 +4,20 @@ use mathlib.Core.Bool.{Bool, cond}
 use mathlib.Core.List.{List, [], _∷_}
 use lib.ListN.{replicate}
 use Rattle.lists.specs.Part.{part, splice}
-use Rattle.cache.specs.Lines.{indexes, isDirty, isValid, kernelNumbers, kernelPlace}
+use Rattle.cache.specs.Lines.{l1Length, isDirty, isValid, kernelEntries, kernelIndex}
 
 -- how many numbers pass a test
-unfoldable pub countOf : (ℕ → Bool) → List ℕ → ℕ
-countOf test [] = 0
-countOf test (entry ∷ rest) = cond (test entry) 1 0 + countOf test rest
+unfoldable pub countWhere : (ℕ → Bool) → List ℕ → ℕ
+countWhere test [] = 0
+countWhere test (entry ∷ rest) = cond (test entry) 1 0 + countWhere test rest
 
 -- the dirty lines of L1
 unfoldable pub dirtyLines : List ℕ → ℕ
-dirtyLines table = countOf isDirty (part 0 indexes table)
+dirtyLines table = countWhere isDirty (part 0 l1Length table)
 
 -- the valid lines of the L2 sets 60 to 63
 unfoldable pub validLines : List ℕ → ℕ
-validLines table = countOf isValid (part kernelPlace kernelNumbers table)
+validLines table = countWhere isValid (part kernelIndex kernelEntries table)
 
 -- emptying the kernel's sets takes 8 ticks + 1 per valid line
 unfoldable pub kernelFlushTicks : List ℕ → ℕ
@@ -29,8 +29,8 @@ l1FlushTicks table = 8 + 2 * dirtyLines table
 
 -- the table with the kernel's sets emptied
 unfoldable pub kernelFlushed : List ℕ → List ℕ
-kernelFlushed table = splice kernelPlace kernelNumbers (replicate kernelNumbers 0) table
+kernelFlushed table = splice kernelIndex kernelEntries (replicate kernelEntries 0) table
 
 -- the table with L1 emptied
 unfoldable pub l1Flushed : List ℕ → List ℕ
-l1Flushed table = splice 0 indexes (replicate indexes 0) table
+l1Flushed table = splice 0 l1Length (replicate l1Length 0) table

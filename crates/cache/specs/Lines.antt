@@ -18,8 +18,8 @@ abbrev pub colourOf : ℕ → ℕ
 colourOf line = setColour (setOf line)
 
 -- a line's L1 index is line mod 16
-abbrev pub indexOf : ℕ → ℕ
-indexOf line = line % 16
+abbrev pub l1Index : ℕ → ℕ
+l1Index line = line % 16
 
 -- colour 15 is the kernel's
 abbrev pub kernelColour : ℕ
@@ -49,15 +49,15 @@ abbrev pub entryFor : Bool → ℕ → ℕ
 entryFor writes line = cond writes (dirtyEntry line) (cleanEntry line)
 
 -- the cache table is L1, then L2: a set's four numbers begin at 16 + 4 × set
-abbrev pub setPlace : ℕ → ℕ
-setPlace set = 16 + 4 * set
+abbrev pub setIndex : ℕ → ℕ
+setIndex set = 16 + 4 * set
 
 -- each of the 64 sets has four ways
-abbrev pub setsCount : ℕ
-setsCount = 64
+abbrev pub setCount : ℕ
+setCount = 64
 
-abbrev pub waysOfSet : ℕ
-waysOfSet = 4
+abbrev pub waysPerSet : ℕ
+waysPerSet = 4
 
 -- 16 numbers of L1 and 64 × 4 of L2
 abbrev pub tableLength : ℕ
@@ -68,12 +68,12 @@ abbrev pub emptyTable : List ℕ
 emptyTable = replicate tableLength 0
 
 -- the kernel's sets, those of colour 15, are 60 to 63: their 16 numbers are the table's last
-abbrev pub kernelPlace : ℕ
-kernelPlace = setPlace 60
+abbrev pub kernelIndex : ℕ
+kernelIndex = setIndex 60
 
-abbrev pub kernelNumbers : ℕ
-kernelNumbers = 16
+abbrev pub kernelEntries : ℕ
+kernelEntries = 16
 
 -- L1 is the table's first 16 numbers
-abbrev pub indexes : ℕ
-indexes = 16
+abbrev pub l1Length : ℕ
+l1Length = 16

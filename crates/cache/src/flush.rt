@@ -5,7 +5,7 @@ ghost use Prim.Native.Nat.{_+_, _≤_};
 ghost use lib.ListN.{length, replicate};
 ghost use Rattle.lists.specs.Part.{part};
 ghost use Rattle.cache.specs.Lines.{isDirty, isValid};
-ghost use Rattle.cache.specs.Flush.{countOf, kernelFlushed, kernelFlushTicks, l1Flushed, l1FlushTicks};
+ghost use Rattle.cache.specs.Flush.{countWhere, kernelFlushed, kernelFlushTicks, l1Flushed, l1FlushTicks};
 
 // Sixteen numbers of the table from a place on. The counts below take them as an array: it is lent by its address alone, so that their
 // recursion costs no more than a loop.
@@ -25,7 +25,7 @@ fn sixteen(table: &[u16], first: usize) -> [u16; 16]
 // The dirty lines among the numbers from a place on, of which `left` are left.
 fn count_dirty(numbers: &[u16; 16], at: usize, left: usize) -> u64
     requires { ⌜ (length (now numbers) ≡ 16) × (at + left ≤ 16) ⌝ }
-    ensures { λ r. ⌜ r ≡ countOf isDirty (part at left (now (numbers .entry))) ⌝ }
+    ensures { λ r. ⌜ r ≡ countWhere isDirty (part at left (now (numbers .entry))) ⌝ }
 {
     if left == 0 {
         0
@@ -37,7 +37,7 @@ fn count_dirty(numbers: &[u16; 16], at: usize, left: usize) -> u64
 // The valid lines among the numbers from a place on, of which `left` are left.
 fn count_valid(numbers: &[u16; 16], at: usize, left: usize) -> u64
     requires { ⌜ (length (now numbers) ≡ 16) × (at + left ≤ 16) ⌝ }
-    ensures { λ r. ⌜ r ≡ countOf isValid (part at left (now (numbers .entry))) ⌝ }
+    ensures { λ r. ⌜ r ≡ countWhere isValid (part at left (now (numbers .entry))) ⌝ }
 {
     if left == 0 {
         0

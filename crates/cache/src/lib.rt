@@ -6,19 +6,19 @@ ghost use mathlib.Core.Path.{_≡_};
 ghost use mathlib.Core.Bool.{cond};
 ghost use Prim.Native.Nat.{_+_, _<_};
 ghost use lib.ListN.{length};
-ghost use Rattle.cache.specs.declared.Found.the-variants.{Hit2, Miss};
+ghost use Rattle.cache.specs.declared.AccessKind.the-variants.{Hit2, Miss};
 ghost use Rattle.cache.specs.Access.{accessOf};
 
 // How an access found its line.
-pub enum Found {
+pub enum AccessKind {
     Hit1,
     Hit2,
     Miss,
 }
 
 // What an access answers: how it found its line, and what it took.
-pub struct Touched {
-    pub found: Found,
+pub struct AccessResult {
+    pub found: AccessKind,
     pub ticks: u64,
 }
 
@@ -37,14 +37,14 @@ fn choose_number(test: bool, first: u64, second: u64) -> u64
 }
 
 // How a line that L1 lacks was found, by whether its set had it.
-fn found_in_set(known: bool) -> Found
+fn found_in_set(known: bool) -> AccessKind
     ensures { λ r. ⌜ r ≡ cond known Hit2 Miss ⌝ }
 {
-    if known { Found::Hit2 } else { Found::Miss }
+    if known { AccessKind::Hit2 } else { AccessKind::Miss }
 }
 
 // An access of a line. The four numbers of its set are lent on to be rewritten, and only where L1 lacks the line.
-pub fn access(table: &mut [u16], line: u16, writes: bool) -> Touched
+pub fn access(table: &mut [u16], line: u16, writes: bool) -> AccessResult
     requires { ⌜ (length (now table) ≡ 272) × (line < 4096) ⌝ }
     ensures { λ r.
         ⌜ (r .found ≡ accessOf writes line (now (table .entry)) .found)
@@ -57,8 +57,8 @@ pub fn access(table: &mut [u16], line: u16, writes: bool) -> Touched
     let held = table[index];
     if (held == clean) | (held == dirty) {
         table[index] = choose_entry(writes, dirty, held);
-        return Touched {
-            found: Found::Hit1,
+        return AccessResult {
+            found: AccessKind::Hit1,
             ticks: 1,
         };
     }
@@ -66,7 +66,7 @@ pub fn access(table: &mut [u16], line: u16, writes: bool) -> Touched
     let to = from + 4;
     let known = sets::use_entry(&mut table[from..to], clean);
     table[index] = choose_entry(writes, dirty, clean);
-    Touched {
+    AccessResult {
         found: found_in_set(known),
         ticks: choose_number(known, 10, 100) + choose_number(32_768 < held, 4, 0),
     }

@@ -5,51 +5,51 @@ use mathlib.Core.List.{List}
 use Prim.Native.Nat.{ℕ, _≤_}
 use lib.ListN.{length, replicate}
 use Rattle.plan.specs.declared.Plan.{Plan}
-use Rattle.plan.specs.Possible.{planPossible}
+use Rattle.plan.specs.Validity.{planValid}
 use Rattle.script.specs.Limits.{scriptsLength}
 use Rattle.records.specs.Records.{partRecords}
 use Rattle.state.specs.declared.State.{State}
-use Rattle.state.specs.Impossible.{statePossible}
+use Rattle.state.specs.StateValidity.{stateValid}
 use Rattle.state.specs.World.{World, endedOf}
 use Rattle.machine.specs.Steps.{steps}
 use Rattle.machine.specs.View.{worldWith}
 use Rattle.machine.proofs.Runs.{run-world}
-use Rattle.reached.proofs.Ending.{ends}
-use Rattle.reached.proofs.Reached.{boxes-length, cache-length, log-length, reachedWorld, state-possible, tables-sound}
+use Rattle.reachable.proofs.Ending.{ends}
+use Rattle.reachable.proofs.Reached.{boxes-length, cache-length, log-length, reachedWorld, state-valid, tables-valid}
 use Rattle.refusal.specs.declared.Verdict.{Verdict}
 use Rattle.refusal.specs.declared.Verdict.the-variants.{Accepted, Refused}
 use Rattle.engine.specs.Answers.{freshWith}
 use Rattle.engine.specs.declared.Ending.the-variants.{Ended}
 use Rattle.engine.specs.Checks.{freshVerdict, runVerdict}
 use Rattle.machine.specs.Fresh.{freshWorld}
-use Rattle.engine.specs.FreshStart.{Fresh, freshFrom, freshStartOf}
+use Rattle.engine.specs.FreshStart.{FreshOutcome, freshFrom, freshStartOf}
 use Rattle.engine.specs.Running.{endingOf, ranFrom, runCallOf, runFrom}
 use Rattle.engine.proofs.Passing.{run-passes}
 
 -- a fresh start under a possible plan, on tables of the right lengths, gives the world from which runs start
 pub started-fresh :
     (plan : Plan) (old fresh : State) (verdict : Verdict) (cache boxes log : List ℕ)
-    → planPossible plan ≡ true
+    → planValid plan ≡ true
     → freshWith verdict fresh cache boxes ≡ freshStartOf plan old (replicate 272 0) (replicate 64 0)
     → worldWith fresh cache boxes log ≡ freshWorld log
 unfolding freshStartOf freshWorld freshVerdict
 started-fresh plan old fresh verdict cache boxes log possible did =
     let accepted : freshVerdict plan (replicate 272 0) (replicate 64 0) ≡ Accepted = rw possible refl in
     let started = did ∙ ap (λ (v : Verdict). freshFrom v old (replicate 272 0) (replicate 64 0)) accepted in
-    ap (λ (f : Fresh). worldWith (f .state) (f .cache) (f .boxes) log) started
+    ap (λ (f : FreshOutcome). worldWith (f .state) (f .cache) (f .boxes) log) started
 
 -- what a run from a fresh start leaves is as long as its log was, and passes the check for 14
 pub record Left (plan : Plan) (log : List ℕ) (world : World) : Type 0 where
-  pub possible : statePossible plan (partRecords plan (length log)) (world .state) ≡ true
+  pub possible : stateValid plan (partRecords plan (length log)) (world .state) ≡ true
   pub long : length (world .log) ≡ length log
 
 pub run-left :
-    (plan : Plan) (scripts log : List ℕ) (limit : ℕ) → planPossible plan ≡ true → Left plan log (runCallOf plan scripts (freshWorld log) limit .world)
+    (plan : Plan) (scripts log : List ℕ) (limit : ℕ) → planValid plan ≡ true → Left plan log (runCallOf plan scripts (freshWorld log) limit .world)
 unfolding runCallOf ranFrom freshWorld steps
 run-left plan scripts log limit possible = go (runVerdict plan scripts (freshWorld log))
   where
     reached : (count : ℕ) → Left plan log (steps plan scripts (partRecords plan (length log)) count (freshWorld log))
-    reached count = record { possible = state-possible plan scripts log count possible; long = log-length plan scripts log count possible }
+    reached count = record { possible = state-valid plan scripts log count possible; long = log-length plan scripts log count possible }
 
     go : (verdict : Verdict) → Left plan log (runFrom verdict plan scripts (freshWorld log) limit .world)
     go Accepted = subst (Left plan log) (sym (run-world plan scripts (partRecords plan (length log)) limit (freshWorld log))) (reached limit)
@@ -57,7 +57,7 @@ run-left plan scripts log limit possible = go (runVerdict plan scripts (freshWor
 
 -- a run that goes on from any world which so many steps reach, beside a script store of the right length, is not refused
 pub reached-accepted : (plan : Plan) (scripts log : List ℕ) (count : ℕ)
-    → planPossible plan ≡ true
+    → planValid plan ≡ true
     → length scripts ≡ scriptsLength
     → runVerdict plan scripts (reachedWorld plan scripts log count) ≡ Accepted
 reached-accepted plan scripts log count possible store =
@@ -65,14 +65,14 @@ reached-accepted plan scripts log count possible store =
     (cache-length plan scripts log count possible)
     (boxes-length plan scripts log count possible)
     possible
-    (tables-sound plan scripts log count possible)
-    (subst (λ size. statePossible plan (partRecords plan size) (reachedWorld plan scripts log count .state) ≡ true)
+    (tables-valid plan scripts log count possible)
+    (subst (λ size. stateValid plan (partRecords plan size) (reachedWorld plan scripts log count .state) ≡ true)
     (sym (log-length plan scripts log count possible))
-    (state-possible plan scripts log count possible))
+    (state-valid plan scripts log count possible))
 
 -- nor is one right after a fresh start
 pub fresh-run-accepted : (plan : Plan) (scripts log : List ℕ)
-    → planPossible plan ≡ true
+    → planValid plan ≡ true
     → length scripts ≡ scriptsLength
     → runVerdict plan scripts (freshWorld log) ≡ Accepted
 unfolding steps
@@ -80,7 +80,7 @@ fresh-run-accepted plan scripts log possible store = reached-accepted plan scrip
 
 -- and it ends, where its limit is large enough for every plan
 pub fresh-run-ends : (plan : Plan) (scripts log : List ℕ) (limit : ℕ)
-    → planPossible plan ≡ true
+    → planValid plan ≡ true
     → length scripts ≡ scriptsLength
     → 4_294_969_343 ≤ limit
     → runCallOf plan scripts (freshWorld log) limit .ending ≡ Ended

@@ -6,22 +6,22 @@ use mathlib.Core.Path.{_≡_}
 use lib.ListN.{length}
 use borrow.Author.Tests.{eq-eqb, lt-ltb}
 use Rattle.plan.specs.declared.Plan.{Plan}
-use Rattle.plan.specs.Possible.{planPossible}
+use Rattle.plan.specs.Validity.{planValid}
 use Rattle.script.specs.Limits.{scriptsLength}
 use Rattle.cache.specs.Lines.{tableLength}
 use Rattle.records.specs.Records.{partRecords}
 use Rattle.ops.specs.Ops.{boxesLength}
 use Rattle.state.specs.declared.State.{State}
-use Rattle.state.specs.Damage.{tablesSound}
-use Rattle.state.specs.Impossible.{statePossible}
+use Rattle.state.specs.TableValidity.{tablesValid}
+use Rattle.state.specs.StateValidity.{stateValid}
 use Rattle.state.specs.World.{World}
 use Rattle.refusal.specs.declared.Verdict.the-variants.{Accepted}
-use Rattle.engine.specs.Asking.{logRefusalOf}
+use Rattle.engine.specs.LogQuery.{logStatusOf}
 use Rattle.engine.specs.Checks.{logVerdict, runVerdict, stateVerdict}
 
 -- a state
 pub state-passes : (plan : Plan) (state : State) (logLength : ℕ)
-    → statePossible plan (partRecords plan logLength) state ≡ true
+    → stateValid plan (partRecords plan logLength) state ≡ true
     → stateVerdict plan state logLength ≡ Accepted
 unfolding stateVerdict
 state-passes plan state logLength passes = rw passes
@@ -31,9 +31,9 @@ pub run-passes : (plan : Plan) (scripts : List ℕ) (world : World)
     → length scripts ≡ scriptsLength
     → length (world .cache) ≡ tableLength
     → length (world .boxes) ≡ boxesLength
-    → planPossible plan ≡ true
-    → tablesSound plan (world .state) (world .cache) (world .boxes) ≡ true
-    → statePossible plan (partRecords plan (length (world .log))) (world .state) ≡ true
+    → planValid plan ≡ true
+    → tablesValid plan (world .state) (world .cache) (world .boxes) ≡ true
+    → stateValid plan (partRecords plan (length (world .log))) (world .state) ≡ true
     → runVerdict plan scripts world ≡ Accepted
 unfolding runVerdict
 run-passes plan scripts world store cache boxes possible sound passes =
@@ -48,11 +48,11 @@ run-passes plan scripts world store cache boxes possible sound passes =
     (state-passes plan (world .state) (length (world .log)) passes)
 
 -- what an asking for a declared domain's log takes
-pub asking-passes : (plan : Plan) (state : State) (log : List ℕ) (domain : ℕ)
-    → planPossible plan ≡ true
-    → statePossible plan (partRecords plan (length log)) state ≡ true
+pub log-query-passes : (plan : Plan) (state : State) (log : List ℕ) (domain : ℕ)
+    → planValid plan ≡ true
+    → stateValid plan (partRecords plan (length log)) state ≡ true
     → domain < plan .domains
-    → logRefusalOf plan state log domain ≡ Accepted
-unfolding logRefusalOf logVerdict
-asking-passes plan state log domain possible passes declared =
+    → logStatusOf plan state log domain ≡ Accepted
+unfolding logStatusOf logVerdict
+log-query-passes plan state log domain possible passes declared =
     rw (possible, state-passes plan state (length log) passes, lt-ltb domain (plan .domains) declared, logVerdict)

@@ -10,15 +10,15 @@ use lib.ListN.{drop, length, replicate, take}
 use borrow.Author.Tests.{eqb-true, leb-true, lt-ltb, ltb-true}
 use Rattle.lists.specs.Part.{part}
 use Rattle.plan.specs.declared.Plan.{Plan}
-use Rattle.plan.specs.Possible.{planPossible}
+use Rattle.plan.specs.Validity.{planValid}
 use Rattle.script.specs.Limits.{scriptsLength}
 use Rattle.state.specs.declared.State.{State}
-use Rattle.state.specs.Damage.{tablesSound}
-use Rattle.plan.proofs.Possible.{counts}
+use Rattle.state.specs.TableValidity.{tablesValid}
+use Rattle.plan.proofs.Validity.{counts}
 use Rattle.plan.proofs.Sums.{all-below}
 use Rattle.records.proofs.Parts.{parts-fit}
 use Rattle.records.specs.Records.{logPart, partRecords}
-use Rattle.state.specs.Impossible.{clockPossible, countsPossible, statePossible}
+use Rattle.state.specs.StateValidity.{clockValid, domainCountsValid, stateValid}
 use Rattle.state.specs.World.{World, endedOf, freshState, positionAt, recordsAt}
 use Rattle.machine.proofs.Going.{part-room}
 use Rattle.machine.specs.Steps.{runOf}
@@ -31,7 +31,7 @@ use Rattle.engine.specs.Answers.{answered, freshWith}
 use Rattle.engine.specs.declared.Ending.{Ending}
 use Rattle.engine.specs.declared.Ending.the-variants.{Stopped}
 use Rattle.engine.specs.Running.{endingOf, ranFrom, runCallOf, runFrom}
-use Rattle.engine.specs.Asking.{logCallOf, logFrom}
+use Rattle.engine.specs.LogQuery.{logQueryOf, logFrom}
 use Rattle.engine.specs.FreshStart.{freshFrom, freshStartOf}
 use Rattle.engine.specs.Checks.{declaredVerdict, freshVerdict, logVerdict, runVerdict, stateVerdict, tablesFit, unless}
 
@@ -46,7 +46,7 @@ unless-passed false refusal rest passed = absurd (not-refused refusal passed)
 
 -- a lent state, beside a log of some length
 pub state-accepted :
-    (plan : Plan) (state : State) (size : ℕ) → stateVerdict plan state size ≡ Accepted → statePossible plan (partRecords plan size) state ≡ true
+    (plan : Plan) (state : State) (size : ℕ) → stateVerdict plan state size ≡ Accepted → stateValid plan (partRecords plan size) state ≡ true
 unfolding stateVerdict
 state-accepted plan state size passed = unless-passed _ _ _ passed .0
 
@@ -54,7 +54,7 @@ state-accepted plan state size passed = unless-passed _ _ _ passed .0
 pub record FreshAccepted (plan : Plan) (cache boxes : List ℕ) : Type 0 where
   pub cache-long : length cache ≡ 272
   pub boxes-long : length boxes ≡ 64
-  pub possible : planPossible plan ≡ true
+  pub possible : planValid plan ≡ true
 
 pub fresh-accepted : (plan : Plan) (cache boxes : List ℕ) → freshVerdict plan cache boxes ≡ Accepted → FreshAccepted plan cache boxes
 unfolding freshVerdict
@@ -68,16 +68,16 @@ pub record RunAccepted (plan : Plan) (scripts : List ℕ) (world : World) : Type
   pub scripts-long : length scripts ≡ 2048
   pub cache-long : length (world .cache) ≡ 272
   pub boxes-long : length (world .boxes) ≡ 64
-  pub possible : planPossible plan ≡ true
-  pub sound : tablesSound plan (world .state) (world .cache) (world .boxes) ≡ true
-  pub state-is : statePossible plan (partRecords plan (length (world .log))) (world .state) ≡ true
+  pub possible : planValid plan ≡ true
+  pub sound : tablesValid plan (world .state) (world .cache) (world .boxes) ≡ true
+  pub state-is : stateValid plan (partRecords plan (length (world .log))) (world .state) ≡ true
 
 pub run-accepted : (plan : Plan) (scripts : List ℕ) (world : World) → runVerdict plan scripts world ≡ Accepted → RunAccepted plan scripts world
 unfolding runVerdict
 run-accepted plan scripts world passed =
     let first = unless-passed (eqb (length scripts) scriptsLength && tablesFit (world .cache) (world .boxes)) _ _ passed in
-    let second = unless-passed (planPossible plan) _ _ (first .1) in
-    let third = unless-passed (tablesSound plan (world .state) (world .cache) (world .boxes)) _ _ (second .1) in
+    let second = unless-passed (planValid plan) _ _ (first .1) in
+    let third = unless-passed (tablesValid plan (world .state) (world .cache) (world .boxes)) _ _ (second .1) in
     let fits = and-eq-true-iff _ _ .0 (first .0) in
     let long = and-eq-true-iff _ _ .0 (fits .1) in
     record {
@@ -91,8 +91,8 @@ run-accepted plan scripts world passed =
 
 -- what an asking took
 pub record LogAccepted (plan : Plan) (state : State) (log : List ℕ) (domain : ℕ) : Type 0 where
-  pub possible : planPossible plan ≡ true
-  pub state-is : statePossible plan (partRecords plan (length log)) state ≡ true
+  pub possible : planValid plan ≡ true
+  pub state-is : stateValid plan (partRecords plan (length log)) state ≡ true
   pub declared : domain < plan .domains
 
 declared-accepted :
@@ -104,7 +104,7 @@ pub log-accepted :
     (plan : Plan) (state : State) (log : List ℕ) (domain : ℕ) → logVerdict plan state log domain ≡ Accepted → LogAccepted plan state log domain
 unfolding logVerdict
 log-accepted plan state log domain passed =
-    let first = unless-passed (planPossible plan) _ _ passed in
+    let first = unless-passed (planValid plan) _ _ passed in
     let second = declared-accepted plan domain (stateVerdict plan state (length log)) (first .1) in
     record { possible = first .0; state-is = state-accepted plan state _ (second .0); declared = second .1 }
 
@@ -117,14 +117,14 @@ module _ (plan : Plan) (scripts : List ℕ) (world : World) where
   unfolding runVerdict
   run-wrong-length unfit = rw (unfit, runVerdict) refl
 
-  pub run-impossible : allFit ≡ true → planPossible plan ≡ false → Refused ImpossiblePlan ≡ runVerdict plan scripts world
+  pub run-impossible : allFit ≡ true → planValid plan ≡ false → Refused ImpossiblePlan ≡ runVerdict plan scripts world
   unfolding runVerdict
   run-impossible fit impossible = rw (fit, impossible, runVerdict) refl
 
   pub run-damaged :
       allFit ≡ true
-      → planPossible plan ≡ true
-      → tablesSound plan (world .state) (world .cache) (world .boxes) ≡ false
+      → planValid plan ≡ true
+      → tablesValid plan (world .state) (world .cache) (world .boxes) ≡ false
       → Refused DamagedTable ≡ runVerdict plan scripts world
   unfolding runVerdict
   run-damaged fit possible damaged = rw (fit, possible, damaged, runVerdict) refl
@@ -132,8 +132,8 @@ module _ (plan : Plan) (scripts : List ℕ) (world : World) where
   pub run-judged :
       (verdict : Verdict)
       → allFit ≡ true
-      → planPossible plan ≡ true
-      → tablesSound plan (world .state) (world .cache) (world .boxes) ≡ true
+      → planValid plan ≡ true
+      → tablesValid plan (world .state) (world .cache) (world .boxes) ≡ true
       → verdict ≡ stateVerdict plan (world .state) (length (world .log))
       → verdict ≡ runVerdict plan scripts world
   unfolding runVerdict
@@ -146,13 +146,13 @@ module _ (plan : Plan) (scripts : List ℕ) (world : World) where
 
 -- the verdict on an asking
 module _ (plan : Plan) (state : State) (log : List ℕ) (domain : ℕ) where
-  pub log-impossible : planPossible plan ≡ false → Refused ImpossiblePlan ≡ logVerdict plan state log domain
+  pub log-impossible : planValid plan ≡ false → Refused ImpossiblePlan ≡ logVerdict plan state log domain
   unfolding logVerdict
   log-impossible impossible = rw (impossible, logVerdict) refl
 
   pub log-judged :
       (verdict : Verdict)
-      → planPossible plan ≡ true
+      → planValid plan ≡ true
       → verdict ≡ stateVerdict plan state (length log)
       → declaredVerdict plan domain verdict ≡ logVerdict plan state log domain
   unfolding logVerdict
@@ -204,21 +204,21 @@ module _ (plan : Plan) (scripts : List ℕ) (world : World) (limit : ℕ) where
 -- a declared domain of a possible state has no more records than its part
 counted-part :
     (plan : Plan) (quota : ℕ) (state : State) (domain : ℕ)
-    → statePossible plan quota state ≡ true
+    → stateValid plan quota state ≡ true
     → domain < plan .domains
     → domain < 8
     → recordsAt state domain ≤ quota
-unfolding statePossible countsPossible
+unfolding stateValid domainCountsValid
 counted-part plan quota state domain passes declared below =
-    let all = and-eq-true-iff (clockPossible plan state) _ .0 passes .1 in
-    let whole = all-below (countsPossible plan quota state) 8 domain all below in
+    let all = and-eq-true-iff (clockValid plan state) _ .0 passes .1 in
+    let whole = all-below (domainCountsValid plan quota state) 8 domain all below in
     let own : leb (positionAt state domain) 256 && leb (recordsAt state domain) quota ≡ true = rw (lt-ltb domain (plan .domains) declared) at whole in
     leb-true _ _ (and-eq-true-iff (leb (positionAt state domain) 256) _ .0 own .1)
 
 -- what an asking hands back, refused or not
 module _ (plan : Plan) (state : State) (log : List ℕ) (domain : ℕ) where
-  pub log-refused : (refusal : Refusal) → Refused refusal ≡ logVerdict plan state log domain → [] ≡ logCallOf plan state log domain
-  unfolding logCallOf
+  pub log-refused : (refusal : Refusal) → Refused refusal ≡ logVerdict plan state log domain → [] ≡ logQueryOf plan state log domain
+  unfolding logQueryOf
   log-refused refusal refused = ap (λ (verdict : Verdict). logFrom verdict plan state log domain) refused
 
   pub log-handed :
@@ -226,8 +226,8 @@ module _ (plan : Plan) (state : State) (log : List ℕ) (domain : ℕ) where
       → Accepted ≡ logVerdict plan state log domain
       → quota ≡ partRecords plan (length log)
       → take (8 * (quota * domain) + 8 * recordsAt state domain - 8 * (quota * domain)) (drop (8 * (quota * domain)) log)
-      ≡ logCallOf plan state log domain
-  unfolding logCallOf logPart part
+      ≡ logQueryOf plan state log domain
+  unfolding logQueryOf logPart part
   log-handed quota accepted parts =
       let long : 8 * (quota * domain) + 8 * recordsAt state domain - 8 * (quota * domain) ≡ 8 * recordsAt state domain = omega arith in
       rw (long, parts)

@@ -6,14 +6,14 @@ use mathlib.Core.List.{List}
 use lib.Dec.{eqb, ltb}
 use lib.ListN.{length}
 use Rattle.plan.specs.declared.Plan.{Plan}
-use Rattle.plan.specs.Possible.{planPossible}
+use Rattle.plan.specs.Validity.{planValid}
 use Rattle.script.specs.Limits.{scriptsLength}
 use Rattle.cache.specs.Lines.{tableLength}
 use Rattle.records.specs.Records.{partRecords}
 use Rattle.ops.specs.Ops.{boxesLength}
 use Rattle.state.specs.declared.State.{State}
-use Rattle.state.specs.Damage.{tablesSound}
-use Rattle.state.specs.Impossible.{statePossible}
+use Rattle.state.specs.TableValidity.{tablesValid}
+use Rattle.state.specs.StateValidity.{stateValid}
 use Rattle.state.specs.World.{World}
 use Rattle.refusal.specs.declared.Refusal.{Refusal}
 use Rattle.refusal.specs.declared.Refusal.the-variants.{DamagedTable, ImpossiblePlan, ImpossibleState, WrongDomain, WrongLength}
@@ -31,18 +31,18 @@ unless false refusal rest = Refused refusal
 
 -- 14, of a state beside a log
 unfoldable pub stateVerdict : Plan → State → ℕ → Verdict
-stateVerdict plan state logLength = unless (statePossible plan (partRecords plan logLength) state) ImpossibleState Accepted
+stateVerdict plan state logLength = unless (stateValid plan (partRecords plan logLength) state) ImpossibleState Accepted
 
 -- a fresh start: 11 and 12. What state, cache table and boxes hold is not looked at, since it is overwritten.
 unfoldable pub freshVerdict : Plan → List ℕ → List ℕ → Verdict
-freshVerdict plan cache boxes = unless (tablesFit cache boxes) WrongLength (unless (planPossible plan) ImpossiblePlan Accepted)
+freshVerdict plan cache boxes = unless (tablesFit cache boxes) WrongLength (unless (planValid plan) ImpossiblePlan Accepted)
 
 -- a step and a run take everything: 11, 12, 13, 14
 unfoldable pub runVerdict : Plan → List ℕ → World → Verdict
 runVerdict plan scripts world =
     unless (eqb (length scripts) scriptsLength && tablesFit (world .cache) (world .boxes)) WrongLength
-    (unless (planPossible plan) ImpossiblePlan
-    (unless (tablesSound plan (world .state) (world .cache) (world .boxes)) DamagedTable
+    (unless (planValid plan) ImpossiblePlan
+    (unless (tablesValid plan (world .state) (world .cache) (world .boxes)) DamagedTable
     (stateVerdict plan (world .state) (length (world .log)))))
 
 -- 4, offset 0, last: an undeclared domain's log
@@ -53,4 +53,4 @@ declaredVerdict plan domain (Refused refusal) = Refused refusal
 -- asking for a log takes plan, state, log and a domain: 12, 14, then 4
 unfoldable pub logVerdict : Plan → State → List ℕ → ℕ → Verdict
 logVerdict plan state log domain =
-    unless (planPossible plan) ImpossiblePlan (declaredVerdict plan domain (stateVerdict plan state (length log)))
+    unless (planValid plan) ImpossiblePlan (declaredVerdict plan domain (stateVerdict plan state (length log)))

@@ -11,18 +11,18 @@ use Rattle.refusal.specs.declared.Verdict.the-variants.{Accepted, Refused}
 use Rattle.engine.specs.Checks.{freshVerdict}
 
 -- what a fresh start answers and leaves
-pub record Fresh : Type 0 where
+pub record FreshOutcome : Type 0 where
   pub verdict : Verdict
   pub state : State
   pub cache : List ℕ
   pub boxes : List ℕ
 
 -- where it is not refused, state, cache table and boxes are all zeros; a refused one leaves them
-abbrev pub freshFrom : Verdict → State → List ℕ → List ℕ → Fresh
+abbrev pub freshFrom : Verdict → State → List ℕ → List ℕ → FreshOutcome
 freshFrom Accepted state cache boxes =
     record { verdict = Accepted; state = freshState; cache = emptyTable; boxes = emptyBoxes }
 freshFrom (Refused refusal) state cache boxes = record { verdict = Refused refusal; state = state; cache = cache; boxes = boxes }
 
 -- a fresh start, for every input
-unfoldable pub freshStartOf : Plan → State → List ℕ → List ℕ → Fresh
+unfoldable pub freshStartOf : Plan → State → List ℕ → List ℕ → FreshOutcome
 freshStartOf plan state cache boxes = freshFrom (freshVerdict plan cache boxes) state cache boxes

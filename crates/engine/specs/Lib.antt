@@ -2,4 +2,4 @@ pub mod Checks
 pub mod FreshStart
 pub mod Running
 pub mod Answers
-pub mod Asking
+pub mod LogQuery

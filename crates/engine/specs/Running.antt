@@ -6,7 +6,7 @@ use lib.ListN.{length}
 use Rattle.plan.specs.declared.Plan.{Plan}
 use Rattle.records.specs.Records.{partRecords}
 use Rattle.state.specs.World.{World, endedOf}
-use Rattle.machine.specs.Steps.{Ran, runOf}
+use Rattle.machine.specs.Steps.{RunEffect, runOf}
 use Rattle.refusal.specs.declared.Verdict.{Verdict}
 use Rattle.refusal.specs.declared.Verdict.the-variants.{Accepted, Refused}
 use Rattle.engine.specs.declared.Ending.{Ending}
@@ -14,7 +14,7 @@ use Rattle.engine.specs.declared.Ending.the-variants.{Stopped, Ended}
 use Rattle.engine.specs.Checks.{runVerdict}
 
 -- what a run answers and leaves
-pub record Run : Type 0 where
+pub record RunOutcome : Type 0 where
   pub verdict : Verdict
   pub steps : ℕ
   pub ending : Ending
@@ -25,22 +25,22 @@ abbrev pub endingOf : Bool → Ending
 endingOf ended = cond ended Ended Stopped
 
 -- what a run answers that was not refused
-unfoldable pub ranFrom : Plan → Ran → Run
+unfoldable pub ranFrom : Plan → RunEffect → RunOutcome
 ranFrom plan ran =
     record
     { verdict = Accepted; steps = ran .done; ending = endingOf (endedOf plan (ran .world .state)); world = ran .world }
 
 -- a refused run changes nothing, and does no step
-abbrev pub runFrom : Verdict → Plan → List ℕ → World → ℕ → Run
+abbrev pub runFrom : Verdict → Plan → List ℕ → World → ℕ → RunOutcome
 runFrom Accepted plan scripts world limit = ranFrom plan (runOf plan scripts (partRecords plan (length (world .log))) limit world)
 runFrom (Refused refusal) plan scripts world limit = record { verdict = Refused refusal; steps = 0; ending = Stopped; world = world }
 
 -- running with a limit
-unfoldable pub runCallOf : Plan → List ℕ → World → ℕ → Run
+unfoldable pub runCallOf : Plan → List ℕ → World → ℕ → RunOutcome
 runCallOf plan scripts world limit = runFrom (runVerdict plan scripts world) plan scripts world limit
 
 -- a single step is a run whose limit is one step
-unfoldable pub stepCallOf : Plan → List ℕ → World → Run
+unfoldable pub stepCallOf : Plan → List ℕ → World → RunOutcome
 stepCallOf plan scripts world = runCallOf plan scripts world 1
 
 -- the number that stands for an ending: 0 for stopped, 1 for ended

@@ -1,25 +1,25 @@
 // The refusals of the entry points: 11, 12, 13, 14, in this order, each only where the call takes that thing.
 use plan::Plan;
-use plan::checking::is_possible;
+use plan::validity::is_valid;
 use records::part_records;
 use refusal::Refusal;
 use refusal::Verdict;
 use state::State;
-use state::states::state_possible;
-use state::tables::tables_sound;
+use state::state_validity::state_valid;
+use state::table_validity::tables_valid;
 ghost use mathlib.Core.Path.{_≡_};
 ghost use mathlib.Core.Bool.{true};
-ghost use Rattle.plan.specs.Possible.{planPossible};
+ghost use Rattle.plan.specs.Validity.{planValid};
 ghost use Rattle.machine.specs.View.{worldWith};
 ghost use Rattle.engine.specs.Checks.{freshVerdict, logVerdict, runVerdict, stateVerdict};
 
 // 14, of a state beside a log.
 pub fn check_state(plan: Plan, state: State, log_length: usize) -> Verdict
-    requires { ⌜ planPossible plan ≡ true ⌝ }
+    requires { ⌜ planValid plan ≡ true ⌝ }
     ensures { λ r. ⌜ r ≡ stateVerdict plan state «log_length» ⌝ }
 {
     let quota = part_records(plan.domains, log_length);
-    if state_possible(plan, quota, state) {
+    if state_valid(plan, quota, state) {
         Verdict::Accepted
     } else {
         Verdict::Refused(Refusal::ImpossibleState)
@@ -31,7 +31,7 @@ pub fn check_fresh(plan: Plan, cache: &[u16], boxes: &[u32]) -> Verdict
     ensures { λ r. ⌜ r ≡ freshVerdict plan (now (cache .entry)) (now (boxes .entry)) ⌝ }
 {
     if (cache.len() == 272) & (boxes.len() == 64) {
-        if is_possible(plan) {
+        if is_valid(plan) {
             Verdict::Accepted
         } else {
             Verdict::Refused(Refusal::ImpossiblePlan)
@@ -55,10 +55,10 @@ pub fn check_run(
     if !((scripts.len() == 2_048) & ((cache.len() == 272) & (boxes.len() == 64))) {
         return Verdict::Refused(Refusal::WrongLength);
     }
-    if !is_possible(plan) {
+    if !is_valid(plan) {
         return Verdict::Refused(Refusal::ImpossiblePlan);
     }
-    if !tables_sound(plan, state, cache, boxes) {
+    if !tables_valid(plan, state, cache, boxes) {
         return Verdict::Refused(Refusal::DamagedTable);
     }
     check_state(plan, state, log.len())
@@ -68,7 +68,7 @@ pub fn check_run(
 pub fn check_log(plan: Plan, state: State, log: &[u8], domain: u32) -> Verdict
     ensures { λ r. ⌜ r ≡ logVerdict plan state (now (log .entry)) domain ⌝ }
 {
-    if !is_possible(plan) {
+    if !is_valid(plan) {
         return Verdict::Refused(Refusal::ImpossiblePlan);
     }
     let verdict = check_state(plan, state, log.len());

@@ -1,5 +1,5 @@
 // The entry points of a run: each looks at what it was lent, refuses or does its work, and answers every input.
-pub mod asking;
+pub mod log_query;
 pub mod checks;
 pub mod lending;
 pub mod running;
@@ -15,7 +15,7 @@ pub enum Ending {
 }
 
 // What a fresh start answers, beside the cache table and the boxes.
-pub struct Started {
+pub struct FreshResult {
     pub verdict: Verdict,
     pub state: State,
 }

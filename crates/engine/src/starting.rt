@@ -1,5 +1,5 @@
 // A fresh start: the state, the cache table and the boxes zeroed.
-use crate::Started;
+use crate::FreshResult;
 use crate::checks::check_fresh;
 use cache::flush::empty;
 use plan::Plan;
@@ -23,20 +23,20 @@ fn clear_boxes(boxes: &mut [u32])
 }
 
 // A fresh start, or a refusal that changes nothing.
-pub fn fresh_start(plan: Plan, state: State, cache: &mut [u16], boxes: &mut [u32]) -> Started
+pub fn fresh_start(plan: Plan, state: State, cache: &mut [u16], boxes: &mut [u32]) -> FreshResult
     ensures { λ r. ⌜ freshWith (r .verdict) (r .state) (now (cache .exit)) (now (boxes .exit))
         ≡ freshStartOf plan state (now (cache .entry)) (now (boxes .entry)) ⌝ }
 {
     let verdict = check_fresh(plan, cache, boxes);
     match verdict {
-        Verdict::Refused(refusal) => Started {
+        Verdict::Refused(refusal) => FreshResult {
             verdict: Verdict::Refused(refusal),
             state,
         },
         Verdict::Accepted => {
             empty(cache);
             clear_boxes(boxes);
-            Started {
+            FreshResult {
                 verdict: Verdict::Accepted,
                 state: fresh_state(),
             }

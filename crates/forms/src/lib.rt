@@ -38,7 +38,7 @@ pub enum Form {
 }
 
 // What stands within a line's brackets, and the offset past it.
-pub struct Inside {
+pub struct FormBody {
     pub form: Form,
     pub end: usize,
     // where the text up to there first names each domain as a recipient, plus one; 0 where it has not

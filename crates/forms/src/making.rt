@@ -1,15 +1,15 @@
 // What every form comes to in the end: it was taken, or it is refused.
 use crate::Form;
-use crate::Inside;
+use crate::FormBody;
 use refusal::Refusal;
 ghost use mathlib.Core.Path.{_≡_};
-ghost use Rattle.forms.specs.Forms.{insideWith, refusedInside};
+ghost use Rattle.forms.specs.Forms.{bodyWith, refusedBody};
 
 // A refused form; where it was reached no longer matters.
-pub fn refused_inside(named: [usize; 8], refusal: Refusal) -> Inside
-    ensures { λ r. ⌜ r ≡ refusedInside named refusal ⌝ }
+pub fn refused_body(named: [usize; 8], refusal: Refusal) -> FormBody
+    ensures { λ r. ⌜ r ≡ refusedBody named refusal ⌝ }
 {
-    Inside {
+    FormBody {
         form: Form::Refused(refusal),
         end: 0,
         named,
@@ -17,8 +17,8 @@ pub fn refused_inside(named: [usize; 8], refusal: Refusal) -> Inside
 }
 
 // A form that was taken, and the offset past it.
-pub fn inside_with(named: [usize; 8], form: Form, end: usize) -> Inside
-    ensures { λ r. ⌜ r ≡ insideWith named form end ⌝ }
+pub fn body_with(named: [usize; 8], form: Form, end: usize) -> FormBody
+    ensures { λ r. ⌜ r ≡ bodyWith named form end ⌝ }
 {
-    Inside { form, end, named }
+    FormBody { form, end, named }
 }

@@ -17,28 +17,28 @@ use Rattle.script.specs.Fetch.{opOf, decodeOf, fetchOf}
 use Rattle.script.specs.Stored.{storedOf}
 use Rattle.plan.specs.declared.Plan.{Plan}
 use Rattle.plan.specs.Colours.{coloursOf, sharesTotal, firstColour, maskFrom, maskOf, hasBit}
-use Rattle.plan.specs.Possible.{countsPossible, declaredPossible, undeclaredPossible, domainPossible, maskPossible, windowPossible, planPossible}
+use Rattle.plan.specs.Validity.{domainCountsValid, declaredValid, undeclaredValid, domainValid, maskValid, windowValid, planValid}
 use Rattle.plan.specs.Sums.{sumTo, allBelow}
 use Rattle.plan.proofs.Sums.{all-below}
-use Rattle.plan.specs.Windows.{ownerOf, lengthOf, startOf, endOf, windowsTotal, ticksTotal}
-use Rattle.cache.specs.Access.{lookHit1, lookL2, lookOf, lookAt, accessOf}
-use Rattle.cache.specs.Flush.{countOf, dirtyLines, validLines, kernelFlushTicks, l1FlushTicks, kernelFlushed, l1Flushed}
+use Rattle.plan.specs.Windows.{windowOwner, windowLength, windowStart, windowEnd, windowsTotal, ticksTotal}
+use Rattle.cache.specs.Access.{lookupL1, lookupL2, lookupOf, lookupAt, accessOf}
+use Rattle.cache.specs.Flush.{countWhere, dirtyLines, validLines, kernelFlushTicks, l1FlushTicks, kernelFlushed, l1Flushed}
 use Rattle.cache.specs.Sets.{has, behind, used}
-use Rattle.records.specs.Records.{recordBytes, partRecords, stored, logPart}
-use Rattle.ops.specs.Ops.{boxPlace, ownsLine, touchOf, deniedOf, passedOf, sendOf, boxSeen, receiveOf, computeOf, effectOf}
+use Rattle.records.specs.Records.{recordBytes, partRecords, recordStored, logPart}
+use Rattle.ops.specs.Ops.{boxIndex, ownsLine, touchOf, deniedOf, passedOf, sendOf, boxObservation, receiveOf, computeOf, effectOf}
 use Rattle.state.specs.declared.State.{State}
-use Rattle.state.specs.Damage.{lineAllowed, l1EntrySound, allEmpty, waysSound, setSound, boxSound, tablesSound}
-use Rattle.state.specs.Impossible.{clockPossible, countsPossible as stateCountsPossible, statePossible}
+use Rattle.state.specs.TableValidity.{lineAllowed, l1EntryValid, allEmpty, waysValid, setValid, boxValid, tablesValid}
+use Rattle.state.specs.StateValidity.{clockValid, domainCountsValid, stateValid}
 use Rattle.state.specs.World.{World, endedOf, freshState, positionAt}
 use Rattle.machine.specs.Steps.{opStepOf, closedOf, fetchedStep, activeStep, stepOf, steps, runOf}
 use Rattle.machine.specs.Switch.{flushedClock, paddedClock, switchOf}
-use Rattle.engine.specs.Asking.{logCallOf, logRefusalOf}
+use Rattle.engine.specs.LogQuery.{logQueryOf, logStatusOf}
 use Rattle.engine.specs.Checks.{stateVerdict, freshVerdict, runVerdict, logVerdict}
 use Rattle.machine.specs.Fresh.{freshWorld}
 use Rattle.engine.specs.FreshStart.{freshStartOf}
 use Rattle.engine.specs.Running.{ranFrom, runCallOf, stepCallOf}
-use Rattle.isolation.specs.Calls.{CallList, IsList, LogThings, Proper, RunThings, afterCall, afterCalls, foreign, isRefused, leavesOf, logAnswer, logCall, logQuestion, own, pointOf, runAnswer, runCall, startWorld, stepAnswer, stepCall, stepsCounted, stepsOfCalls, verdictOf}
-use Rattle.isolation.specs.Points.{FreshRun, SameBoxesTo, Starts, Within, opsOf, windowsAfter, worldAfter}
+use Rattle.isolation.specs.Calls.{CallList, IsList, LogThings, Proper, RunThings, afterCall, afterCalls, foreign, isRefused, leavesOf, logAnswer, logCall, logStatus, own, pointOf, runAnswer, runCall, startWorld, stepAnswer, stepCall, stepsCounted, stepsOfCalls, verdictOf}
+use Rattle.isolation.specs.Points.{FreshRun, SameBoxesTo, Starts, InWindowOf, opsOf, windowsAfter, worldAfter}
 use Rattle.isolation.specs.Statement.{BoxesAgree, Comparable, Correspond, InCommon, Only, SamePlan, SameSeen, ScriptsAgree, runOfList}
 use Rattle.isolation.proofs.Isolation.{isolation}
 use Rattle.isolation.proofs.TwoRuns.{Same}
@@ -102,7 +102,7 @@ one =
       oldState = garbage;
       oldCache = replicate 272 7;
       oldBoxes = replicate 64 70_000;
-      calls = stepCall ownThings ∷ runCall mixedThings 9 ∷ runCall ownThings 13 ∷ logCall askedThings 0 ∷ logQuestion askedThings 7 ∷ [];
+      calls = stepCall ownThings ∷ runCall mixedThings 9 ∷ runCall ownThings 13 ∷ logCall askedThings 0 ∷ logStatus askedThings 7 ∷ [];
     }
 
 -- the second asks between two runs; its run takes a step more to the same point
@@ -120,7 +120,7 @@ other =
 
 -- every definition that the examples compute with, named once
 computing : ℕ
-unfolding part splice opOf decodeOf fetchOf storedOf coloursOf sharesTotal firstColour maskFrom maskOf hasBit countsPossible declaredPossible undeclaredPossible domainPossible maskPossible windowPossible planPossible sumTo allBelow ownerOf lengthOf startOf endOf windowsTotal ticksTotal lookHit1 lookL2 lookOf lookAt accessOf countOf dirtyLines validLines kernelFlushTicks l1FlushTicks kernelFlushed l1Flushed has behind used lineAllowed l1EntrySound allEmpty waysSound setSound boxSound tablesSound clockPossible stateCountsPossible statePossible ownsLine touchOf deniedOf passedOf sendOf boxSeen receiveOf computeOf effectOf recordBytes partRecords stored logPart opStepOf closedOf fetchedStep activeStep stepOf steps runOf flushedClock paddedClock switchOf endedOf freshState logCallOf logRefusalOf stateVerdict freshVerdict runVerdict logVerdict freshStartOf freshWorld ranFrom runCallOf stepCallOf runAnswer stepAnswer logAnswer afterCall verdictOf stepsCounted afterCalls stepsOfCalls Proper startWorld worldAfter opsOf
+unfolding part splice opOf decodeOf fetchOf storedOf coloursOf sharesTotal firstColour maskFrom maskOf hasBit domainCountsValid declaredValid undeclaredValid domainValid maskValid windowValid planValid sumTo allBelow windowOwner windowLength windowStart windowEnd windowsTotal ticksTotal lookupL1 lookupL2 lookupOf lookupAt accessOf countWhere dirtyLines validLines kernelFlushTicks l1FlushTicks kernelFlushed l1Flushed has behind used lineAllowed l1EntryValid allEmpty waysValid setValid boxValid tablesValid clockValid domainCountsValid stateValid ownsLine touchOf deniedOf passedOf sendOf boxObservation receiveOf computeOf effectOf recordBytes partRecords recordStored logPart opStepOf closedOf fetchedStep activeStep stepOf steps runOf flushedClock paddedClock switchOf endedOf freshState logQueryOf logStatusOf stateVerdict freshVerdict runVerdict logVerdict freshStartOf freshWorld ranFrom runCallOf stepCallOf runAnswer stepAnswer logAnswer afterCall verdictOf stepsCounted afterCalls stepsOfCalls Proper startWorld worldAfter opsOf
 computing = 0
 
 one-is : IsList one
@@ -148,15 +148,15 @@ scripts-agree numbers rest rest′ long domain observer place below =
 
 -- boxes that pass eight tests
 boxes-by-test : (domain : ℕ) (world world′ : World)
-    → allBelow (λ sender. eqb (getD (world .boxes) (boxPlace sender domain) 0) (getD (world′ .boxes) (boxPlace sender domain) 0)) 8 ≡ true
+    → allBelow (λ sender. eqb (getD (world .boxes) (boxIndex sender domain) 0) (getD (world′ .boxes) (boxIndex sender domain) 0)) 8 ≡ true
     → SameBoxesTo (Only domain) world world′
 boxes-by-test domain world world′ tests sender recipient below is =
     rw is
     (eqb-true _ _
-    (all-below (λ sender. eqb (getD (world .boxes) (boxPlace sender domain) 0) (getD (world′ .boxes) (boxPlace sender domain) 0)) 8 sender tests below))
+    (all-below (λ sender. eqb (getD (world .boxes) (boxIndex sender domain) 0) (getD (world′ .boxes) (boxIndex sender domain) 0)) 8 sender tests below))
 
 -- the step that completes a window starts the next
-starts-after : (run : FreshRun) → planPossible (run .plan) ≡ true → (window last : ℕ) → windowsAfter run last ≡ window
+starts-after : (run : FreshRun) → planValid (run .plan) ≡ true → (window last : ℕ) → windowsAfter run last ≡ window
     → windowsAfter run (suc last) ≡ suc window → Starts run (suc window) (suc last)
 starts-after run possible window last within past =
     record { reached = past; first = λ earlier below. omega (arith, no-fewer run possible earlier last (omega arith)) }
@@ -166,7 +166,7 @@ data Observed : ℕ → Type 0 where
   second : Observed 1
   fifth : Observed 4
 
-observed : (window : ℕ) → window < windowsTotal plan → ownerOf plan window ≡ 0 → Observed window
+observed : (window : ℕ) → window < windowsTotal plan → windowOwner plan window ≡ 0 → Observed window
 unfolding computing
 observed zero room owner = absurd (omega arith)
 observed (suc zero) room owner = second
@@ -215,10 +215,10 @@ seen = isolation .isolated 0 one other one-is other-is comparable
 -- ---- and there is something to see
 
 abbrev handedBack : CallList → ℕ → List ℕ
-handedBack list domain = logCallOf (list .plan) (leavesOf list .state) (leavesOf list .log) domain
+handedBack list domain = logQueryOf (list .plan) (leavesOf list .state) (leavesOf list .log) domain
 
 -- the lists end after 14 and after 15 steps, both in the observer's second window, after two of its ops there
-pub mid-window : (pointOf one ≡ 14) × (pointOf other ≡ 15) × Within (Only 0) (runOfList one) (pointOf one) × (opsOf (runOfList one) 4 (pointOf one) ≡ 2)
+pub mid-window : (pointOf one ≡ 14) × (pointOf other ≡ 15) × InWindowOf (Only 0) (runOfList one) (pointOf one) × (opsOf (runOfList one) 4 (pointOf one) ≡ 2)
 unfolding computing
 mid-window = (refl, refl, record { notEnded = omega arith; owner = refl }, refl)
 
@@ -333,8 +333,8 @@ masks-needed claim =
     refl
     (record { windows = refl; ops = λ within. refl })
     (λ window at at′ room owner s soFar s′ soFar′ sender recipient below is.
-    no-mail (reads (Read 3)) refl at (boxPlace sender recipient) soFar (omega arith)
-    ∙ sym (no-mail (reads (Compute 5)) refl at′ (boxPlace sender recipient) soFar′ (omega arith)))
+    no-mail (reads (Read 3)) refl at (boxIndex sender recipient) soFar (omega arith)
+    ∙ sym (no-mail (reads (Compute 5)) refl at′ (boxIndex sender recipient) soFar′ (omega arith)))
     in
     let kind : _≡_ {A = ℕ} 2 3 = ap (λ (log : List ℕ). getD log 0 0) (same .log) in
     omega arith

@@ -9,33 +9,33 @@ use Rattle.plan.specs.declared.Plan.{Plan}
 use Rattle.records.specs.Records.{logPart, partRecords}
 use Rattle.state.specs.declared.State.{State}
 use Rattle.state.specs.World.{World, positionAt, recordsAt}
-use Rattle.reached.proofs.Reached.{log-length}
+use Rattle.reachable.proofs.Reached.{log-length}
 use Rattle.refusal.specs.declared.Verdict.{Verdict}
 use Rattle.refusal.specs.declared.Verdict.the-variants.{Accepted}
-use Rattle.engine.specs.Asking.{logCallOf, logFrom, logRefusalOf}
+use Rattle.engine.specs.LogQuery.{logQueryOf, logFrom, logStatusOf}
 use Rattle.machine.specs.Fresh.{freshWorld}
 use Rattle.isolation.specs.Calls.{CallList, IsList, leavesOf, pointOf}
 use Rattle.isolation.specs.Points.{worldAfter}
 use Rattle.isolation.specs.Statement.{Comparable, Isolation, SameSeen, SameSets, runOfList}
 use Rattle.isolation.proofs.OneRun.{asked, leaves, on-time, own-accepted, own-refused, refused-stays, split}
-use Rattle.isolation.proofs.OneRun.Leaves.{list-possible}
+use Rattle.isolation.proofs.OneRun.Leaves.{list-valid}
 use Rattle.isolation.proofs.TwoRuns.{Same, two-runs}
 
 -- what an asking that is not refused hands back
-handed-back : (plan : Plan) (state : State) (log : List ℕ) (domain : ℕ) → logRefusalOf plan state log domain ≡ Accepted
-    → logCallOf plan state log domain ≡ logPart (partRecords plan (length log)) domain (recordsAt state domain) log
-unfolding logCallOf logRefusalOf
+handed-back : (plan : Plan) (state : State) (log : List ℕ) (domain : ℕ) → logStatusOf plan state log domain ≡ Accepted
+    → logQueryOf plan state log domain ≡ logPart (partRecords plan (length log)) domain (recordsAt state domain) log
+unfolding logQueryOf logStatusOf
 handed-back plan state log domain accepted = ap (λ (verdict : Verdict). logFrom verdict plan state log domain) accepted
 
 -- after a list: the records so far in the world that its steps leave
 log-after : (list : CallList) (is : IsList list) (domain : ℕ) → domain < list .plan .domains
-    → logCallOf (list .plan) (leavesOf list .state) (leavesOf list .log) domain
+    → logQueryOf (list .plan) (leavesOf list .state) (leavesOf list .log) domain
     ≡ logPart (partRecords (list .plan) (length (list .log))) domain (recordsAt (worldAfter (runOfList list) (pointOf list) .state) domain)
     (worldAfter (runOfList list) (pointOf list) .log)
 unfolding worldAfter freshWorld
 log-after list is domain declared =
     let world = worldAfter (runOfList list) (pointOf list) in
-    let long = log-length (list .plan) (list .scripts) (list .log) (pointOf list) (list-possible list is) in
+    let long = log-length (list .plan) (list .scripts) (list .log) (pointOf list) (list-valid list is) in
     handed-back (list .plan) (leavesOf list .state) (leavesOf list .log) domain (asked list is domain declared)
     ∙ ap (λ (w : World). logPart (partRecords (list .plan) (length (w .log))) domain (recordsAt (w .state) domain) (w .log)) (leaves list is)
     ∙ ap (λ (n : ℕ). logPart (partRecords (list .plan) n) domain (recordsAt (world .state) domain) (world .log)) long
@@ -52,7 +52,7 @@ module _ (observer : ℕ) (one other : CallList) (is : IsList one) (is′ : IsLi
   same =
       two-runs (runOfList one) (pointOf one) (runOfList other) (pointOf other) (c .common .plans)
       (record {
-        possible = list-possible one is;
+        possible = list-valid one is;
         isNamed = λ domain. ℕ-discrete domain observer;
         declared = c .common .declared;
         scripts = c .common .scripts;
@@ -75,8 +75,8 @@ module _ (observer : ℕ) (one other : CallList) (is : IsList one) (is′ : IsLi
   unfolding world world′
   left Related = subst₂ Related (sym (leaves one is)) (sym (leaves other is′))
 
-  same-log : logCallOf (one .plan) (leavesOf one .state) (leavesOf one .log) observer
-      ≡ logCallOf (other .plan) (leavesOf other .state) (leavesOf other .log) observer
+  same-log : logQueryOf (one .plan) (leavesOf one .state) (leavesOf one .log) observer
+      ≡ logQueryOf (other .plan) (leavesOf other .state) (leavesOf other .log) observer
   unfolding world′
   same-log =
       log-after one is observer declared

@@ -3,14 +3,14 @@
 use mathlib.Core.Path.{_≡_, refl, ap}
 use mathlib.Core.Bool.{true}
 use borrow.Author.Tests.{eq-eqb}
-use Rattle.plan.specs.Possible.{planPossible}
+use Rattle.plan.specs.Validity.{planValid}
 use Rattle.cache.specs.Lines.{tableLength}
 use Rattle.ops.specs.Ops.{boxesLength}
 use Rattle.refusal.specs.declared.Verdict.{Verdict}
 use Rattle.refusal.specs.declared.Verdict.the-variants.{Accepted}
 use Rattle.engine.specs.Checks.{freshVerdict}
 use Rattle.engine.specs.FreshStart.{freshFrom, freshStartOf}
-use Rattle.written.proofs.Meaning.{given-possible}
+use Rattle.roundtrip.proofs.Meaning.{given-valid}
 use Rattle.isolation.specs.Calls.{CallList, IsList, isRefused}
 use Rattle.isolation.specs.Statement.{IsolationOf}
 use Rattle.isolation.specs.Texts.{AcceptedIsolation, AcceptedList}
@@ -19,7 +19,7 @@ use Rattle.isolation.proofs.Isolation.{isolation}
 pub accepted-list : (list : CallList) → AcceptedList list → IsList list
 unfolding freshStartOf freshVerdict
 accepted-list list is =
-    let possible : planPossible (list .plan) ≡ true = given-possible (list .plan) (is .accepted) in
+    let possible : planValid (list .plan) ≡ true = given-valid (list .plan) (is .accepted) in
     let verdict : freshVerdict (list .plan) (list .oldCache) (list .oldBoxes) ≡ Accepted =
     rw (eq-eqb _ tableLength (is .cache-fits), eq-eqb _ boxesLength (is .boxes-fit), possible) refl in
     record {

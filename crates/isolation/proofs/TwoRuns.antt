@@ -21,15 +21,15 @@ use mathlib.Core.List.{List}
 use mathlib.Core.Path.{_≡_, refl, sym, ap, subst, _∙_}
 use lib.ListN.{length}
 use Rattle.plan.specs.declared.Plan.{Plan}
-use Rattle.plan.specs.Possible.{planPossible}
-use Rattle.plan.specs.Windows.{ownerOf, windowsTotal}
+use Rattle.plan.specs.Validity.{planValid}
+use Rattle.plan.specs.Windows.{windowOwner, windowsTotal}
 use Rattle.records.specs.Records.{logPart, partRecords}
-use Rattle.ops.specs.Ops.{boxPlace}
+use Rattle.ops.specs.Ops.{boxIndex}
 use Rattle.state.specs.World.{positionAt, recordsAt}
-use Rattle.reached.proofs.Reached.{boxes-length}
-use Rattle.reached.proofs.Counts.{counted}
+use Rattle.reachable.proofs.Reached.{boxes-length}
+use Rattle.reachable.proofs.Counts.{counted}
 use Rattle.machine.specs.Fresh.{freshWorld}
-use Rattle.isolation.specs.Points.{FreshRun, Within, opsOf, windowsAfter, worldAfter}
+use Rattle.isolation.specs.Points.{FreshRun, InWindowOf, opsOf, windowsAfter, worldAfter}
 use Rattle.isolation.specs.Statement.{BoxesAgree, Correspond, Only, SamePlan, SameSets, ScriptsAgree}
 use Corresponding.{locked-here, near-here, same-ops}
 use Lockstep.{Comparing}
@@ -45,11 +45,11 @@ pub record BoxTo (Named : ℕ → Type 0) (place : ℕ) : Type 0 where
   pub recipient : ℕ
   pub known : sender < 8
   pub named : Named recipient
-  pub addressed : place ≡ boxPlace sender recipient
+  pub addressed : place ≡ boxIndex sender recipient
 
 -- what two runs must have in common at two points
 pub record Compared (Named : ℕ → Type 0) (one : FreshRun) (count : ℕ) (other : FreshRun) (count′ : ℕ) : Type 0 where
-  pub possible : planPossible (one .plan) ≡ true
+  pub possible : planValid (one .plan) ≡ true
   pub isNamed : (domain : ℕ) → Dec (Named domain)
   pub declared : (domain : ℕ) → Named domain → domain < one .plan .domains
   pub scripts : ScriptsAgree Named (one .scripts) (other .scripts)
@@ -72,9 +72,9 @@ pub record Same (observer : ℕ) (one : FreshRun) (count : ℕ) (other : FreshRu
   pub ops :
       (window : ℕ)
       → window < windowsAfter one count
-      → ownerOf (one .plan) window ≡ observer
+      → windowOwner (one .plan) window ≡ observer
       → opsOf one window count ≡ opsOf other window count′
-  pub clock : Within (Only observer) one count → worldAfter one count .state .clock ≡ worldAfter other count′ .state .clock
+  pub clock : InWindowOf (Only observer) one count → worldAfter one count .state .clock ≡ worldAfter other count′ .state .clock
 
 -- ---- runs of one plan
 
@@ -110,7 +110,7 @@ module _ {Named : ℕ → Type 0} (plan : Plan) (scripts scripts′ log log′ :
 
   -- the current window, where it is a named domain's
   as-many : windowsAfter (runBy plan scripts log) count < windowsTotal plan
-      → Named (ownerOf plan (windowsAfter (runBy plan scripts log) count))
+      → Named (windowOwner plan (windowsAfter (runBy plan scripts log) count))
       → opsOf (runBy plan scripts log) (windowsAfter (runBy plan scripts log) count) count
       ≡ opsOf (runBy plan scripts′ log′) (windowsAfter (runBy plan scripts log) count) count′
   as-many room owner = compared .points .ops (record { notEnded = room; owner = owner })

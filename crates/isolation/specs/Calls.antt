@@ -13,9 +13,9 @@ use Rattle.state.specs.declared.State.{State}
 use Rattle.state.specs.World.{World}
 use Rattle.refusal.specs.declared.Verdict.{Verdict}
 use Rattle.refusal.specs.Code.{codeOf}
-use Rattle.engine.specs.Asking.{logRefusalOf}
-use Rattle.engine.specs.FreshStart.{Fresh, freshStartOf}
-use Rattle.engine.specs.Running.{Run, runCallOf, stepCallOf}
+use Rattle.engine.specs.LogQuery.{logStatusOf}
+use Rattle.engine.specs.FreshStart.{FreshOutcome, freshStartOf}
+use Rattle.engine.specs.Running.{RunOutcome, runCallOf, stepCallOf}
 
 -- a call was handed the list's own thing, as the last call left it, or any other
 pub data Handed (A : Type 0) : Type 0 where
@@ -57,7 +57,7 @@ pub data Call : Type 0 where
   stepCall : RunThings → Call
   runCall : RunThings → ℕ → Call
   logCall : LogThings → ℕ → Call
-  logQuestion : LogThings → ℕ → Call
+  logStatus : LogThings → ℕ → Call
 
 -- a list: the plan, the script store and the log; what the fresh start overwrote; and the calls after it
 pub record CallList : Type 0 where
@@ -98,7 +98,7 @@ abbrev pub stepsAsked : Call → ℕ
 stepsAsked (stepCall things) = 1
 stepsAsked (runCall things limit) = limit
 stepsAsked (logCall things domain) = 0
-stepsAsked (logQuestion things domain) = 0
+stepsAsked (logStatus things domain) = 0
 
 -- everything that a step or a run was handed is the list's own
 abbrev pub OwnRun : RunThings → Type 0
@@ -111,15 +111,15 @@ OwnRun things =
     × IsOwn (things .log)
 
 -- everything that an asking or its second question was handed
-abbrev pub OwnAsked : LogThings → Type 0
-OwnAsked things = IsOwn (things .plan) × IsOwn (things .state) × IsOwn (things .log)
+abbrev pub OwnQuery : LogThings → Type 0
+OwnQuery things = IsOwn (things .plan) × IsOwn (things .state) × IsOwn (things .log)
 
 -- everything that a call was handed
 abbrev pub AllOwn : Call → Type 0
 AllOwn (stepCall things) = OwnRun things
 AllOwn (runCall things limit) = OwnRun things
-AllOwn (logCall things domain) = OwnAsked things
-AllOwn (logQuestion things domain) = OwnAsked things
+AllOwn (logCall things domain) = OwnQuery things
+AllOwn (logStatus things domain) = OwnQuery things
 
 -- what a call on the list's own things must still bring, not to be refused: a single step and a running want a script store of 2,048 numbers, an
 -- asking and its second question the number of a declared domain
@@ -127,26 +127,26 @@ abbrev pub Admissible : Plan → List ℕ → Call → Type 0
 Admissible plan scripts (stepCall things) = length scripts ≡ scriptsLength
 Admissible plan scripts (runCall things limit) = length scripts ≡ scriptsLength
 Admissible plan scripts (logCall things domain) = domain < plan .domains
-Admissible plan scripts (logQuestion things domain) = domain < plan .domains
+Admissible plan scripts (logStatus things domain) = domain < plan .domains
 
 module _ (plan : Plan) (scripts : List ℕ) where
   -- what the entry points answer, by their contracts' definitions: running, the single step, and the second question about an asking
-  unfoldable pub runAnswer : RunThings → ℕ → World → Run
+  unfoldable pub runAnswer : RunThings → ℕ → World → RunOutcome
   runAnswer things limit world = runCallOf (handed (things .plan) plan) (handed (things .scripts) scripts) (handedWorld things world) limit
 
-  unfoldable pub stepAnswer : RunThings → World → Run
+  unfoldable pub stepAnswer : RunThings → World → RunOutcome
   stepAnswer things world = stepCallOf (handed (things .plan) plan) (handed (things .scripts) scripts) (handedWorld things world)
 
   unfoldable pub logAnswer : LogThings → ℕ → World → Verdict
   logAnswer things domain world =
-      logRefusalOf (handed (things .plan) plan) (handed (things .state) (world .state)) (handed (things .log) (world .log)) domain
+      logStatusOf (handed (things .plan) plan) (handed (things .state) (world .state)) (handed (things .log) (world .log)) domain
 
   -- the list's own world after a call; the two askings are lent nothing that they could write to
   unfoldable pub afterCall : Call → World → World
   afterCall (stepCall things) world = leftWorld things world (stepAnswer things world .world)
   afterCall (runCall things limit) world = leftWorld things world (runAnswer things limit world .world)
   afterCall (logCall things domain) world = world
-  afterCall (logQuestion things domain) world = world
+  afterCall (logStatus things domain) world = world
 
   -- a call's verdict, on the list's own world. An asking answers bytes and no number: its number is what the second question about it answers. So the
   -- two share one verdict, and a second question counts as refused where the asking would be.
@@ -154,7 +154,7 @@ module _ (plan : Plan) (scripts : List ℕ) where
   verdictOf (stepCall things) world = stepAnswer things world .verdict
   verdictOf (runCall things limit) world = runAnswer things limit world .verdict
   verdictOf (logCall things domain) world = logAnswer things domain world
-  verdictOf (logQuestion things domain) world = logAnswer things domain world
+  verdictOf (logStatus things domain) world = logAnswer things domain world
 
   -- the steps that a call adds to its list's run: those it asks for, and none where it is refused
   unfoldable pub stepsCounted : Call → World → ℕ
@@ -176,7 +176,7 @@ module _ (plan : Plan) (scripts : List ℕ) where
       ((isRefused (verdictOf call world) ≡ true) ⊎ AllOwn call) × Proper calls (afterCall call world)
 
 -- what the fresh start of a list answered and left
-abbrev pub freshOf : CallList → Fresh
+abbrev pub freshOf : CallList → FreshOutcome
 freshOf list = freshStartOf (list .plan) (list .oldState) (list .oldCache) (list .oldBoxes)
 
 -- the world from which the calls of a list start: what the fresh start left, and the log, which it does not take
@@ -204,7 +204,7 @@ abbrev pub verdictAfter : CallList → Call → Verdict
 verdictAfter list call = verdictOf (list .plan) (list .scripts) call (leavesOf list)
 
 -- two runnings, one after the other, as one answer: the steps that both did, and for the rest what the second answered and left
-unfoldable pub runTwice : Plan → List ℕ → World → ℕ → ℕ → Run
+unfoldable pub runTwice : Plan → List ℕ → World → ℕ → ℕ → RunOutcome
 runTwice plan scripts world first second =
     let one = runCallOf plan scripts world first in
     let two = runCallOf plan scripts (one .world) second in

@@ -7,9 +7,9 @@ use mathlib.Core.Path.{_≡_}
 use lib.Dec.{eqb, ltb}
 use lib.ListN.{getD, length}
 use Rattle.plan.specs.declared.Plan.{Plan}
-use Rattle.plan.specs.Windows.{ownerOf, windowsTotal}
+use Rattle.plan.specs.Windows.{windowOwner, windowsTotal}
 use Rattle.records.specs.Records.{partRecords}
-use Rattle.ops.specs.Ops.{boxPlace}
+use Rattle.ops.specs.Ops.{boxIndex}
 use Rattle.state.specs.World.{World}
 use Rattle.machine.specs.Steps.{steps}
 use Rattle.machine.specs.Fresh.{freshWorld}
@@ -46,9 +46,9 @@ opsOf run window zero = 0
 opsOf run window (suc count) = opsOf run window count + cond (isOpOf run window count) 1 0
 
 -- after so many steps a run is within a window of a domain that a predicate names
-pub record Within (Named : ℕ → Type 0) (run : FreshRun) (count : ℕ) : Type 0 where
+pub record InWindowOf (Named : ℕ → Type 0) (run : FreshRun) (count : ℕ) : Type 0 where
   pub notEnded : windowsAfter run count < windowsTotal (run .plan)
-  pub owner : Named (ownerOf (run .plan) (windowsAfter run count))
+  pub owner : Named (windowOwner (run .plan) (windowsAfter run count))
 
 -- the boxes addressed to a domain are the eight at 8a + its number: those addressed to named domains are equal
 abbrev pub SameBoxesTo : (ℕ → Type 0) → World → World → Type 0
@@ -56,4 +56,4 @@ SameBoxesTo Named one other =
     (sender recipient : ℕ)
     → sender < 8
     → Named recipient
-    → getD (one .boxes) (boxPlace sender recipient) 0 ≡ getD (other .boxes) (boxPlace sender recipient) 0
+    → getD (one .boxes) (boxIndex sender recipient) 0 ≡ getD (other .boxes) (boxIndex sender recipient) 0

@@ -7,14 +7,14 @@ use mathlib.Core.Path.{_≡_}
 use lib.ListN.{getD, length}
 use Rattle.plan.specs.declared.Plan.{Plan}
 use Rattle.plan.specs.Colours.{ownsColour}
-use Rattle.plan.specs.Windows.{ownerOf, startOf, windowsTotal}
-use Rattle.cache.specs.Lines.{setColour, setPlace, setsCount, waysOfSet}
+use Rattle.plan.specs.Windows.{windowOwner, windowStart, windowsTotal}
+use Rattle.cache.specs.Lines.{setColour, setIndex, setCount, waysPerSet}
 use Rattle.state.specs.World.{positionAt}
 use Rattle.refusal.specs.declared.Verdict.the-variants.{Accepted}
-use Rattle.engine.specs.Asking.{logCallOf, logRefusalOf}
+use Rattle.engine.specs.LogQuery.{logQueryOf, logStatusOf}
 use Rattle.engine.specs.Running.{runCallOf}
 use Rattle.isolation.specs.Calls.{Admissible, AllOwn, Call, CallList, IsList, afterCall, isRefused, leavesOf, pointOf, runTwice, verdictAfter}
-use Rattle.isolation.specs.Points.{FreshRun, SameBoxesTo, Starts, Within, opsOf, windowsAfter, worldAfter}
+use Rattle.isolation.specs.Points.{FreshRun, SameBoxesTo, Starts, InWindowOf, opsOf, windowsAfter, worldAfter}
 
 -- the run of a list
 abbrev pub runOfList : CallList → FreshRun
@@ -27,7 +27,7 @@ pub record StartedOnTime (run : FreshRun) (count window : ℕ) : Type 0 where
   pub at : ℕ
   pub soFar : at ≤ count
   pub starts : Starts run window at
-  pub onTime : worldAfter run at .state .clock ≡ startOf (run .plan) window
+  pub onTime : worldAfter run at .state .clock ≡ windowStart (run .plan) window
 
 -- windows so far: those that a list's run has completed and the one it is in. Each started on time; of an ended run the end itself is counted in,
 -- which is where a next window would start.
@@ -52,7 +52,7 @@ ScriptsAgree Named one other =
 pub record Correspond (Named : ℕ → Type 0) (one : FreshRun) (count : ℕ) (other : FreshRun) (count′ : ℕ) : Type 0 where
   pub windows : windowsAfter one count ≡ windowsAfter other count′
   pub ops :
-      Within Named one count
+      InWindowOf Named one count
       → opsOf one (windowsAfter one count) count ≡ opsOf other (windowsAfter one count) count′
 
 -- whenever a named domain's window started, in both runs and no later than these points, the boxes addressed to named domains were equal
@@ -60,7 +60,7 @@ abbrev pub BoxesAgree : (ℕ → Type 0) → FreshRun → ℕ → FreshRun → �
 BoxesAgree Named one count other count′ =
     (window at at′ : ℕ)
     → window < windowsTotal (one .plan)
-    → Named (ownerOf (one .plan) window)
+    → Named (windowOwner (one .plan) window)
     → Starts one window at
     → at ≤ count
     → Starts other window at′
@@ -93,19 +93,19 @@ Comparable observer one other = ComparableFor (Only observer) one other
 abbrev pub SameSets : Plan → ℕ → List ℕ → List ℕ → Type 0
 SameSets plan domain one other =
     (set way : ℕ)
-    → set < setsCount
-    → way < waysOfSet
+    → set < setCount
+    → way < waysPerSet
     → ownsColour plan domain (setColour set) ≡ true
-    → getD one (setPlace set + way) 0 ≡ getD other (setPlace set + way) 0
+    → getD one (setIndex set + way) 0 ≡ getD other (setIndex set + way) 0
 
 -- what the observer sees is equal after two lists
 pub record SameSeen (observer : ℕ) (one other : CallList) : Type 0 where
   -- an asking for its log is refused after neither, and hands back the same bytes
-  pub asked : logRefusalOf (one .plan) (leavesOf one .state) (leavesOf one .log) observer ≡ Accepted
-  pub asked′ : logRefusalOf (other .plan) (leavesOf other .state) (leavesOf other .log) observer ≡ Accepted
+  pub asked : logStatusOf (one .plan) (leavesOf one .state) (leavesOf one .log) observer ≡ Accepted
+  pub asked′ : logStatusOf (other .plan) (leavesOf other .state) (leavesOf other .log) observer ≡ Accepted
   pub log :
-      logCallOf (one .plan) (leavesOf one .state) (leavesOf one .log) observer
-      ≡ logCallOf (other .plan) (leavesOf other .state) (leavesOf other .log) observer
+      logQueryOf (one .plan) (leavesOf one .state) (leavesOf one .log) observer
+      ≡ logQueryOf (other .plan) (leavesOf other .state) (leavesOf other .log) observer
   -- its script position
   pub position : positionAt (leavesOf one .state) observer ≡ positionAt (leavesOf other .state) observer
   -- its part of the partitioned cache
@@ -114,10 +114,10 @@ pub record SameSeen (observer : ℕ) (one other : CallList) : Type 0 where
   pub ops :
       (window : ℕ)
       → window < leavesOf one .state .windows
-      → ownerOf (one .plan) window ≡ observer
+      → windowOwner (one .plan) window ≡ observer
       → opsOf (runOfList one) window (pointOf one) ≡ opsOf (runOfList other) window (pointOf other)
   -- in its own window, the clocks
-  pub clock : Within (Only observer) (runOfList one) (pointOf one) → leavesOf one .state .clock ≡ leavesOf other .state .clock
+  pub clock : InWindowOf (Only observer) (runOfList one) (pointOf one) → leavesOf one .state .clock ≡ leavesOf other .state .clock
 
 -- ---- demand 3
 

@@ -7,18 +7,18 @@ use lib.ListN.{length}
 use Rattle.forms.proofs.GoodForm.{Good, GoodForm}
 use Rattle.forms.specs.declared.Form.{Form}
 use Rattle.forms.specs.declared.Form.the-variants.{Blank, Pad, Run, Domain, Window, Op as Script, Refused as RefusedForm}
-use Rattle.forms.specs.declared.Inside.{Inside}
+use Rattle.forms.specs.declared.FormBody.{FormBody}
 use Rattle.refusal.specs.declared.Refusal.{Refusal}
 use Rattle.refusal.specs.declared.Refusal.the-variants.{BrokenShape}
-use Rattle.taking.proofs.Advance.{then-close, then-line-end}
-use Rattle.text.proofs.Reached.{Reached, token-reached}
-use Rattle.text.specs.declared.Token.{Token}
-use Rattle.text.specs.declared.Token.the-variants.{LineEnd, Open, Close, Word, Number, LongNumber, Other}
-use Rattle.text.specs.Tokens.{tokenAt}
-use Rattle.line.proofs.GoodHead.{head-past, inside-good}
+use Rattle.syntax.proofs.Advance.{then-close, then-line-end}
+use Rattle.lexer.proofs.Reached.{Reached, token-reached}
+use Rattle.lexer.specs.declared.Token.{Token}
+use Rattle.lexer.specs.declared.Token.the-variants.{LineEnd, Open, Close, Word, Number, LongNumber, Other}
+use Rattle.lexer.specs.Tokens.{tokenAt}
+use Rattle.line.proofs.GoodKeyword.{head-past, inside-good}
 use Rattle.line.specs.declared.Line.{Line}
-use Rattle.line.specs.Heads.{headAt, insideOf}
-use Rattle.line.specs.Lines.{closedLine, formLine, insideLine, lineAt, lineWith, refusedLine, tokenLine}
+use Rattle.line.specs.Keywords.{formKeywordAt, bodyOf}
+use Rattle.line.specs.Lines.{closedLine, formLine, bodyLine, lineAt, lineWith, refusedLine, tokenLine}
 
 pub record GoodLine (text : List ℕ) (declared : ℕ) (named : List ℕ) (at : ℕ) (line : Line) : Type 0 where
   pub form : GoodForm declared named (line .named) at (line .end) (line .form)
@@ -43,7 +43,7 @@ module _ (text : List ℕ) (declared : ℕ) (named : List ℕ) (at : ℕ) where
       → GoodLine text declared named at (lineWith bracket marked form end)
   good bracket marked form end h within = record { form = h; within = within }
 
-  closed-good : (bracket : ℕ) (inside : Inside) → Good declared named at inside → GoodLine text declared named at (closedLine text bracket inside)
+  closed-good : (bracket : ℕ) (inside : FormBody) → Good declared named at inside → GoodLine text declared named at (closedLine text bracket inside)
   unfolding closedLine
   closed-good bracket inside h =
       let P = GoodLine text declared named at in
@@ -52,8 +52,8 @@ module _ (text : List ℕ) (declared : ℕ) (named : List ℕ) (at : ℕ) where
       good bracket (inside .named) (inside .form) end
       (later declared named (inside .named) at (inside .end) end (inside .form) (omega arith) (h .form)) ends
 
-  inside-line-good : (bracket : ℕ) (inside : Inside) → Good declared named at inside → GoodLine text declared named at (insideLine text bracket inside)
-  unfolding insideLine
+  inside-line-good : (bracket : ℕ) (inside : FormBody) → Good declared named at inside → GoodLine text declared named at (bodyLine text bracket inside)
+  unfolding bodyLine
   inside-line-good bracket inside h = go (inside .form) (closed-good bracket inside h)
     where
       go : (form : Form) → GoodLine text declared named at (closedLine text bracket inside)
@@ -73,8 +73,8 @@ module _ (text : List ℕ) (declared : ℕ) (named : List ℕ) (at : ℕ) where
       go : (token : Token) → Reached text at token → GoodLine text declared named at (tokenLine text declared named token)
       go (LineEnd place) h = good place named Blank place (h .0) (h .1 within)
       go (Open place) h =
-          inside-line-good place (insideOf text declared named (headAt text (place + 1)))
-          (inside-good text declared named at (headAt text (place + 1)) eight (head-past text at (place + 1) (omega arith)))
+          inside-line-good place (bodyOf text declared named (formKeywordAt text (place + 1)))
+          (inside-good text declared named at (formKeywordAt text (place + 1)) eight (head-past text at (place + 1) (omega arith)))
       go (Close place) h = none place named (BrokenShape place)
       go (Word start end) h = none start named (BrokenShape start)
       go (Number start end value) h = none start named (BrokenShape start)

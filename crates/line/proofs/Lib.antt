@@ -1,3 +1,3 @@
-pub mod GoodHead
+pub mod GoodKeyword
 pub mod GoodLine
 pub mod OtherKinds

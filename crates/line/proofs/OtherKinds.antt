@@ -8,17 +8,17 @@ use denote.Enum.Declared.{tagOf}
 use Rattle.forms.proofs.Form as Form
 use Rattle.forms.specs.declared.Form.{Form}
 use Rattle.forms.specs.declared.Form.the-variants.{Blank, Pad, Run, Domain, Window, Op as Script, Refused as RefusedForm}
-use Rattle.forms.specs.declared.Inside.{Inside}
+use Rattle.forms.specs.declared.FormBody.{FormBody}
 use Rattle.refusal.specs.declared.Refusal.the-variants.{BrokenShape}
-use Rattle.text.proofs.Token.{the-type}
-use Rattle.text.specs.declared.Token.{Token}
-use Rattle.text.specs.declared.Token.the-variants.{LineEnd, Open, Close, Word, Number, LongNumber, Other}
-use Rattle.text.specs.Tokens.{startOf}
-use Rattle.line.specs.declared.Head.the-variants.{Refused as RefusedWord}
-use Rattle.line.specs.Heads.{headOf}
+use Rattle.lexer.proofs.Token.{the-type}
+use Rattle.lexer.specs.declared.Token.{Token}
+use Rattle.lexer.specs.declared.Token.the-variants.{LineEnd, Open, Close, Word, Number, LongNumber, Other}
+use Rattle.lexer.specs.Tokens.{tokenStart}
+use Rattle.line.specs.declared.FormKeyword.the-variants.{Refused as RefusedWord}
+use Rattle.line.specs.Keywords.{formKeywordOf}
 use Rattle.line.specs.Lines.{closedLine, formLine, refusedLine, tokenLine}
 
-pub no-head : (text : List ℕ) (token : Token) → OneOf (0 ∷ 1 ∷ 2 ∷ 4 ∷ 5 ∷ 6 ∷ []) (tagOf the-type token) → headOf text token ≡ RefusedWord (BrokenShape (startOf token))
+pub no-head : (text : List ℕ) (token : Token) → OneOf (0 ∷ 1 ∷ 2 ∷ 4 ∷ 5 ∷ 6 ∷ []) (tagOf the-type token) → formKeywordOf text token ≡ RefusedWord (BrokenShape (tokenStart token))
 no-head text (LineEnd at) h = refl
 no-head text (Open at) h = refl
 no-head text (Close at) h = refl
@@ -27,7 +27,7 @@ no-head text (Number start end value) h = refl
 no-head text (LongNumber start end) h = refl
 no-head text (Other start end) h = refl
 
-pub no-line : (text : List ℕ) (declared : ℕ) (named : List ℕ) (token : Token) → OneOf (0 ∷ 2 ∷ 3 ∷ 4 ∷ 5 ∷ 6 ∷ []) (tagOf the-type token) → OneOf (1 ∷ 2 ∷ 3 ∷ 4 ∷ 5 ∷ 6 ∷ []) (tagOf the-type token) → tokenLine text declared named token ≡ refusedLine (startOf token) named (BrokenShape (startOf token))
+pub no-line : (text : List ℕ) (declared : ℕ) (named : List ℕ) (token : Token) → OneOf (0 ∷ 2 ∷ 3 ∷ 4 ∷ 5 ∷ 6 ∷ []) (tagOf the-type token) → OneOf (1 ∷ 2 ∷ 3 ∷ 4 ∷ 5 ∷ 6 ∷ []) (tagOf the-type token) → tokenLine text declared named token ≡ refusedLine (tokenStart token) named (BrokenShape (tokenStart token))
 unfolding tokenLine
 no-line text declared named (LineEnd at) h k = absurd (miss (1 ∷ 2 ∷ 3 ∷ 4 ∷ 5 ∷ 6 ∷ []) 0 tt k)
 no-line text declared named (Open at) h k = absurd (miss (0 ∷ 2 ∷ 3 ∷ 4 ∷ 5 ∷ 6 ∷ []) 1 tt h)
@@ -38,7 +38,7 @@ no-line text declared named (LongNumber start end) h k = refl
 no-line text declared named (Other start end) h k = refl
 
 -- a form that is not refused
-pub good-form : (text : List ℕ) (bracket : ℕ) (inside : Inside) (form : Form) → OneOf (0 ∷ 1 ∷ 2 ∷ 3 ∷ 4 ∷ 5 ∷ []) (tagOf Form.the-type form)
+pub good-form : (text : List ℕ) (bracket : ℕ) (inside : FormBody) (form : Form) → OneOf (0 ∷ 1 ∷ 2 ∷ 3 ∷ 4 ∷ 5 ∷ []) (tagOf Form.the-type form)
     → formLine text bracket inside form ≡ closedLine text bracket inside
 good-form text bracket inside Blank h = refl
 good-form text bracket inside (Pad ticks) h = refl

@@ -1,2 +1,2 @@
-pub mod Heads
+pub mod Keywords
 pub mod Lines

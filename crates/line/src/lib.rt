@@ -1,26 +1,26 @@
 // One line of a plan text: the word that opens its form, what stands within its brackets, and its end; or the refusal and its place.
 use forms::Form;
-use forms::Inside;
-use forms::domains::domain_inside;
-use forms::making::refused_inside;
-use forms::op_lines::op_inside;
-use forms::pad_and_run::pad_inside;
-use forms::pad_and_run::run_inside;
-use forms::windows::window_inside;
+use forms::FormBody;
+use forms::domains::domain_body;
+use forms::making::refused_body;
+use forms::op_lines::op_body;
+use forms::pad_and_run::pad_body;
+use forms::pad_and_run::run_body;
+use forms::windows::window_body;
 use refusal::Refusal;
-use taking::Passed;
-use taking::tokens::is_word;
-use taking::tokens::pass_close;
-use taking::tokens::pass_line_end;
-use text::Token;
-use text::start_of;
-use text::token_at;
+use syntax::TokenParse;
+use syntax::tokens::is_word;
+use syntax::tokens::pass_close;
+use syntax::tokens::pass_line_end;
+use lexer::Token;
+use lexer::token_start;
+use lexer::token_at;
 ghost use mathlib.Core.Path.{_≡_};
-ghost use Rattle.line.specs.Heads.{headAt, insideOf};
-ghost use Rattle.line.specs.Lines.{closedLine, insideLine, lineAt, refusedLine};
+ghost use Rattle.line.specs.Keywords.{formKeywordAt, bodyOf};
+ghost use Rattle.line.specs.Lines.{closedLine, bodyLine, lineAt, refusedLine};
 
 // The word that opens a form, and the offset past it.
-pub enum Head {
+pub enum FormKeyword {
     Pad(usize),
     Run(usize),
     Domain(usize),
@@ -34,47 +34,47 @@ pub struct Line {
     pub form: Form,
     pub bracket: usize,
     pub end: usize,
-    // as in `Inside`
+    // as in `FormBody`
     pub named: [usize; 8],
 }
 
 // The word that opens a form.
-fn head_at(text: &[u8], at: usize) -> Head
-    ensures { λ r. ⌜ r ≡ headAt (now (text .entry)) at ⌝ }
+fn form_keyword_at(text: &[u8], at: usize) -> FormKeyword
+    ensures { λ r. ⌜ r ≡ formKeywordAt (now (text .entry)) at ⌝ }
 {
     let token = token_at(text, at);
     let Token::Word { start, end } = token else {
-        return Head::Refused(Refusal::BrokenShape(start_of(token)));
+        return FormKeyword::Refused(Refusal::BrokenShape(token_start(token)));
     };
     if is_word(text, start, end, b"pad") {
-        return Head::Pad(end);
+        return FormKeyword::Pad(end);
     }
     if is_word(text, start, end, b"run") {
-        return Head::Run(end);
+        return FormKeyword::Run(end);
     }
     if is_word(text, start, end, b"domain") {
-        return Head::Domain(end);
+        return FormKeyword::Domain(end);
     }
     if is_word(text, start, end, b"window") {
-        return Head::Window(end);
+        return FormKeyword::Window(end);
     }
     if is_word(text, start, end, b"op") {
-        return Head::Op(end);
+        return FormKeyword::Op(end);
     }
-    Head::Refused(Refusal::BrokenShape(start))
+    FormKeyword::Refused(Refusal::BrokenShape(start))
 }
 
 // The form that a word opens.
-fn inside_of(text: &[u8], declared: u32, named: [usize; 8], head: Head) -> Inside
-    ensures { λ r. ⌜ r ≡ insideOf (now (text .entry)) declared named head ⌝ }
+fn body_of(text: &[u8], declared: u32, named: [usize; 8], head: FormKeyword) -> FormBody
+    ensures { λ r. ⌜ r ≡ bodyOf (now (text .entry)) declared named head ⌝ }
 {
     match head {
-        Head::Pad(at) => pad_inside(text, named, at),
-        Head::Run(at) => run_inside(text, named, at),
-        Head::Domain(at) => domain_inside(text, declared, named, at),
-        Head::Window(at) => window_inside(text, declared, named, at),
-        Head::Op(at) => op_inside(text, declared, named, at),
-        Head::Refused(refusal) => refused_inside(named, refusal),
+        FormKeyword::Pad(at) => pad_body(text, named, at),
+        FormKeyword::Run(at) => run_body(text, named, at),
+        FormKeyword::Domain(at) => domain_body(text, declared, named, at),
+        FormKeyword::Window(at) => window_body(text, declared, named, at),
+        FormKeyword::Op(at) => op_body(text, declared, named, at),
+        FormKeyword::Refused(refusal) => refused_body(named, refusal),
     }
 }
 
@@ -91,20 +91,20 @@ fn refused_line(bracket: usize, named: [usize; 8], refusal: Refusal) -> Line
 }
 
 // A form's closing bracket and the line's end.
-fn closed_line(text: &[u8], bracket: usize, inside: Inside) -> Line
+fn closed_line(text: &[u8], bracket: usize, inside: FormBody) -> Line
     ensures { λ r. ⌜ r ≡ closedLine (now (text .entry)) bracket inside ⌝ }
 {
     let form = inside.form;
     let named = inside.named;
     let closing = pass_close(text, inside.end);
     let closed = match closing {
-        Passed::To(offset) => offset,
-        Passed::Refused(refusal) => return refused_line(bracket, named, refusal),
+        TokenParse::To(offset) => offset,
+        TokenParse::Refused(refusal) => return refused_line(bracket, named, refusal),
     };
     let ending = pass_line_end(text, closed);
     match ending {
-        Passed::Refused(refusal) => refused_line(bracket, named, refusal),
-        Passed::To(end) => Line {
+        TokenParse::Refused(refusal) => refused_line(bracket, named, refusal),
+        TokenParse::To(end) => Line {
             form,
             bracket,
             end,
@@ -114,8 +114,8 @@ fn closed_line(text: &[u8], bracket: usize, inside: Inside) -> Line
 }
 
 // A refusal within the brackets comes before what follows it.
-fn inside_line(text: &[u8], bracket: usize, inside: Inside) -> Line
-    ensures { λ r. ⌜ r ≡ insideLine (now (text .entry)) bracket inside ⌝ }
+fn body_line(text: &[u8], bracket: usize, inside: FormBody) -> Line
+    ensures { λ r. ⌜ r ≡ bodyLine (now (text .entry)) bracket inside ⌝ }
 {
     let form = inside.form;
     if let Form::Refused(refusal) = form {
@@ -139,10 +139,10 @@ pub fn line_at(text: &[u8], declared: u32, named: [usize; 8], at: usize) -> Line
         };
     }
     let Token::Open(bracket) = token else {
-        let start = start_of(token);
+        let start = token_start(token);
         return refused_line(start, named, Refusal::BrokenShape(start));
     };
-    let head = head_at(text, bracket + 1);
-    let inside = inside_of(text, declared, named, head);
-    inside_line(text, bracket, inside)
+    let head = form_keyword_at(text, bracket + 1);
+    let inside = body_of(text, declared, named, head);
+    body_line(text, bracket, inside)
 }

@@ -8,9 +8,9 @@ use lib.Dec.{ltb}
 use lib.ListN.{getD}
 use borrow.Author.Tests.{ltb-true}
 use Rattle.script.specs.declared.Op.{Op}
-use Rattle.script.specs.declared.Fetched.the-variants.{Op as Fetch, End}
+use Rattle.script.specs.declared.ScriptItem.the-variants.{Op as Fetch, End}
 use Rattle.script.specs.Fetch.{decodeOf, fetchOf}
-use Rattle.script.specs.Limits.{Within}
+use Rattle.script.specs.Limits.{OpWithinLimits}
 use Rattle.script.proofs.Laws.{decode-within}
 
 -- the end of a script is no op
@@ -32,5 +32,5 @@ module _ (scripts : List ℕ) (domain position : ℕ) (op : Op) (fetched : fetch
   pub fetched-below : position < 256
   fetched-below = fetched-op .0
 
-  pub fetched-within : Within op
+  pub fetched-within : OpWithinLimits op
   fetched-within = decode-within _ op (fetched-op .1)

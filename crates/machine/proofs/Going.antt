@@ -9,28 +9,28 @@ use native.Mathlib.Omega.{arith}
 use lib.ListN.{length, length-set}
 use borrow.Author.Tests.{le-leb, lt-leb}
 use Rattle.plan.specs.declared.Plan.{Plan}
-use Rattle.plan.specs.Possible.{planPossible}
-use Rattle.plan.specs.Windows.{endOf, lengthOf, ownerOf, slotOf, startOf, windowsTotal}
-use Rattle.plan.proofs.Possible.{counts}
+use Rattle.plan.specs.Validity.{planValid}
+use Rattle.plan.specs.Windows.{windowEnd, windowLength, windowOwner, slotOf, windowStart, windowsTotal}
+use Rattle.plan.proofs.Validity.{counts}
 use Rattle.plan.proofs.Windows.{length-most as lengths, owner-declared, slot-below as slots, start-fits}
 use Rattle.state.specs.declared.State.{State}
-use Rattle.state.specs.Impossible.{statePossible}
+use Rattle.state.specs.StateValidity.{stateValid}
 use Rattle.state.specs.World.{World, endedOf}
-use Rattle.machine.specs.Steps.{Ran, activeStep, oneMore, runOf, stepOf, steps as steps-of}
+use Rattle.machine.specs.Steps.{RunEffect, activeStep, oneMore, runOf, stepOf, steps as steps-of}
 use Rattle.machine.specs.Switch.{switchOf}
 use Rattle.machine.specs.View.{ranWith, turned, worldWith}
-use Rattle.machine.proofs.Schedule.{Scheduled, possible-scheduled, next-start, step-scheduled, steps-scheduled}
+use Rattle.machine.proofs.Schedule.{Scheduled, valid-scheduled, next-start, step-scheduled, steps-scheduled}
 use Rattle.machine.proofs.Runs.{run-add, run-ended, run-more, run-world, step-active, thenRun}
 
 -- so many steps done before
-abbrev pub after : ℕ → Ran → Ran
+abbrev pub after : ℕ → RunEffect → RunEffect
 after steps ran = record { done = ran .done + steps; world = ran .world }
 
 -- some steps are done, and what is left of the limit gives the whole answer
 pub record Going (plan : Plan) (scripts : List ℕ) (quota limit : ℕ) (first present : World) (steps start : ℕ) : Type 0 where
   pub within : steps ≤ limit
   pub on-schedule : Scheduled plan present
-  pub starts : start ≡ startOf plan (present .state .windows)
+  pub starts : start ≡ windowStart plan (present .state .windows)
   pub rest : after steps (runOf plan scripts quota (limit - steps) present) ≡ runOf plan scripts quota limit first
   pub positions-long : length (present .state .positions) ≡ 8
   pub records-long : length (present .state .records) ≡ 8
@@ -38,12 +38,12 @@ pub record Going (plan : Plan) (scripts : List ℕ) (quota limit : ℕ) (first p
   pub boxes-long : length (present .boxes) ≡ 64
   pub log-long : length (present .log) ≡ length (first .log)
 
-module _ (plan : Plan) (scripts : List ℕ) (quota limit : ℕ) (first : World) (possible : planPossible plan ≡ true) where
+module _ (plan : Plan) (scripts : List ℕ) (quota limit : ℕ) (first : World) (possible : planValid plan ≡ true) where
   -- before the first step
   pub going-first :
       (start : ℕ)
-      → statePossible plan quota (first .state) ≡ true
-      → start ≡ startOf plan (first .state .windows)
+      → stateValid plan quota (first .state) ≡ true
+      → start ≡ windowStart plan (first .state .windows)
       → length (first .state .positions) ≡ 8
       → length (first .state .records) ≡ 8
       → length (first .cache) ≡ 272
@@ -52,7 +52,7 @@ module _ (plan : Plan) (scripts : List ℕ) (quota limit : ℕ) (first : World) 
   going-first start passes starts positions records cache boxes =
       record {
         within = omega arith;
-        on-schedule = possible-scheduled plan quota first possible passes;
+        on-schedule = valid-scheduled plan quota first possible passes;
         starts = starts;
         rest =
             ap (λ (left : ℕ). after 0 (runOf plan scripts quota left first)) (sub-zero limit)
@@ -95,7 +95,7 @@ module _ (plan : Plan) (scripts : List ℕ) (quota limit : ℕ) (first : World) 
       next = worldWith (turned state owner clock position records) cache′ boxes′ log′
 
       reached : steps-of plan scripts quota count present ≡ next
-      reached = sym (run-world plan scripts quota count present) ∙ ap (λ (r : Ran). r .world) (sym ran)
+      reached = sym (run-world plan scripts quota count present) ∙ ap (λ (r : RunEffect). r .world) (sym ran)
 
       left : ℕ
       left = limit - (steps + count)
@@ -103,7 +103,7 @@ module _ (plan : Plan) (scripts : List ℕ) (quota limit : ℕ) (first : World) 
       whole : count + left ≡ limit - steps
       whole = omega (arith, going .within)
 
-      added : (rest : Ran) → after (steps + count) rest ≡ after steps (record { done = count + rest .done; world = rest .world })
+      added : (rest : RunEffect) → after (steps + count) rest ≡ after steps (record { done = count + rest .done; world = rest .world })
       added rest =
           let same : rest .done + (steps + count) ≡ count + rest .done + steps = omega arith in
           λ i. record { done = same i; world = rest .world }
@@ -111,7 +111,7 @@ module _ (plan : Plan) (scripts : List ℕ) (quota limit : ℕ) (first : World) 
       rest-next : after (steps + count) (runOf plan scripts quota left next) ≡ runOf plan scripts quota limit first
       rest-next =
           added (runOf plan scripts quota left next)
-          ∙ ap (λ (r : Ran). after steps (thenRun plan scripts quota r left)) ran
+          ∙ ap (λ (r : RunEffect). after steps (thenRun plan scripts quota r left)) ran
           ∙ ap (after steps) (sym (run-add plan scripts quota count left present))
           ∙ ap (λ (n : ℕ). after steps (runOf plan scripts quota n present)) whole
           ∙ going .rest
@@ -122,7 +122,7 @@ module _ (plan : Plan) (scripts : List ℕ) (quota limit : ℕ) (first : World) 
       → Going plan scripts quota limit first present steps start
       → steps < limit
       → present .state .windows < windowsTotal plan
-      → end ≡ endOf plan (present .state .windows)
+      → end ≡ windowEnd plan (present .state .windows)
       → activeStep plan scripts quota present ≡ switchOf plan present
       → next ≡ switchOf plan present
       → length (next .cache) ≡ length (present .cache)
@@ -135,7 +135,7 @@ module _ (plan : Plan) (scripts : List ℕ) (quota limit : ℕ) (first : World) 
         starts =
             ap (λ (n : ℕ). n + plan .pad) ends
             ∙ sym (next-start plan (present .state .windows))
-            ∙ ap (startOf plan) (sym (ap (λ (w : World). w .state .windows) switched ∙ add-one (present .state .windows)));
+            ∙ ap (windowStart plan) (sym (ap (λ (w : World). w .state .windows) switched ∙ add-one (present .state .windows)));
         rest = rest-next;
         positions-long = ap (λ (w : World). length (w .state .positions)) switched ∙ going .positions-long;
         records-long = ap (λ (w : World). length (w .state .records)) switched ∙ going .records-long;
@@ -156,7 +156,7 @@ module _ (plan : Plan) (scripts : List ℕ) (quota limit : ℕ) (first : World) 
       left : limit - steps ≡ suc (limit - (steps + 1))
       left = omega arith
 
-      one-off : (ran : Ran) → after (steps + 1) ran ≡ after steps (oneMore ran)
+      one-off : (ran : RunEffect) → after (steps + 1) ran ≡ after steps (oneMore ran)
       one-off ran = let same : ran .done + (steps + 1) ≡ ran .done + 1 + steps = omega arith in λ i. record { done = same i; world = ran .world }
 
       rest-next : after (steps + 1) (runOf plan scripts quota (limit - (steps + 1)) next) ≡ runOf plan scripts quota limit first
@@ -195,21 +195,21 @@ module _ (plan : Plan) (scripts : List ℕ) (quota limit : ℕ) (first : World) 
 -- the numbers of a window under way are small, so that nothing in a step wraps
 pub record Small (plan : Plan) (present : World) (start : ℕ) : Type 0 where
   pub slot-below : slotOf plan (present .state .windows) < 32
-  pub owner-below : ownerOf plan (present .state .windows) < 8
-  pub length-most : lengthOf plan (present .state .windows) ≤ 1_000_000
+  pub owner-below : windowOwner plan (present .state .windows) < 8
+  pub length-most : windowLength plan (present .state .windows) ≤ 1_000_000
   pub start-most : start ≤ 4_294_967_295
-  pub end-is : start + lengthOf plan (present .state .windows) ≡ endOf plan (present .state .windows)
+  pub end-is : start + windowLength plan (present .state .windows) ≡ windowEnd plan (present .state .windows)
   pub pad-most : plan .pad ≤ 1_000_000
-  pub clock-most : present .state .clock ≤ endOf plan (present .state .windows) + 212
+  pub clock-most : present .state .clock ≤ windowEnd plan (present .state .windows) + 212
 
 pub small :
     (plan : Plan) (present : World) (start : ℕ)
-    → planPossible plan ≡ true
+    → planValid plan ≡ true
     → Scheduled plan present
-    → start ≡ startOf plan (present .state .windows)
+    → start ≡ windowStart plan (present .state .windows)
     → present .state .windows < windowsTotal plan
     → Small plan present start
-unfolding endOf
+unfolding windowEnd
 small plan present start possible on-schedule starts inWindow =
     let count = counts plan possible in
     let slot = slots plan (present .state .windows) possible in
@@ -220,7 +220,7 @@ small plan present start possible on-schedule starts inWindow =
       owner-below = omega arith;
       length-most = lengths plan (present .state .windows) possible;
       start-most = omega arith;
-      end-is = ap (λ (n : ℕ). n + lengthOf plan (present .state .windows)) starts;
+      end-is = ap (λ (n : ℕ). n + windowLength plan (present .state .windows)) starts;
       pad-most = count .pad-most;
       clock-most = on-schedule .soon inWindow;
     }
@@ -233,7 +233,7 @@ part-room quota domains owner size below fits =
     omega arith
 
 -- a run has few windows
-pub windows-small : (plan : Plan) (windows : ℕ) → planPossible plan ≡ true → windows ≤ windowsTotal plan → windows ≤ 2 ^ 62
+pub windows-small : (plan : Plan) (windows : ℕ) → planValid plan ≡ true → windows ≤ windowsTotal plan → windows ≤ 2 ^ 62
 unfolding windowsTotal
 windows-small plan windows possible within =
     let count = counts plan possible in

@@ -5,10 +5,10 @@ use mathlib.Core.List.{List}
 use mathlib.Core.Path.{_≡_, refl}
 use borrow.Author.Tests.{leb-false}
 use Rattle.plan.specs.declared.Plan.{Plan}
-use Rattle.plan.specs.Windows.{endOf, windowsTotal}
+use Rattle.plan.specs.Windows.{windowEnd, windowsTotal}
 use Rattle.script.specs.declared.Op.{Op}
-use Rattle.script.specs.declared.Fetched.{Fetched}
-use Rattle.script.specs.declared.Fetched.the-variants.{Op as Fetch, End}
+use Rattle.script.specs.declared.ScriptItem.{ScriptItem}
+use Rattle.script.specs.declared.ScriptItem.the-variants.{Op as Fetch, End}
 use Rattle.state.specs.declared.State.{State}
 use Rattle.state.specs.World.{World, endedOf, recordsAt, runningOf}
 use Rattle.machine.specs.Steps.{activeStep, closedOf, fetchedStep, nextOf, opStepOf, stepOf, steps}
@@ -18,7 +18,7 @@ use Rattle.machine.proofs.Tests.{neither}
 -- an op begins: in a window, before its end, with room in the domain's part of the log, where an op stands next in its script
 pub record Begins (plan : Plan) (scripts : List ℕ) (quota : ℕ) (world : World) (op : Op) : Type 0 where
   pub inWindow : world .state .windows < windowsTotal plan
-  pub inTime : world .state .clock < endOf plan (world .state .windows)
+  pub inTime : world .state .clock < windowEnd plan (world .state .windows)
   pub room : recordsAt (world .state) (runningOf plan (world .state)) < quota
   pub next : nextOf plan scripts (world .state) ≡ Fetch op
 
@@ -43,7 +43,7 @@ module _
     active-cases inWindow = go (closedOf plan quota (world .state)) refl
       where
         fetched :
-            (next : Fetched)
+            (next : ScriptItem)
             → nextOf plan scripts (world .state) ≡ next
             → closedOf plan quota (world .state) ≡ false
             → Holds (fetchedStep plan quota next world)

@@ -8,7 +8,7 @@ use native.Mathlib.Nat.{add-suc, add-zero, suc-add, zero-add}
 use native.Mathlib.Omega.{arith}
 use Rattle.plan.specs.declared.Plan.{Plan}
 use Rattle.state.specs.World.{World, endedOf}
-use Rattle.machine.specs.Steps.{Ran, activeStep, oneMore, runOf, stepOf, steps}
+use Rattle.machine.specs.Steps.{RunEffect, activeStep, oneMore, runOf, stepOf, steps}
 
 module _ (plan : Plan) (scripts : List ℕ) (quota : ℕ) where
   -- ---- one step
@@ -57,7 +57,7 @@ module _ (plan : Plan) (scripts : List ℕ) (quota : ℕ) where
   run-more limit world running = rw (running, runOf)
 
   -- a run of one step or more, by whether it had ended
-  by-end : (Holds : Ran → Type 0) (limit : ℕ) (world : World)
+  by-end : (Holds : RunEffect → Type 0) (limit : ℕ) (world : World)
       → (endedOf plan (world .state) ≡ true → Holds (record { done = 0; world = world }))
       → (endedOf plan (world .state) ≡ false → Holds (oneMore (runOf plan scripts quota limit (activeStep plan scripts quota world))))
       → Holds (runOf plan scripts quota (suc limit) world)
@@ -88,7 +88,7 @@ module _ (plan : Plan) (scripts : List ℕ) (quota : ℕ) where
       by-end (λ ran. ran .done ≤ suc limit) limit world (λ ended. omega arith) (λ running. omega arith)
 
   -- a run, then another: the steps done are counted together
-  abbrev pub thenRun : Ran → ℕ → Ran
+  abbrev pub thenRun : RunEffect → ℕ → RunEffect
   thenRun ran limit =
       record {
         done = ran .done + runOf plan scripts quota limit (ran .world) .done;
@@ -110,7 +110,7 @@ module _ (plan : Plan) (scripts : List ℕ) (quota : ℕ) where
       ∙ sym (ap (λ ran. record { done = 0 + ran .done; world = ran .world }) (run-ended other world ended)))
       (λ running. run-more (one + other) world running ∙ ap oneMore (run-add one other _) ∙ one-more (runOf plan scripts quota one _) other)
     where
-      one-more : (ran : Ran) (limit : ℕ) → oneMore (thenRun ran limit) ≡ thenRun (oneMore ran) limit
+      one-more : (ran : RunEffect) (limit : ℕ) → oneMore (thenRun ran limit) ≡ thenRun (oneMore ran) limit
       one-more ran limit =
           let rest = runOf plan scripts quota limit (ran .world) in
           let count : ran .done + rest .done + 1 ≡ ran .done + 1 + rest .done = omega arith in
@@ -125,6 +125,6 @@ module _ (plan : Plan) (scripts : List ℕ) (quota : ℕ) where
   unfolding runOf
   run-next count world present next so-far running stepped =
       (λ i. record { done = count + 1; world = stepped i })
-      ∙ ap (λ (one : Ran). record { done = count + one .done; world = one .world }) (sym (run-more 0 present running))
-      ∙ ap (λ (ran : Ran). thenRun ran 1) so-far
+      ∙ ap (λ (one : RunEffect). record { done = count + one .done; world = one .world }) (sym (run-more 0 present running))
+      ∙ ap (λ (ran : RunEffect). thenRun ran 1) so-far
       ∙ sym (run-add count 1 world)

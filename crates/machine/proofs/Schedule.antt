@@ -10,13 +10,13 @@ use native.Mathlib.Omega.{arith}
 use lib.Dec.{ltb}
 use borrow.Author.Tests.{eqb-true, leb-true, ltb-false, ltb-true}
 use Rattle.plan.specs.declared.Plan.{Plan}
-use Rattle.plan.specs.Possible.{planPossible}
-use Rattle.plan.specs.Windows.{endOf, startOf, ticksTotal, windowsTotal}
+use Rattle.plan.specs.Validity.{planValid}
+use Rattle.plan.specs.Windows.{windowEnd, windowStart, ticksTotal, windowsTotal}
 use Rattle.plan.proofs.Windows.{pad-least, start-total}
 use Rattle.script.specs.declared.Op.{Op}
 use Rattle.cache.proofs.Ticks.{flush-ticks}
 use Rattle.ops.proofs.Ticks.{effect-ticks}
-use Rattle.state.specs.Impossible.{clockPossible, statePossible}
+use Rattle.state.specs.StateValidity.{clockValid, stateValid}
 use Rattle.state.specs.World.{World, freshState, positionAt, runningOf}
 use Rattle.machine.specs.Fresh.{freshWorld}
 use Rattle.machine.specs.Steps.{opStepOf, stepOf, steps}
@@ -27,36 +27,36 @@ use Rattle.machine.proofs.Invariant.{Begins, step-cases, steps-hold}
 -- windows at most the total; in a window the clock is from its start to its end + 212; ended, it is the start that a next window would have
 pub record Scheduled (plan : Plan) (world : World) : Type 0 where
   pub windows : world .state .windows ≤ windowsTotal plan
-  pub started : startOf plan (world .state .windows) ≤ world .state .clock
-  pub soon : world .state .windows < windowsTotal plan → world .state .clock ≤ endOf plan (world .state .windows) + 212
-  pub ended : world .state .windows ≡ windowsTotal plan → world .state .clock ≡ startOf plan (world .state .windows)
+  pub started : windowStart plan (world .state .windows) ≤ world .state .clock
+  pub soon : world .state .windows < windowsTotal plan → world .state .clock ≤ windowEnd plan (world .state .windows) + 212
+  pub ended : world .state .windows ≡ windowsTotal plan → world .state .clock ≡ windowStart plan (world .state .windows)
 
 -- the next window starts at a window's end + the pad, and no window ends before it starts
-pub next-start : (plan : Plan) (window : ℕ) → startOf plan (suc window) ≡ endOf plan window + plan .pad
-unfolding startOf endOf
+pub next-start : (plan : Plan) (window : ℕ) → windowStart plan (suc window) ≡ windowEnd plan window + plan .pad
+unfolding windowStart windowEnd
 next-start plan window = refl
 
-pub start-end : (plan : Plan) (window : ℕ) → startOf plan window ≤ endOf plan window
-unfolding endOf
+pub start-end : (plan : Plan) (window : ℕ) → windowStart plan window ≤ windowEnd plan window
+unfolding windowEnd
 start-end plan window = omega arith
 
 -- 212 ticks late and 64 ticks of flushing are within the pad: after a switch the clock is exactly the next window's start
-pub switch-clock : (plan : Plan) (world : World) → planPossible plan ≡ true → Scheduled plan world → world .state .windows < windowsTotal plan
-    → switchOf plan world .state .clock ≡ startOf plan (world .state .windows + 1)
+pub switch-clock : (plan : Plan) (world : World) → planValid plan ≡ true → Scheduled plan world → world .state .windows < windowsTotal plan
+    → switchOf plan world .state .clock ≡ windowStart plan (world .state .windows + 1)
 unfolding switchOf paddedClock flushedClock
 switch-clock plan world possible scheduled inWindow =
     let late = scheduled .soon inWindow in
     let flush = flush-ticks (world .cache) in
     let pad = pad-least plan possible in
-    let next = ap (startOf plan) (add-one (world .state .windows)) ∙ next-start plan (world .state .windows) in
+    let next = ap (windowStart plan) (add-one (world .state .windows)) ∙ next-start plan (world .state .windows) in
     omega arith
 
 -- ended, the clock is the run's total of ticks
-pub ended-clock : (plan : Plan) (world : World) → planPossible plan ≡ true → Scheduled plan world → world .state .windows ≡ windowsTotal plan
+pub ended-clock : (plan : Plan) (world : World) → planValid plan ≡ true → Scheduled plan world → world .state .windows ≡ windowsTotal plan
     → world .state .clock ≡ ticksTotal plan
-ended-clock plan world possible scheduled all = scheduled .ended all ∙ ap (startOf plan) all ∙ start-total plan possible
+ended-clock plan world possible scheduled all = scheduled .ended all ∙ ap (windowStart plan) all ∙ start-total plan possible
 
-module _ (plan : Plan) (possible : planPossible plan ≡ true) where
+module _ (plan : Plan) (possible : planValid plan ≡ true) where
   after-switch : (world : World) → Scheduled plan world → world .state .windows < windowsTotal plan → Scheduled plan (switchOf plan world)
   unfolding switchOf
   after-switch world scheduled inWindow =
@@ -76,11 +76,11 @@ module _ (plan : Plan) (possible : planPossible plan ≡ true) where
       record { windows = scheduled .windows; started = omega arith; soon = λ h. omega arith; ended = λ h. omega arith }
 
   at-start : (log : List ℕ) → Scheduled plan (freshWorld log)
-  unfolding freshWorld freshState startOf
+  unfolding freshWorld freshState windowStart
   at-start log = record { windows = omega arith; started = omega arith; soon = λ h. omega arith; ended = λ h. refl }
 
 -- every world that a run reaches from a fresh start is on schedule
-pub scheduled : (plan : Plan) (scripts : List ℕ) (quota count : ℕ) (log : List ℕ) → planPossible plan ≡ true
+pub scheduled : (plan : Plan) (scripts : List ℕ) (quota count : ℕ) (log : List ℕ) → planValid plan ≡ true
     → Scheduled plan (steps plan scripts quota count (freshWorld log))
 scheduled plan scripts quota count log possible =
     steps-hold plan scripts quota (Scheduled plan) (after-switch plan possible) (after-op plan possible scripts quota) (freshWorld log)
@@ -90,13 +90,13 @@ scheduled plan scripts quota count log possible =
 -- one window more, at its start
 pub record NextStarts (plan : Plan) (world next : World) : Type 0 where
   pub windows : next .state .windows ≡ world .state .windows + 1
-  pub exact : next .state .clock ≡ startOf plan (world .state .windows + 1)
+  pub exact : next .state .clock ≡ windowStart plan (world .state .windows + 1)
 
 abbrev pub NextWindow : Plan → World → World → Type 0
 NextWindow plan world next = (next .state .windows ≡ world .state .windows) ⊎ NextStarts plan world next
 
 -- a step from a world on schedule stays in its window, or is the switch that starts the next window, at its start
-pub step-windows : (plan : Plan) (scripts : List ℕ) (quota : ℕ) (world : World) → planPossible plan ≡ true → Scheduled plan world
+pub step-windows : (plan : Plan) (scripts : List ℕ) (quota : ℕ) (world : World) → planValid plan ≡ true → Scheduled plan world
     → NextWindow plan world (stepOf plan scripts quota world)
 unfolding opStepOf switchOf
 step-windows plan scripts quota world possible scheduled =
@@ -105,28 +105,28 @@ step-windows plan scripts quota world possible scheduled =
     (λ op begins. inl refl)
 
 -- steps keep to the schedule
-pub steps-scheduled : (plan : Plan) (scripts : List ℕ) (quota : ℕ) (world : World) → planPossible plan ≡ true → Scheduled plan world
+pub steps-scheduled : (plan : Plan) (scripts : List ℕ) (quota : ℕ) (world : World) → planValid plan ≡ true → Scheduled plan world
     → (count : ℕ)
     → Scheduled plan (steps plan scripts quota count world)
 steps-scheduled plan scripts quota world possible on-schedule =
     steps-hold plan scripts quota (Scheduled plan) (after-switch plan possible) (after-op plan possible scripts quota) world on-schedule
 
-pub step-scheduled : (plan : Plan) (scripts : List ℕ) (quota : ℕ) (world : World) → planPossible plan ≡ true → Scheduled plan world
+pub step-scheduled : (plan : Plan) (scripts : List ℕ) (quota : ℕ) (world : World) → planValid plan ≡ true → Scheduled plan world
     → Scheduled plan (stepOf plan scripts quota world)
 unfolding steps
 step-scheduled plan scripts quota world possible on-schedule = steps-scheduled plan scripts quota world possible on-schedule 1
 
 -- a state that passes the check for 14 is on schedule
-pub possible-scheduled : (plan : Plan) (quota : ℕ) (world : World) → planPossible plan ≡ true → statePossible plan quota (world .state) ≡ true
+pub valid-scheduled : (plan : Plan) (quota : ℕ) (world : World) → planValid plan ≡ true → stateValid plan quota (world .state) ≡ true
     → Scheduled plan world
-unfolding statePossible clockPossible
-possible-scheduled plan quota world possible passes =
-    go (ltb (world .state .windows) (windowsTotal plan)) refl (and-eq-true-iff (clockPossible plan (world .state)) _ .0 passes .0)
+unfolding stateValid clockValid
+valid-scheduled plan quota world possible passes =
+    go (ltb (world .state .windows) (windowsTotal plan)) refl (and-eq-true-iff (clockValid plan (world .state)) _ .0 passes .0)
   where
-    go : (before : Bool) → ltb (world .state .windows) (windowsTotal plan) ≡ before → clockPossible plan (world .state) ≡ true → Scheduled plan world
+    go : (before : Bool) → ltb (world .state .windows) (windowsTotal plan) ≡ before → clockValid plan (world .state) ≡ true → Scheduled plan world
     go true test clock =
         let within : world .state .windows < windowsTotal plan = ltb-true _ _ test in
-        let parts = and-eq-true-iff _ _ .0 (rw (test, clockPossible) at clock) in
+        let parts = and-eq-true-iff _ _ .0 (rw (test, clockValid) at clock) in
         record {
           windows = omega arith;
           started = leb-true _ _ (parts .0);
@@ -134,9 +134,9 @@ possible-scheduled plan quota world possible passes =
           ended = λ h. absurd (omega arith);
         }
     go false test clock =
-        let parts = and-eq-true-iff _ _ .0 (rw (test, clockPossible) at clock) in
+        let parts = and-eq-true-iff _ _ .0 (rw (test, clockValid) at clock) in
         let past : windowsTotal plan ≤ world .state .windows = ltb-false _ _ test in
         let all : world .state .windows ≡ windowsTotal plan = eqb-true _ _ (parts .0) in
-        let exact : world .state .clock ≡ startOf plan (world .state .windows) =
-        eqb-true _ _ (parts .1) ∙ sym (start-total plan possible) ∙ ap (startOf plan) (sym all) in
+        let exact : world .state .clock ≡ windowStart plan (world .state .windows) =
+        eqb-true _ _ (parts .1) ∙ sym (start-total plan possible) ∙ ap (windowStart plan) (sym all) in
         record { windows = omega arith; started = omega arith; soon = λ h. absurd (omega arith); ended = λ h. exact }

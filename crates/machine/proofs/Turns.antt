@@ -7,17 +7,17 @@ use native.Mathlib.Omega.{arith}
 use lib.Dec.{leb}
 use borrow.Author.Tests.{leb-false}
 use Rattle.plan.specs.declared.Plan.{Plan}
-use Rattle.plan.specs.Windows.{endOf, ownerOf}
-use Rattle.script.specs.declared.Fetched.{Fetched}
-use Rattle.script.specs.declared.Fetched.the-variants.{Op as Fetch, End}
+use Rattle.plan.specs.Windows.{windowEnd, windowOwner}
+use Rattle.script.specs.declared.ScriptItem.{ScriptItem}
+use Rattle.script.specs.declared.ScriptItem.the-variants.{Op as Fetch, End}
 use Rattle.script.specs.declared.Op.{Op}
 use Rattle.script.specs.declared.Op.the-variants.{Compute, Read, Receive, Send, Write}
 use Rattle.script.specs.Fetch.{fetchOf}
-use Rattle.script.specs.Limits.{Within}
+use Rattle.script.specs.Limits.{OpWithinLimits}
 use Rattle.cache.specs.Flush.{kernelFlushTicks, kernelFlushed, l1FlushTicks}
 use Rattle.cache.proofs.Ticks.{flush-ticks}
-use Rattle.records.specs.Records.{stored}
-use Rattle.ops.specs.declared.Done.{Done}
+use Rattle.records.specs.Records.{recordStored}
+use Rattle.ops.specs.declared.OpResult.{OpResult}
 use Rattle.ops.specs.Ops.{Effect, effectOf, ownsLine, receiveOf, sendOf, touchOf}
 use Rattle.ops.specs.View.{effectWith, viewOf}
 use Rattle.ops.proofs.Ticks.{effect-ticks}
@@ -43,19 +43,19 @@ module _ (cache flushed : List ℕ) (kernel l1 : ℕ) (first : kernel ≡ kernel
 
 -- an answer's ticks are at most 213
 pub operated-ticks :
-    (plan : Plan) (domain : ℕ) (op : Op) (cache boxes : List ℕ) (done : Done) (cache′ boxes′ : List ℕ)
-    → Within op
+    (plan : Plan) (domain : ℕ) (op : Op) (cache boxes : List ℕ) (done : OpResult) (cache′ boxes′ : List ℕ)
+    → OpWithinLimits op
     → effectWith done cache′ boxes′ ≡ effectOf plan domain op cache boxes
     → done .ticks ≤ 213
 operated-ticks plan domain op cache boxes done cache′ boxes′ within did =
     let same : done .ticks ≡ effectOf plan domain op cache boxes .ticks = ap (λ (e : Effect). e .ticks) did in
     rw same (effect-ticks plan domain op cache boxes within)
 
--- one op, with its record stored
+-- one op, with its record recordStored
 pub op-stepped :
-    (plan : Plan) (quota domain : ℕ) (op : Op) (clock number : ℕ) (cache boxes log : List ℕ) (done : Done) (cache′ boxes′ log′ : List ℕ)
+    (plan : Plan) (quota domain : ℕ) (op : Op) (clock number : ℕ) (cache boxes log : List ℕ) (done : OpResult) (cache′ boxes′ log′ : List ℕ)
     → effectWith done cache′ boxes′ ≡ effectOf plan domain op cache boxes
-    → log′ ≡ stored quota domain number (done .seen) (clock + done .ticks) log
+    → log′ ≡ recordStored quota domain number (done .seen) (clock + done .ticks) log
     → (state : State)
     → state .clock ≡ clock
     → recordsAt state domain ≡ number
@@ -68,7 +68,7 @@ op-stepped plan quota domain op clock number cache boxes log done cache′ boxes
 -- a switch, with the clock that it answers
 pub switch-stepped :
     (plan : Plan) (state : State) (cache boxes log : List ℕ) (end pad clock : ℕ) (cache′ : List ℕ)
-    → endOf plan (state .windows) ≡ end
+    → windowEnd plan (state .windows) ≡ end
     → plan .pad ≡ pad
     → clock ≡ paddedClock end pad (flushedClock (state .clock) end cache)
     → cache′ ≡ switchedCache cache
@@ -90,7 +90,7 @@ module _ (plan : Plan) (scripts : List ℕ) (quota : ℕ) (world : World) where
       → nextOf plan scripts (world .state) ≡ End
       → activeStep plan scripts quota world ≡ switchOf plan world
   unfolding activeStep fetchedStep
-  active-end open-still ends = rw (open-still, activeStep) (ap (λ (f : Fetched). fetchedStep plan quota f world) ends)
+  active-end open-still ends = rw (open-still, activeStep) (ap (λ (f : ScriptItem). fetchedStep plan quota f world) ends)
 
   pub active-op :
       (op : Op)
@@ -98,7 +98,7 @@ module _ (plan : Plan) (scripts : List ℕ) (quota : ℕ) (world : World) where
       → nextOf plan scripts (world .state) ≡ Fetch op
       → activeStep plan scripts quota world ≡ opStepOf plan quota (runningOf plan (world .state)) op world
   unfolding activeStep fetchedStep
-  active-op op open-still fetched = rw (open-still, activeStep) (ap (λ (f : Fetched). fetchedStep plan quota f world) fetched)
+  active-op op open-still fetched = rw (open-still, activeStep) (ap (λ (f : ScriptItem). fetchedStep plan quota f world) fetched)
 
 -- an op looks at nothing of a plan but its recipients and masks
 pub effect-view :
@@ -120,8 +120,8 @@ op-step-view plan quota domain op world = rw effect-view refl
 -- the test of the code is the definition's
 pub closed-test :
     (plan : Plan) (quota : ℕ) (state : State) (owner end : ℕ)
-    → ownerOf plan (state .windows) ≡ owner
-    → endOf plan (state .windows) ≡ end
+    → windowOwner plan (state .windows) ≡ owner
+    → windowEnd plan (state .windows) ≡ end
     → closedOf plan quota state ≡ (leb end (state .clock) || leb quota (recordsAt state owner))
 unfolding closedOf
 closed-test plan quota state owner end owns ends = rw (owns, ends) refl
@@ -140,7 +140,7 @@ module _
 
   -- a switch is due: the script has ended
   pub due-end :
-      (fetched : Fetched)
+      (fetched : ScriptItem)
       → (leb end (state .clock) || leb quota (recordsAt state owner)) ≡ false
       → fetched ≡ fetchOf scripts owner (positionAt state owner)
       → fetched ≡ End
@@ -152,7 +152,7 @@ module _
 
   -- the step is an op
   pub stepped-op :
-      (fetched : Fetched) (op : Op) (after : World)
+      (fetched : ScriptItem) (op : Op) (after : World)
       → (leb end (state .clock) || leb quota (recordsAt state owner)) ≡ false
       → fetched ≡ fetchOf scripts owner (positionAt state owner)
       → fetched ≡ Fetch op

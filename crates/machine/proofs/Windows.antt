@@ -9,8 +9,8 @@ use lib.ListN.{length}
 use lib.Seq.{getD-set-same, set-getD, set-set}
 use borrow.Author.Tests.{lt-leb}
 use Rattle.plan.specs.declared.Plan.{Plan}
-use Rattle.script.specs.declared.Fetched.{Fetched}
-use Rattle.script.specs.declared.Fetched.the-variants.{Op as Fetch, End}
+use Rattle.script.specs.declared.ScriptItem.{ScriptItem}
+use Rattle.script.specs.declared.ScriptItem.the-variants.{Op as Fetch, End}
 use Rattle.script.specs.declared.Op.{Op}
 use Rattle.script.specs.Fetch.{fetchOf}
 use Rattle.ops.specs.View.{viewOf}
@@ -68,7 +68,7 @@ module _ (plan : Plan) (scripts : List ℕ) (quota : ℕ) (state : State) (owner
 
     -- a switch is due: the script has ended
     pub turn-end :
-        (fetched : Fetched)
+        (fetched : ScriptItem)
         → (leb end clock || leb quota records) ≡ false
         → fetched ≡ fetchOf scripts owner position
         → fetched ≡ End
@@ -82,7 +82,7 @@ module _ (plan : Plan) (scripts : List ℕ) (quota : ℕ) (state : State) (owner
 
     -- one op more
     pub turn-more :
-        (steps : ℕ) (cache₀ boxes₀ log₀ : List ℕ) (fetched : Fetched) (op : Op) (clock′ : ℕ) (cache′ boxes′ log′ : List ℕ)
+        (steps : ℕ) (cache₀ boxes₀ log₀ : List ℕ) (fetched : ScriptItem) (op : Op) (clock′ : ℕ) (cache′ boxes′ log′ : List ℕ)
         → ranWith steps (worldWith (turned state owner clock position records) cache boxes log)
         ≡ runOf plan scripts quota steps (worldWith state cache₀ boxes₀ log₀)
         → (leb end clock || leb quota records) ≡ false

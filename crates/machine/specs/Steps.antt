@@ -5,12 +5,12 @@ use mathlib.Core.List.{List}
 use lib.Dec.{leb}
 use lib.ListN.{set}
 use Rattle.plan.specs.declared.Plan.{Plan}
-use Rattle.plan.specs.Windows.{endOf}
+use Rattle.plan.specs.Windows.{windowEnd}
 use Rattle.script.specs.declared.Op.{Op}
-use Rattle.script.specs.declared.Fetched.{Fetched}
-use Rattle.script.specs.declared.Fetched.the-variants.{Op as Fetch, End}
+use Rattle.script.specs.declared.ScriptItem.{ScriptItem}
+use Rattle.script.specs.declared.ScriptItem.the-variants.{Op as Fetch, End}
 use Rattle.script.specs.Fetch.{fetchOf}
-use Rattle.records.specs.Records.{stored}
+use Rattle.records.specs.Records.{recordStored}
 use Rattle.ops.specs.Ops.{effectOf}
 use Rattle.state.specs.declared.State.{State}
 use Rattle.state.specs.World.{World, endedOf, positionAt, recordsAt, runningOf}
@@ -33,20 +33,20 @@ opStepOf plan quota domain op world =
           };
       cache = effect .cache;
       boxes = effect .boxes;
-      log = stored quota domain count (effect .seen) clock (world .log);
+      log = recordStored quota domain count (effect .seen) clock (world .log);
     }
 
 -- no op begins: the clock has reached the window's end, or the domain's log is full
 unfoldable pub closedOf : Plan → ℕ → State → Bool
-closedOf plan quota state = leb (endOf plan (state .windows)) (state .clock) || leb quota (recordsAt state (runningOf plan state))
+closedOf plan quota state = leb (windowEnd plan (state .windows)) (state .clock) || leb quota (recordsAt state (runningOf plan state))
 
 -- an op where one stands at the domain's position; a switch where the script has ended
-unfoldable pub fetchedStep : Plan → ℕ → Fetched → World → World
+unfoldable pub fetchedStep : Plan → ℕ → ScriptItem → World → World
 fetchedStep plan quota (Fetch op) world = opStepOf plan quota (runningOf plan (world .state)) op world
 fetchedStep plan quota End world = switchOf plan world
 
 -- what stands next in the running domain's script
-abbrev pub nextOf : Plan → List ℕ → State → Fetched
+abbrev pub nextOf : Plan → List ℕ → State → ScriptItem
 nextOf plan scripts state = fetchOf scripts (runningOf plan state) (positionAt state (runningOf plan state))
 
 -- a step of a run that has not ended: the next op of the running domain where one may begin, otherwise a switch
@@ -68,16 +68,16 @@ steps plan scripts quota zero world = world
 steps plan scripts quota (suc count) world = stepOf plan scripts quota (steps plan scripts quota count world)
 
 -- what a run under a limit leaves, with the number of steps done
-pub record Ran : Type 0 where
+pub record RunEffect : Type 0 where
   pub done : ℕ
   pub world : World
 
 -- one step more was done before these
-abbrev pub oneMore : Ran → Ran
+abbrev pub oneMore : RunEffect → RunEffect
 oneMore ran = record { done = ran .done + 1; world = ran .world }
 
 -- a run does as many steps as its limit allows, fewer only where it comes to its end
-unfoldable pub runOf : Plan → List ℕ → ℕ → ℕ → World → Ran
+unfoldable pub runOf : Plan → List ℕ → ℕ → ℕ → World → RunEffect
 runOf plan scripts quota zero world = record { done = 0; world = world }
 runOf plan scripts quota (suc limit) world =
     elim (endedOf plan (world .state)) [

@@ -2,7 +2,7 @@
 use Prim.Native.Nat.{ℕ, _+_, max}
 use mathlib.Core.List.{List}
 use Rattle.plan.specs.declared.Plan.{Plan}
-use Rattle.plan.specs.Windows.{endOf}
+use Rattle.plan.specs.Windows.{windowEnd}
 use Rattle.cache.specs.Flush.{kernelFlushTicks, kernelFlushed, l1FlushTicks, l1Flushed}
 use Rattle.state.specs.World.{World}
 
@@ -21,7 +21,7 @@ switchedCache cache = l1Flushed (kernelFlushed cache)
 -- the switch: both flushes, the next window, the pad. Scripts stay where they are; boxes and log are untouched.
 unfoldable pub switchOf : Plan → World → World
 switchOf plan world =
-    let end = endOf plan (world .state .windows) in
+    let end = windowEnd plan (world .state .windows) in
     record {
       state =
           record {

@@ -5,10 +5,10 @@ use mathlib.Core.Path.{_≡_}
 use mathlib.Core.List.{List}
 use Rattle.plan.specs.declared.Plan.{Plan}
 use lib.ListN.{length, set}
-use Rattle.plan.specs.Windows.{endOf, ownerOf, windowsTotal}
+use Rattle.plan.specs.Windows.{windowEnd, windowOwner, windowsTotal}
 use Rattle.state.specs.declared.State.{State}
 use Rattle.state.specs.World.{World, positionAt, recordsAt}
-use Rattle.machine.specs.Steps.{Ran, activeStep, runOf}
+use Rattle.machine.specs.Steps.{RunEffect, activeStep, runOf}
 use Rattle.machine.specs.Switch.{switchOf}
 
 -- a state with the three lent things
@@ -17,13 +17,13 @@ worldWith state cache boxes log = record { state = state; cache = cache; boxes =
 
 -- the numbers of a plan that the ops of a window look at: whose window it is, its end, the recipients and the masks
 pub record InWindow (plan : Plan) (windows owner end : ℕ) (rights masks : List ℕ) : Type 0 where
-  pub owner-is : ownerOf plan windows ≡ owner
-  pub end-is : endOf plan windows ≡ end
+  pub owner-is : windowOwner plan windows ≡ owner
+  pub end-is : windowEnd plan windows ≡ end
   pub rights-are : plan .rights ≡ rights
   pub masks-are : plan .masks ≡ masks
 
 -- a number of steps with a world
-abbrev pub ranWith : ℕ → World → Ran
+abbrev pub ranWith : ℕ → World → RunEffect
 ranWith steps world = record { done = steps; world = world }
 
 -- a state whose running domain has come to a clock, a place in its script and a number of records

@@ -11,7 +11,7 @@ pub struct Advance {
 }
 
 // What the ops of one window answer, beside the cache table, the boxes and the log.
-pub struct Spent {
+pub struct WindowProgress {
     // the number of ops done
     pub steps: u64,
     pub clock: u64,

@@ -1,14 +1,14 @@
 // One step, an op or a switch, and so many of them.
 use crate::Advance;
-use crate::Spent;
+use crate::WindowProgress;
 use cache::flush::flush_kernel;
 use cache::flush::flush_l1;
 use ops::operate;
 use plan::Plan;
-use plan::timing::start_of;
+use plan::timing::window_start;
 use plan::timing::windows_total;
 use records::store_record;
-use script::Fetched;
+use script::ScriptItem;
 use script::Op;
 use script::fetch;
 use state::State;
@@ -16,10 +16,10 @@ ghost use mathlib.Core.Path.{_≡_};
 ghost use mathlib.Core.Bool.{true};
 ghost use Prim.Native.Nat.{_+_, _*_, _^_, _<_, _≤_, max};
 ghost use lib.ListN.{length};
-ghost use Rattle.plan.specs.Possible.{planPossible};
-ghost use Rattle.script.specs.Limits.{Within};
+ghost use Rattle.plan.specs.Validity.{planValid};
+ghost use Rattle.script.specs.Limits.{OpWithinLimits};
 ghost use Rattle.ops.specs.View.{viewOf};
-ghost use Rattle.state.specs.Impossible.{statePossible};
+ghost use Rattle.state.specs.StateValidity.{stateValid};
 ghost use Rattle.state.specs.World.{positionAt, recordsAt};
 ghost use Rattle.machine.specs.Steps.{opStepOf, runOf};
 ghost use Rattle.machine.specs.Switch.{flushedClock, paddedClock, switchedCache};
@@ -57,7 +57,7 @@ fn op_step(
     boxes: &mut [u32],
     log: &mut [u8],
 ) -> u64
-    requires { ⌜ (domain < 8) × Within op × (length (now cache) ≡ 272) × (length (now boxes) ≡ 64) × (clock ≤ 2 ^ 62)
+    requires { ⌜ (domain < 8) × OpWithinLimits op × (length (now cache) ≡ 272) × (length (now boxes) ≡ 64) × (clock ≤ 2 ^ 62)
         × (8 * (quota * domain + number) + 8 ≤ length (now log)) ⌝ }
     ensures { λ r. ⌜ (r ≤ clock + 213) × ((state : State) → state .clock ≡ clock → recordsAt state domain ≡ number
         → worldWith (turned state domain r (positionAt state domain + 1) (number + 1)) (now (cache .exit)) (now (boxes .exit)) (now (log .exit))
@@ -86,7 +86,7 @@ fn run_window(
     cache: &mut [u16],
     boxes: &mut [u32],
     log: &mut [u8],
-) -> Spent
+) -> WindowProgress
     requires { ⌜ (owner < 8) × (length (now scripts) ≡ 2048) × (length (now cache) ≡ 272) × (length (now boxes) ≡ 64)
         × (begun ≤ 2 ^ 62) × (end ≤ 2 ^ 62) × (8 * (quota * owner + quota) ≤ length (now log)) ⌝ }
     ensures { λ r. ⌜ (r .steps ≤ limit) × ((plan : Plan) (state : State)
@@ -104,7 +104,7 @@ fn run_window(
             break;
         }
         let fetched = fetch(scripts, owner as u32, position);
-        let Fetched::Op(op) = fetched else {
+        let ScriptItem::Op(op) = fetched else {
             break;
         };
         clock = op_step(
@@ -123,7 +123,7 @@ fn run_window(
         records += 1;
         steps += 1;
     }
-    Spent {
+    WindowProgress {
         steps,
         clock,
         position,
@@ -142,7 +142,7 @@ pub fn run_steps(
     boxes: &mut [u32],
     log: &mut [u8],
 ) -> Advance
-    requires { ⌜ (planPossible plan ≡ true) × (statePossible plan quota state ≡ true)
+    requires { ⌜ (planValid plan ≡ true) × (stateValid plan quota state ≡ true)
         × (length (now scripts) ≡ 2048) × (length (now cache) ≡ 272) × (length (now boxes) ≡ 64)
         × (8 * (quota * plan .domains) ≤ length (now log)) ⌝ }
     ensures { λ r. ⌜ ranWith (r .steps) (worldWith (r .state) (now (cache .exit)) (now (boxes .exit)) (now (log .exit)))
@@ -159,7 +159,7 @@ pub fn run_steps(
     let mut positions = state.positions;
     let mut records = state.records;
     let mut steps: u64 = 0;
-    let mut start = start_of(plan, windows);
+    let mut start = window_start(plan, windows);
     while steps < limit {
         if total <= windows {
             break;

@@ -11,14 +11,14 @@ use Rattle.state.specs.World.{World}
 use Rattle.machine.specs.View.{worldWith}
 use Rattle.engine.specs.declared.Progress.{Progress}
 use Rattle.engine.specs.Answers.{freshWith, runWith}
-use Rattle.engine.specs.FreshStart.{Fresh, freshStartOf}
-use Rattle.engine.specs.Running.{Run}
+use Rattle.engine.specs.FreshStart.{FreshOutcome, freshStartOf}
+use Rattle.engine.specs.Running.{RunOutcome}
 use Rattle.vectors.specs.Fields.{numberIn}
 use Rattle.vectors.specs.Lending.{handedBack, lent}
 use Rattle.vectors.proofs.Handed.{handed-is, lent-is}
 use Rattle.machine_vectors.specs.declared.example.Example.{Example}
-use Rattle.machine_vectors.specs.Examples.{withState}
-use Rattle.machine_vectors.specs.Calls.{advanceOf, afterWith, goOn, ranOn, startOf}
+use Rattle.machine_vectors.specs.Examples.{exampleWithState}
+use Rattle.machine_vectors.specs.Calls.{advanceOf, afterWith, goOn, ranOn, startCommand}
 
 -- a log of which so many bytes are blank is as long as before
 pub blanked-length :
@@ -41,8 +41,8 @@ module _ (example : Example) (cache boxes : List ℕ) (lentCache lentBoxes : ℕ
   started :
       lentCache ≡ min (example .cache) (length cache)
       → lentBoxes ≡ min (example .boxes) (length boxes)
-      → freshStartOf (example .plan) (example .state) (first lentCache cache) (first lentBoxes boxes) ≡ startOf example cache boxes
-  unfolding startOf
+      → freshStartOf (example .plan) (example .state) (first lentCache cache) (first lentBoxes boxes) ≡ startCommand example cache boxes
+  unfolding startCommand
   started caches boxed =
       ap (λ (l : List ℕ). freshStartOf (example .plan) (example .state) l (first lentBoxes boxes)) (lent-is (example .cache) lentCache cache caches)
       ∙ ap (freshStartOf (example .plan) (example .state) (lent (example .cache) cache)) (lent-is (example .boxes) lentBoxes boxes boxed)
@@ -53,15 +53,15 @@ module _ (example : Example) (cache boxes : List ℕ) (lentCache lentBoxes : ℕ
       → lentBoxes ≡ min (example .boxes) (length boxes)
       → freshWith verdict state leftCache leftBoxes
       ≡ freshStartOf (example .plan) (example .state) (first lentCache cache) (first lentBoxes boxes)
-      → after ≡ withState example state
-      → (after ≡ withState example (startOf example cache boxes .state))
-      × (back lentCache leftCache cache ≡ handedBack (example .cache) (startOf example cache boxes .cache) cache)
-      × (back lentBoxes leftBoxes boxes ≡ handedBack (example .boxes) (startOf example cache boxes .boxes) boxes)
+      → after ≡ exampleWithState example state
+      → (after ≡ exampleWithState example (startCommand example cache boxes .state))
+      × (back lentCache leftCache cache ≡ handedBack (example .cache) (startCommand example cache boxes .cache) cache)
+      × (back lentBoxes leftBoxes boxes ≡ handedBack (example .boxes) (startCommand example cache boxes .boxes) boxes)
   start-left verdict state leftCache leftBoxes after caches boxed answered is =
-      let same : freshWith verdict state leftCache leftBoxes ≡ startOf example cache boxes = answered ∙ started caches boxed in (
-        is ∙ ap (λ (f : Fresh). withState example (f .state)) same,
-        handed-is (example .cache) lentCache leftCache cache caches ∙ ap (λ (f : Fresh). handedBack (example .cache) (f .cache) cache) same,
-        handed-is (example .boxes) lentBoxes leftBoxes boxes boxed ∙ ap (λ (f : Fresh). handedBack (example .boxes) (f .boxes) boxes) same,
+      let same : freshWith verdict state leftCache leftBoxes ≡ startCommand example cache boxes = answered ∙ started caches boxed in (
+        is ∙ ap (λ (f : FreshOutcome). exampleWithState example (f .state)) same,
+        handed-is (example .cache) lentCache leftCache cache caches ∙ ap (λ (f : FreshOutcome). handedBack (example .cache) (f .cache) cache) same,
+        handed-is (example .boxes) lentBoxes leftBoxes boxes boxed ∙ ap (λ (f : FreshOutcome). handedBack (example .boxes) (f .boxes) boxes) same,
       )
 
 -- a step or a run
@@ -80,7 +80,7 @@ module _ (example : Example) (letter : ℕ) (line scripts cache boxes log : List
   unfolding advanceOf
   went stored caches boxed logged limited =
       let own : List ℕ → List ℕ → List ℕ → World = worldWith (example .state) in
-      let go : List ℕ → World → ℕ → Run = goOn letter (example .plan) in
+      let go : List ℕ → World → ℕ → RunOutcome = goOn letter (example .plan) in
       let before : World = own (first lentCache cache) (first lentBoxes boxes) (first lentLog log) in
       let handed : World = own (lent (example .cache) cache) (lent (example .boxes) boxes) (lent (example .log) log) in
       let world : before ≡ handed =
@@ -103,7 +103,7 @@ module _ (example : Example) (letter : ℕ) (line scripts cache boxes log : List
       ≡ goOn letter (example .plan) (first lentScripts scripts)
       (worldWith (example .state) (first lentCache cache) (first lentBoxes boxes) (first lentLog log))
       limit
-      → after ≡ withState example (progress .state)
+      → after ≡ exampleWithState example (progress .state)
       → afterWith after (back lentCache leftCache cache) (back lentBoxes leftBoxes boxes) (back lentLog leftLog log)
       ≡ advanceOf example letter line scripts cache boxes log
   unfolding ranOn

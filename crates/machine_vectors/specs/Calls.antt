@@ -7,16 +7,16 @@ use lib.Dec.{eqb}
 use Rattle.plan.specs.declared.Plan.{Plan}
 use Rattle.state.specs.World.{World}
 use Rattle.machine.specs.View.{worldWith}
-use Rattle.engine.specs.FreshStart.{Fresh, freshStartOf}
-use Rattle.engine.specs.Running.{Run, runCallOf, stepCallOf}
+use Rattle.engine.specs.FreshStart.{FreshOutcome, freshStartOf}
+use Rattle.engine.specs.Running.{RunOutcome, runCallOf, stepCallOf}
 use Rattle.vectors.specs.Fields.{numberIn}
 use Rattle.vectors.specs.Lending.{handedBack, lent}
-use Rattle.machine_vectors.specs.Examples.{withState}
+use Rattle.machine_vectors.specs.Examples.{exampleWithState}
 use Rattle.machine_vectors.specs.declared.example.Example.{Example}
 
 -- f: a fresh start
-unfoldable pub startOf : Example → List ℕ → List ℕ → Fresh
-startOf example cache boxes =
+unfoldable pub startCommand : Example → List ℕ → List ℕ → FreshOutcome
+startCommand example cache boxes =
     freshStartOf (example .plan) (example .state) (lent (example .cache) cache) (lent (example .boxes) boxes)
 
 -- g and s go on with a run
@@ -24,7 +24,7 @@ abbrev pub advances : ℕ → Bool
 advances letter = eqb letter 103 || eqb letter 115
 
 -- s: a single step. g: running with a limit
-unfoldable pub goOn : ℕ → Plan → List ℕ → World → ℕ → Run
+unfoldable pub goOn : ℕ → Plan → List ℕ → World → ℕ → RunOutcome
 goOn letter plan scripts world limit = cond (eqb letter 115) (stepCallOf plan scripts world) (runCallOf plan scripts world limit)
 
 -- the example and the tables that a command leaves
@@ -38,10 +38,10 @@ abbrev pub afterWith : Example → List ℕ → List ℕ → List ℕ → After
 afterWith example cache boxes log = record { example = example; cache = cache; boxes = boxes; log = log }
 
 -- what is left of an example and its tables by a call that answered a run
-unfoldable pub ranOn : Example → List ℕ → List ℕ → List ℕ → Run → After
+unfoldable pub ranOn : Example → List ℕ → List ℕ → List ℕ → RunOutcome → After
 ranOn example cache boxes log run =
     record {
-      example = withState example (run .world .state);
+      example = exampleWithState example (run .world .state);
       cache = handedBack (example .cache) (run .world .cache) cache;
       boxes = handedBack (example .boxes) (run .world .boxes) boxes;
       log = handedBack (example .log) (run .world .log) log;

@@ -13,8 +13,8 @@ use Rattle.machine_vectors.specs.declared.example.Example.{Example}
 unfoldable pub firstExample : Example
 firstExample = record { plan = noPlan; state = freshState; scripts = scriptsLength; cache = tableLength; boxes = boxesLength; log = 64 }
 
-unfoldable pub withPlan : Example → Plan → Example
-withPlan example plan =
+unfoldable pub exampleWithPlan : Example → Plan → Example
+exampleWithPlan example plan =
     record {
       plan = plan;
       state = example .state;
@@ -24,8 +24,8 @@ withPlan example plan =
       log = example .log;
     }
 
-unfoldable pub withState : Example → State → Example
-withState example state =
+unfoldable pub exampleWithState : Example → State → Example
+exampleWithState example state =
     record {
       plan = example .plan;
       state = state;

@@ -9,7 +9,7 @@ use Rattle.plan.specs.declared.Plan.{Plan}
 use Rattle.state.specs.declared.State.{State}
 use Rattle.vectors.specs.Fields.{numberIn}
 use Rattle.machine_vectors.specs.declared.example.Example.{Example}
-use Rattle.machine_vectors.specs.Examples.{withPlan}
+use Rattle.machine_vectors.specs.Examples.{exampleWithPlan}
 
 -- a number in place of the one before, where it is the one meant
 abbrev pub changed : Bool → ℕ → ℕ → ℕ
@@ -69,7 +69,7 @@ planSet field place number plan =
 unfoldable pub planCommand : ℕ → List ℕ → Example → Example
 planCommand letter line example =
     cond (eqb letter 68)
-    (withPlan example (planSet (numberIn line 1) (numberIn line 2) (numberIn line 3 % 4_294_967_296) (example .plan)))
+    (exampleWithPlan example (planSet (numberIn line 1) (numberIn line 2) (numberIn line 3 % 4_294_967_296) (example .plan)))
     example
 
 -- ---- o PLACE N, c PLACE N, b PLACE N: a number of the script store, the cache table, the boxes

@@ -4,8 +4,8 @@ use crate::example::Example;
 use crate::example::with_state;
 use engine::Ending;
 use engine::Progress;
-use engine::asking::log_of;
-use engine::asking::log_refusal;
+use engine::log_query::log_of;
+use engine::log_query::log_refusal;
 use engine::lending::step;
 use engine::running::run;
 use engine::starting::fresh_start;
@@ -24,17 +24,17 @@ ghost use mathlib.Core.Path.{_≡_};
 ghost use Rattle.machine.specs.View.{worldWith};
 ghost use Rattle.engine.specs.Answers.{runWith};
 ghost use Rattle.vectors.specs.Lending.{handedBack};
-ghost use Rattle.machine_vectors.specs.Examples.{withState};
-ghost use Rattle.machine_vectors.specs.Calls.{advanceOf, afterWith, goOn, startOf};
+ghost use Rattle.machine_vectors.specs.Examples.{exampleWithState};
+ghost use Rattle.machine_vectors.specs.Calls.{advanceOf, afterWith, goOn, startCommand};
 ghost use Rattle.machine_vectors.specs.Calls.{advances as goesOn};
 
 // f LABEL: a fresh start.
 pub fn start_command(example: Example, line: &[u8], cache: &mut [u16], boxes: &mut [u32]) -> Example
-    ensures { λ r. ⌜ (r ≡ withState example (startOf example (now (cache .entry)) (now (boxes .entry)) .state))
+    ensures { λ r. ⌜ (r ≡ exampleWithState example (startCommand example (now (cache .entry)) (now (boxes .entry)) .state))
         × (now (cache .exit)
-        ≡ handedBack (example .cache) (startOf example (now (cache .entry)) (now (boxes .entry)) .cache) (now (cache .entry)))
+        ≡ handedBack (example .cache) (startCommand example (now (cache .entry)) (now (boxes .entry)) .cache) (now (cache .entry)))
         × (now (boxes .exit)
-        ≡ handedBack (example .boxes) (startOf example (now (cache .entry)) (now (boxes .entry)) .boxes) (now (boxes .entry))) ⌝ }
+        ≡ handedBack (example .boxes) (startCommand example (now (cache .entry)) (now (boxes .entry)) .boxes) (now (boxes .entry))) ⌝ }
 {
     let first: usize = 0;
     let lent_cache = at_most(example.cache, cache.len());
@@ -141,7 +141,7 @@ pub fn advance_command(
 }
 
 // a LABEL D: ask for the log of domain D. The answer to the second question, then the records that the asking hands back.
-pub fn asking_command(example: Example, line: &[u8], log: &[u8]) {
+pub fn log_query_command(example: Example, line: &[u8], log: &[u8]) {
     let first: usize = 0;
     let lent_log = at_most(example.log, log.len());
     let plan = example.plan;

@@ -4,7 +4,7 @@ use plan::no_plan;
 use state::State;
 use state::fresh_state;
 ghost use mathlib.Core.Path.{_≡_};
-ghost use Rattle.machine_vectors.specs.Examples.{firstExample, withPlan, withState};
+ghost use Rattle.machine_vectors.specs.Examples.{firstExample, exampleWithPlan, exampleWithState};
 
 pub struct Example {
     pub plan: Plan,
@@ -33,7 +33,7 @@ pub fn first_example() -> Example
 }
 
 pub fn with_plan(example: Example, plan: Plan) -> Example
-    ensures { λ r. ⌜ r ≡ withPlan example plan ⌝ }
+    ensures { λ r. ⌜ r ≡ exampleWithPlan example plan ⌝ }
 {
     let mut next = example;
     next.plan = plan;
@@ -41,7 +41,7 @@ pub fn with_plan(example: Example, plan: Plan) -> Example
 }
 
 pub fn with_state(example: Example, state: State) -> Example
-    ensures { λ r. ⌜ r ≡ withState example state ⌝ }
+    ensures { λ r. ⌜ r ≡ exampleWithState example state ⌝ }
 {
     let mut next = example;
     next.state = state;

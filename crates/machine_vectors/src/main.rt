@@ -7,7 +7,7 @@ mod showing;
 
 use calls::advance_command;
 use calls::advances;
-use calls::asking_command;
+use calls::log_query_command;
 use calls::start_command;
 use example::Example;
 use example::first_example;
@@ -30,7 +30,7 @@ ghost use Prim.Native.Nat.{_≤_};
 // Prints what a line asks for, and changes nothing.
 fn show(example: Example, letter: u8, line: &[u8], cache: &[u16], boxes: &[u32], log: &[u8]) {
     if letter == b'a' {
-        asking_command(example, line, log);
+        log_query_command(example, line, log);
     }
     if shows_table(letter) {
         table_show_command(letter, line, cache, boxes, log);

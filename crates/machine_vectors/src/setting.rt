@@ -20,7 +20,7 @@ use vectors::tables::set_word;
 ghost use mathlib.Core.Path.{_≡_};
 ghost use lib.ListN.{length, replicate};
 ghost use Rattle.vectors.specs.Fields.{numberIn};
-ghost use Rattle.machine_vectors.specs.Examples.{withState};
+ghost use Rattle.machine_vectors.specs.Examples.{exampleWithState};
 ghost use Rattle.machine_vectors.specs.Setting.{lengthSet, logSet, planCommand, planSet, setsLength, setsTable, stateSet, tableSet};
 
 // A log that nobody has written yet: every byte 238.
@@ -80,7 +80,7 @@ fn changed_state(state: State, letter: u8, first: u64, second: u64) -> State
 
 // W N, C N: the state's windows and clock. P D N, R D N: the script position and the record count of domain D.
 pub fn state_command(example: Example, letter: u8, line: &[u8]) -> Example
-    ensures { λ r. ⌜ r ≡ withState example (stateSet letter (numberIn (now (line .entry)) 1) (numberIn (now (line .entry)) 2) (example .state)) ⌝ }
+    ensures { λ r. ⌜ r ≡ exampleWithState example (stateSet letter (numberIn (now (line .entry)) 1) (numberIn (now (line .entry)) 2) (example .state)) ⌝ }
 {
     let state = example.state;
     with_state(

@@ -9,14 +9,14 @@ use lib.ListN.{getD, set}
 use borrow.Author.Tests.{ltb-false}
 use Rattle.plan.specs.declared.Plan.{Plan}
 use Rattle.plan.specs.Rights.{maySend}
-use Rattle.script.specs.Limits.{Within}
+use Rattle.script.specs.Limits.{OpWithinLimits}
 use Rattle.script.specs.declared.Op.the-variants.{Receive, Send}
-use Rattle.cache.specs.declared.Found.{Found}
+use Rattle.cache.specs.declared.AccessKind.{AccessKind}
 use Rattle.cache.specs.Access.{accessOf}
 use Rattle.cache.proofs.Ticks.{access-ticks}
-use Rattle.records.specs.declared.Seen.{Seen}
-use Rattle.records.specs.declared.Seen.the-variants.{Barred, Denied, Sent}
-use Rattle.ops.specs.Ops.{boxLine, boxPlace, boxSeen, deniedOf, fullBox, gateLine, ownsLine, passedOf, receiveOf, seenOf, sendOf, touchOf}
+use Rattle.records.specs.declared.Observation.{Observation}
+use Rattle.records.specs.declared.Observation.the-variants.{Barred, Denied, Sent}
+use Rattle.ops.specs.Ops.{boxLine, boxIndex, boxObservation, deniedOf, fullBox, kernelEntryLine, ownsLine, passedOf, receiveOf, accessObservation, sendOf, touchOf}
 use Rattle.ops.specs.View.{effectWith}
 
 -- a domain's own line is a line
@@ -36,11 +36,11 @@ module _ (plan : Plan) (domain : ℕ) (writes : Bool) (line : ℕ) (cache boxes 
   touch-barred lacks = rw lacks refl
 
   pub touch-access :
-      (ticks : ℕ) (found : Found) (seen : Seen) (table : List ℕ)
+      (ticks : ℕ) (found : AccessKind) (seen : Observation) (table : List ℕ)
       → ownsLine plan domain line ≡ true
       → ticks ≡ accessOf writes line cache .ticks
       → found ≡ accessOf writes line cache .found
-      → seen ≡ seenOf found line
+      → seen ≡ accessObservation found line
       → table ≡ accessOf writes line cache .table
       → effectWith (record { ticks = ticks; seen = seen }) table boxes ≡ touchOf plan domain writes line cache boxes
   unfolding touchOf
@@ -51,8 +51,8 @@ module _ (plan : Plan) (sender recipient word : ℕ) (cache boxes : List ℕ) wh
   pub send-denied :
       (gate : ℕ) (table : List ℕ)
       → maySend plan sender recipient ≡ false
-      → gate ≡ accessOf false gateLine cache .ticks
-      → table ≡ accessOf false gateLine cache .table
+      → gate ≡ accessOf false kernelEntryLine cache .ticks
+      → table ≡ accessOf false kernelEntryLine cache .table
       → effectWith (record { ticks = 5 + gate; seen = Denied recipient }) table boxes ≡ sendOf plan sender recipient word cache boxes
   unfolding sendOf deniedOf
   send-denied gate table lacks g t = rw (lacks, g, t) refl
@@ -60,11 +60,11 @@ module _ (plan : Plan) (sender recipient word : ℕ) (cache boxes : List ℕ) wh
   pub send-passed :
       (gate ticks : ℕ) (table last : List ℕ)
       → maySend plan sender recipient ≡ true
-      → gate ≡ accessOf false gateLine cache .ticks
-      → table ≡ accessOf false gateLine cache .table
+      → gate ≡ accessOf false kernelEntryLine cache .ticks
+      → table ≡ accessOf false kernelEntryLine cache .table
       → ticks ≡ accessOf true (boxLine sender recipient) table .ticks
       → last ≡ accessOf true (boxLine sender recipient) table .table
-      → effectWith (record { ticks = 5 + gate + ticks; seen = Sent recipient }) last (set boxes (boxPlace sender recipient) (fullBox word))
+      → effectWith (record { ticks = 5 + gate + ticks; seen = Sent recipient }) last (set boxes (boxIndex sender recipient) (fullBox word))
       ≡ sendOf plan sender recipient word cache boxes
   unfolding sendOf passedOf
   send-passed gate ticks table last may g t k l = rw (may, k, l, g, t) refl
@@ -74,21 +74,21 @@ module _ (plan : Plan) (receiver sender : ℕ) (cache boxes : List ℕ) where
   pub receive-denied :
       (gate : ℕ) (table : List ℕ)
       → maySend plan sender receiver ≡ false
-      → gate ≡ accessOf false gateLine cache .ticks
-      → table ≡ accessOf false gateLine cache .table
+      → gate ≡ accessOf false kernelEntryLine cache .ticks
+      → table ≡ accessOf false kernelEntryLine cache .table
       → effectWith (record { ticks = 5 + gate; seen = Denied sender }) table boxes ≡ receiveOf plan receiver sender cache boxes
   unfolding receiveOf deniedOf
   receive-denied gate table lacks g t = rw (lacks, g, t) refl
 
   pub receive-passed :
-      (gate ticks : ℕ) (seen : Seen) (table last : List ℕ)
+      (gate ticks : ℕ) (seen : Observation) (table last : List ℕ)
       → maySend plan sender receiver ≡ true
-      → gate ≡ accessOf false gateLine cache .ticks
-      → table ≡ accessOf false gateLine cache .table
+      → gate ≡ accessOf false kernelEntryLine cache .ticks
+      → table ≡ accessOf false kernelEntryLine cache .table
       → ticks ≡ accessOf true (boxLine sender receiver) table .ticks
       → last ≡ accessOf true (boxLine sender receiver) table .table
-      → seen ≡ boxSeen sender (getD boxes (boxPlace sender receiver) 0)
-      → effectWith (record { ticks = 5 + gate + ticks; seen = seen }) last (set boxes (boxPlace sender receiver) 0)
+      → seen ≡ boxObservation sender (getD boxes (boxIndex sender receiver) 0)
+      → effectWith (record { ticks = 5 + gate + ticks; seen = seen }) last (set boxes (boxIndex sender receiver) 0)
       ≡ receiveOf plan receiver sender cache boxes
   unfolding receiveOf passedOf
   receive-passed gate ticks seen table last may g t k l s = rw (may, s, k, l, g, t) refl
@@ -98,10 +98,10 @@ pub answered-ticks : (writes : Bool) (line answer : ℕ) (table : List ℕ) → 
 answered-ticks writes line answer table so = rw so (access-ticks writes line table)
 
 -- the other domain of a send or a receive has a number below 8
-pub send-below : (recipient word : ℕ) → Within (Send recipient word) → recipient < 8
-unfolding Within
+pub send-below : (recipient word : ℕ) → OpWithinLimits (Send recipient word) → recipient < 8
+unfolding OpWithinLimits
 send-below recipient word within = omega arith
 
-pub receive-below : (sender : ℕ) → Within (Receive sender) → sender < 8
-unfolding Within
+pub receive-below : (sender : ℕ) → OpWithinLimits (Receive sender) → sender < 8
+unfolding OpWithinLimits
 receive-below sender within = omega arith

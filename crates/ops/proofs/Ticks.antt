@@ -8,20 +8,20 @@ use lib.ListN.{replicate}
 use Rattle.lists.specs.Part.{part, splice}
 use Rattle.plan.specs.declared.Plan.{Plan}
 use Rattle.plan.specs.Colours.{coloursOf, firstColour, hasBit, maskFrom, maskOf, sharesTotal}
-use Rattle.plan.specs.Possible.{countsPossible, declaredPossible, domainPossible, maskPossible, planPossible, undeclaredPossible, windowPossible}
+use Rattle.plan.specs.Validity.{countsValid, declaredValid, domainValid, maskValid, planValid, undeclaredValid, windowValid}
 use Rattle.plan.specs.Rights.{maySend}
 use Rattle.plan.specs.Sums.{allBelow, sumTo}
 use Rattle.plan.specs.Windows.{ticksTotal}
 use Rattle.script.specs.declared.Op.{Op}
 use Rattle.script.specs.declared.Op.the-variants.{Read, Write, Send, Receive, Compute}
-use Rattle.script.specs.Limits.{Within}
-use Rattle.cache.specs.Access.{accessOf, lookAt, lookHit1, lookL2, lookOf}
+use Rattle.script.specs.Limits.{OpWithinLimits}
+use Rattle.cache.specs.Access.{accessOf, lookupAt, lookupL1, lookupL2, lookupOf}
 use Rattle.cache.specs.Lines.{tableLength}
 use Rattle.cache.specs.Sets.{behind, has, used}
 use Rattle.cache.proofs.Ticks.{access-ticks}
-use Rattle.records.specs.declared.Seen.{Seen}
-use Rattle.records.specs.declared.Seen.the-variants.{Ran}
-use Rattle.ops.specs.Ops.{Effect, boxesLength, computeOf, deniedOf, effectOf, gateLine, ownsLine, passedOf, receiveOf, sendOf, touchOf}
+use Rattle.records.specs.declared.Observation.{Observation}
+use Rattle.records.specs.declared.Observation.the-variants.{Ran}
+use Rattle.ops.specs.Ops.{Effect, boxesLength, computeOf, deniedOf, effectOf, kernelEntryLine, ownsLine, passedOf, receiveOf, sendOf, touchOf}
 
 -- a choice between two effects keeps a bound of both
 choice-ticks : (test : Bool) (one other : Effect) → one .ticks ≤ 213 → other .ticks ≤ 213 → cond test one other .ticks ≤ 213
@@ -36,18 +36,18 @@ touch-ticks plan domain writes line cache boxes =
 
 -- the gate's access first, and for one that is allowed the box's access besides
 module _ (cache : List ℕ) where
-  passed-ticks : (seen : Seen) (line : ℕ) (boxes : List ℕ) → passedOf seen line (accessOf false gateLine cache) boxes .ticks ≤ 213
+  passed-ticks : (seen : Observation) (line : ℕ) (boxes : List ℕ) → passedOf seen line (accessOf false kernelEntryLine cache) boxes .ticks ≤ 213
   unfolding passedOf
   passed-ticks seen line boxes =
-      omega (arith, access-ticks false gateLine cache, access-ticks true line (accessOf false gateLine cache .table))
+      omega (arith, access-ticks false kernelEntryLine cache, access-ticks true line (accessOf false kernelEntryLine cache .table))
 
-  denied-ticks : (other : ℕ) (boxes : List ℕ) → deniedOf other (accessOf false gateLine cache) boxes .ticks ≤ 213
+  denied-ticks : (other : ℕ) (boxes : List ℕ) → deniedOf other (accessOf false kernelEntryLine cache) boxes .ticks ≤ 213
   unfolding deniedOf
-  denied-ticks other boxes = omega (arith, access-ticks false gateLine cache)
+  denied-ticks other boxes = omega (arith, access-ticks false kernelEntryLine cache)
 
 -- no op takes more than 213 ticks
-pub effect-ticks : (plan : Plan) (domain : ℕ) (op : Op) (cache boxes : List ℕ) → Within op → effectOf plan domain op cache boxes .ticks ≤ 213
-unfolding effectOf sendOf receiveOf computeOf Within
+pub effect-ticks : (plan : Plan) (domain : ℕ) (op : Op) (cache boxes : List ℕ) → OpWithinLimits op → effectOf plan domain op cache boxes .ticks ≤ 213
+unfolding effectOf sendOf receiveOf computeOf OpWithinLimits
 effect-ticks plan domain (Read line) cache boxes within = touch-ticks plan domain false line cache boxes
 effect-ticks plan domain (Write line) cache boxes within = touch-ticks plan domain true line cache boxes
 effect-ticks plan domain (Send recipient word) cache boxes within =
@@ -73,11 +73,11 @@ dearestPlan =
       masks = 63 ∷ 960 ∷ replicate 6 0;
     }
 
-pub dearest-possible : planPossible dearestPlan ≡ true
-unfolding planPossible countsPossible domainPossible declaredPossible undeclaredPossible maskPossible windowPossible allBelow sharesTotal sumTo ticksTotal coloursOf maskOf maskFrom firstColour hasBit
-dearest-possible = refl
+pub dearest-valid : planValid dearestPlan ≡ true
+unfolding planValid countsValid domainValid declaredValid undeclaredValid maskValid windowValid allBelow sharesTotal sumTo ticksTotal coloursOf maskOf maskFrom firstColour hasBit
+dearest-valid = refl
 
--- domain 0 writes the lines 12 and 13, whose L1 indexes are those of line 60 and of the box's line, and then sends
+-- domain 0 writes the lines 12 and 13, whose L1 l1Length are those of line 60 and of the box's line, and then sends
 abbrev pub dearestAfter : List Op → Effect → Effect
 dearestAfter [] effect = effect
 dearestAfter (op ∷ ops) effect = dearestAfter ops (effectOf dearestPlan 0 op (effect .cache) (effect .boxes))
@@ -89,5 +89,5 @@ dearestSend =
 
 -- both of the send's accesses miss and replace a dirty line
 pub dearest-ticks : dearestSend .ticks ≡ 213
-unfolding effectOf touchOf ownsLine sendOf passedOf accessOf lookAt lookOf lookHit1 lookL2 has used behind part splice hasBit
+unfolding effectOf touchOf ownsLine sendOf passedOf accessOf lookupAt lookupOf lookupL1 lookupL2 has used behind part splice hasBit
 dearest-ticks = refl

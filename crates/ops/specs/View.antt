@@ -2,7 +2,7 @@
 use Prim.Native.Nat.{ℕ}
 use mathlib.Core.List.{List, []}
 use Rattle.plan.specs.declared.Plan.{Plan}
-use Rattle.ops.specs.declared.Done.{Done}
+use Rattle.ops.specs.declared.OpResult.{OpResult}
 use Rattle.ops.specs.Ops.{Effect}
 
 -- all that an op looks at of a plan: the lists of recipients and the colour masks. The rest is left blank: no op's definition reads it.
@@ -21,5 +21,5 @@ viewOf rights masks =
     }
 
 -- an answer with the cache table and the boxes at exit
-abbrev pub effectWith : Done → List ℕ → List ℕ → Effect
+abbrev pub effectWith : OpResult → List ℕ → List ℕ → Effect
 effectWith done cache boxes = record { ticks = done .ticks; seen = done .seen; cache = cache; boxes = boxes }

@@ -1,21 +1,21 @@
 // The five ops: what each costs, shows and changes.
-use cache::Found;
+use cache::AccessKind;
 use cache::access;
 use plan::sharing::has_bit;
-use records::Seen;
+use records::Observation;
 use script::Op;
 ghost use mathlib.Core.Path.{_≡_};
 ghost use mathlib.Core.List.{List};
 ghost use Prim.Native.Nat.{ℕ, _+_, _<_};
 ghost use lib.ListN.{length};
-ghost use Rattle.script.specs.Limits.{Within};
-ghost use Rattle.ops.specs.Ops.{boxSeen, effectOf, ownsLine, receiveOf, seenOf, sendOf, touchOf};
+ghost use Rattle.script.specs.Limits.{OpWithinLimits};
+ghost use Rattle.ops.specs.Ops.{boxObservation, effectOf, ownsLine, receiveOf, accessObservation, sendOf, touchOf};
 ghost use Rattle.ops.specs.View.{effectWith, viewOf};
 
 // What an op answers, beside the cache table and the boxes.
-pub struct Done {
+pub struct OpResult {
     pub ticks: u64,
-    pub seen: Seen,
+    pub seen: Observation,
 }
 
 fn wide(number: u16) -> u32
@@ -37,32 +37,32 @@ fn owns_line(masks: &[u16; 8], domain: usize, line: u16) -> bool
 }
 
 // What an access shows.
-fn seen_of(found: Found, line: u16) -> Seen
-    ensures { λ r. ⌜ r ≡ seenOf found line ⌝ }
+fn access_observation(found: AccessKind, line: u16) -> Observation
+    ensures { λ r. ⌜ r ≡ accessObservation found line ⌝ }
 {
     match found {
-        Found::Hit1 => Seen::Hit1(line),
-        Found::Hit2 => Seen::Hit2(line),
-        Found::Miss => Seen::Miss(line),
+        AccessKind::Hit1 => Observation::Hit1(line),
+        AccessKind::Hit2 => Observation::Hit2(line),
+        AccessKind::Miss => Observation::Miss(line),
     }
 }
 
 // A read or a write of a line.
-fn touch(masks: &[u16; 8], domain: usize, writes: bool, line: u16, cache: &mut [u16]) -> Done
+fn touch(masks: &[u16; 8], domain: usize, writes: bool, line: u16, cache: &mut [u16]) -> OpResult
     requires { ⌜ (domain < 8) × (length (now cache) ≡ 272) ⌝ }
     ensures { λ r. ⌜ ((rights boxes : List ℕ) → effectWith r (now (cache .exit)) boxes ≡ touchOf (viewOf rights (now (masks .entry))) domain writes line (now (cache .entry)) boxes) ⌝ }
 {
     if !owns_line(masks, domain, line) {
-        return Done {
+        return OpResult {
             ticks: 5,
-            seen: Seen::Barred(line),
+            seen: Observation::Barred(line),
         };
     }
     let touched = access(cache, line, writes);
     let found = touched.found;
-    Done {
+    OpResult {
         ticks: touched.ticks,
-        seen: seen_of(found, line),
+        seen: access_observation(found, line),
     }
 }
 
@@ -74,35 +74,35 @@ fn send(
     word: u16,
     cache: &mut [u16],
     boxes: &mut [u32],
-) -> Done
+) -> OpResult
     requires { ⌜ (sender < 8) × (recipient < 8) × (length (now cache) ≡ 272) × (length (now boxes) ≡ 64) ⌝ }
     ensures { λ r. ⌜ ((masks : List ℕ) → effectWith r (now (cache .exit)) (now (boxes .exit)) ≡ sendOf (viewOf (now (rights .entry)) masks) sender recipient word (now (cache .entry)) (now (boxes .entry))) ⌝ }
 {
     let gate = access(cache, 60, false);
     if !has_bit(rights[sender], recipient as u32) {
-        return Done {
+        return OpResult {
             ticks: 5 + gate.ticks,
-            seen: Seen::Denied(recipient),
+            seen: Observation::Denied(recipient),
         };
     }
     let place = 8 * sender + recipient as usize;
     let line = 61 + 64 * (place as u16);
     let touched = access(cache, line, true);
     boxes[place] = word as u32 + 1;
-    Done {
+    OpResult {
         ticks: 5 + gate.ticks + touched.ticks,
-        seen: Seen::Sent(recipient),
+        seen: Observation::Sent(recipient),
     }
 }
 
 // What a receive finds in a box.
-fn box_seen(sender: u8, number: u32) -> Seen
-    ensures { λ r. ⌜ r ≡ boxSeen sender number ⌝ }
+fn box_observation(sender: u8, number: u32) -> Observation
+    ensures { λ r. ⌜ r ≡ boxObservation sender number ⌝ }
 {
     if number == 0 {
-        Seen::Empty(sender)
+        Observation::Empty(sender)
     } else {
-        Seen::Got(number - 1)
+        Observation::Got(number - 1)
     }
 }
 
@@ -113,16 +113,16 @@ fn receive(
     sender: u8,
     cache: &mut [u16],
     boxes: &mut [u32],
-) -> Done
+) -> OpResult
     requires { ⌜ (receiver < 8) × (sender < 8) × (length (now cache) ≡ 272) × (length (now boxes) ≡ 64) ⌝ }
     ensures { λ r. ⌜ ((masks : List ℕ) → effectWith r (now (cache .exit)) (now (boxes .exit)) ≡ receiveOf (viewOf (now (rights .entry)) masks) receiver sender (now (cache .entry)) (now (boxes .entry))) ⌝ }
 {
     let gate = access(cache, 60, false);
     let from = sender as usize;
     if !has_bit(rights[from], receiver as u32) {
-        return Done {
+        return OpResult {
             ticks: 5 + gate.ticks,
-            seen: Seen::Denied(sender),
+            seen: Observation::Denied(sender),
         };
     }
     let place = 8 * from + receiver;
@@ -130,9 +130,9 @@ fn receive(
     let touched = access(cache, line, true);
     let number = boxes[place];
     boxes[place] = 0;
-    Done {
+    OpResult {
         ticks: 5 + gate.ticks + touched.ticks,
-        seen: box_seen(sender, number),
+        seen: box_observation(sender, number),
     }
 }
 
@@ -144,8 +144,8 @@ pub fn operate(
     op: Op,
     cache: &mut [u16],
     boxes: &mut [u32],
-) -> Done
-    requires { ⌜ (domain < 8) × Within op × (length (now cache) ≡ 272) × (length (now boxes) ≡ 64) ⌝ }
+) -> OpResult
+    requires { ⌜ (domain < 8) × OpWithinLimits op × (length (now cache) ≡ 272) × (length (now boxes) ≡ 64) ⌝ }
     ensures { λ r. ⌜ effectWith r (now (cache .exit)) (now (boxes .exit)) ≡ effectOf (viewOf (now (rights .entry)) (now (masks .entry))) domain op (now (cache .entry)) (now (boxes .entry)) ⌝ }
 {
     match op {
@@ -153,9 +153,9 @@ pub fn operate(
         Op::Write(line) => touch(masks, domain, true, line, cache),
         Op::Send(recipient, word) => send(rights, domain, recipient, word, cache, boxes),
         Op::Receive(sender) => receive(rights, domain, sender, cache, boxes),
-        Op::Compute(ticks) => Done {
+        Op::Compute(ticks) => OpResult {
             ticks: ticks as u64,
-            seen: Seen::Ran(ticks),
+            seen: Observation::Ran(ticks),
         },
     }
 }

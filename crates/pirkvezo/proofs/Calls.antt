@@ -13,26 +13,26 @@ use Rattle.machine.specs.View.{worldWith}
 use Rattle.refusal.specs.declared.Verdict.{Verdict}
 use Rattle.reader.specs.Read.{readOf}
 use Rattle.engine.specs.declared.Ending.{Ending}
-use Rattle.engine.specs.Answers.{answered, freshWith as engineFresh}
-use Rattle.engine.specs.FreshStart.{Fresh, freshStartOf}
-use Rattle.engine.specs.Running.{Run, endingNumber, runCallOf}
-use Rattle.pirkvezo.specs.declared.Asked.{Asked}
-use Rattle.pirkvezo.specs.Answers.{allFit, answerOf, numberOf, planFits, wrongLength}
-use Rattle.pirkvezo.specs.Asking.{askedOf, hostLog, logDone, logWith}
+use Rattle.engine.specs.Answers.{answered, hostFreshWith as engineFresh}
+use Rattle.engine.specs.FreshStart.{FreshOutcome, freshStartOf}
+use Rattle.engine.specs.Running.{RunOutcome, endingNumber, runCallOf}
+use Rattle.pirkvezo.specs.declared.LogAnswer.{LogAnswer}
+use Rattle.pirkvezo.specs.Answers.{allFit, answerOf, verdictNumber, planFits, wrongLength}
+use Rattle.pirkvezo.specs.LogQuery.{logAnswerOf, hostLog, logDone, hostLogWith}
 use Rattle.pirkvezo.specs.Numbers.{handedPlan, planNumbers, planOf, stateNumbers, stateOf}
 use Rattle.pirkvezo.specs.Reading.{hostRead, readDone, readWith}
-use Rattle.pirkvezo.specs.Running.{hostRun, runDone, runWith}
-use Rattle.pirkvezo.specs.Starting.{freshDone, freshWith, hostFreshStart}
+use Rattle.pirkvezo.specs.Running.{hostRun, runDone, hostRunWith}
+use Rattle.pirkvezo.specs.Starting.{freshDone, hostFreshWith, hostFreshStart}
 use Rattle.pirkvezo.proofs.Judged.{asked-alike, fresh-alike, handed, run-alike}
 
 -- the number that is returned, and the answer that is written
 pub record Told (verdict : Verdict) (third fourth : ℕ) (answer : List ℕ) (number : ℕ) (written : List ℕ) : Type 0 where
-  pub number-is : number ≡ numberOf verdict
+  pub number-is : number ≡ verdictNumber verdict
   pub answer-is : written ≡ answerOf verdict third fourth answer
 
 pub told :
     {verdict : Verdict} {third fourth : ℕ} {answer : List ℕ} {number : ℕ} {written : List ℕ}
-    → (number ≡ numberOf verdict) × (written ≡ answerOf verdict third fourth answer)
+    → (number ≡ verdictNumber verdict) × (written ≡ answerOf verdict third fourth answer)
     → Told verdict third fourth answer number written
 told both = record { number-is = both .0; answer-is = both .1 }
 
@@ -81,7 +81,7 @@ module _ (plan state cache boxes answer : List ℕ) (number : ℕ) (written : Li
   pub fresh-unfit :
       allFit plan state answer ≡ false
       → Told wrongLength 0 0 answer number written
-      → freshWith number state cache boxes written ≡ hostFreshStart plan state cache boxes answer
+      → hostFreshWith number state cache boxes written ≡ hostFreshStart plan state cache boxes answer
   unfolding hostFreshStart
   fresh-unfit unfit tells = rw (unfit, hostFreshStart, tells .number-is, tells .answer-is) refl
 
@@ -93,7 +93,7 @@ module _ (plan state cache boxes answer : List ℕ) (number : ℕ) (written : Li
       → engineFresh verdict left emptied cleared ≡ freshStartOf lent before cache boxes
       → stored ≡ stateNumbers left
       → Told verdict 0 0 answer number written
-      → freshWith number stored emptied cleared written ≡ hostFreshStart plan state cache boxes answer
+      → hostFreshWith number stored emptied cleared written ≡ hostFreshStart plan state cache boxes answer
   unfolding hostFreshStart freshDone
   fresh-fit lent before left verdict stored emptied cleared fit planned stated did stores tells =
       let done : engineFresh verdict left emptied cleared ≡ freshStartOf (planOf plan) (stateOf state) cache boxes =
@@ -101,7 +101,7 @@ module _ (plan state cache boxes answer : List ℕ) (number : ℕ) (written : Li
       ∙ ap (λ (p : Plan). freshStartOf p before cache boxes) planned
       ∙ ap (λ (s : State). freshStartOf (handedPlan plan) s cache boxes) stated
       ∙ handed (λ p. freshStartOf p (stateOf state) cache boxes) (fresh-alike (stateOf state) cache boxes) plan in
-      rw (fit, hostFreshStart, tells .number-is, tells .answer-is, stores) (ap (λ (fresh : Fresh). freshDone fresh answer) done)
+      rw (fit, hostFreshStart, tells .number-is, tells .answer-is, stores) (ap (λ (fresh : FreshOutcome). freshDone fresh answer) done)
 
 -- ---- a run
 
@@ -109,7 +109,7 @@ module _ (plan scripts state cache boxes log : List ℕ) (limit : ℕ) (answer :
   pub run-unfit :
       allFit plan state answer ≡ false
       → Told wrongLength 0 0 answer number written
-      → runWith number state cache boxes log written ≡ hostRun plan scripts state cache boxes log limit answer
+      → hostRunWith number state cache boxes log written ≡ hostRun plan scripts state cache boxes log limit answer
   unfolding hostRun
   run-unfit unfit tells = rw (unfit, hostRun, tells .number-is, tells .answer-is) refl
 
@@ -122,7 +122,7 @@ module _ (plan scripts state cache boxes log : List ℕ) (limit : ℕ) (answer :
       → ended ≡ endingNumber ending
       → stored ≡ stateNumbers left
       → Told verdict steps ended answer number written
-      → runWith number stored cache′ boxes′ log′ written ≡ hostRun plan scripts state cache boxes log limit answer
+      → hostRunWith number stored cache′ boxes′ log′ written ≡ hostRun plan scripts state cache boxes log limit answer
   unfolding hostRun runDone
   run-fit lent before left verdict steps ended ending stored cache′ boxes′ log′ fit planned stated did ends stores tells =
       let done : answered verdict steps ending (worldWith left cache′ boxes′ log′)
@@ -132,28 +132,28 @@ module _ (plan scripts state cache boxes log : List ℕ) (limit : ℕ) (answer :
       ∙ ap (λ (s : State). runCallOf (handedPlan plan) scripts (worldWith s cache boxes log) limit) stated
       ∙ handed (λ p. runCallOf p scripts (worldWith (stateOf state) cache boxes log) limit)
       (run-alike scripts (worldWith (stateOf state) cache boxes log) limit) plan in
-      rw (fit, hostRun, tells .number-is, tells .answer-is, stores, ends) (ap (λ (run : Run). runDone run answer) done)
+      rw (fit, hostRun, tells .number-is, tells .answer-is, stores, ends) (ap (λ (run : RunOutcome). runDone run answer) done)
 
 -- ---- an asking
 
 module _ (plan state log : List ℕ) (domain : ℕ) (answer : List ℕ) (number : ℕ) (written : List ℕ) where
-  pub log-unfit : allFit plan state answer ≡ false → Told wrongLength 0 0 answer number written → logWith number written ≡ hostLog plan state log domain answer
+  pub log-unfit : allFit plan state answer ≡ false → Told wrongLength 0 0 answer number written → hostLogWith number written ≡ hostLog plan state log domain answer
   unfolding hostLog
   log-unfit unfit tells = rw (unfit, hostLog, tells .number-is, tells .answer-is) refl
 
   pub log-fit :
-      (lent : Plan) (held : State) (asked : Asked)
+      (lent : Plan) (held : State) (asked : LogAnswer)
       → allFit plan state answer ≡ true
       → lent ≡ handedPlan plan
       → held ≡ stateOf state
-      → asked ≡ askedOf lent held log domain
+      → asked ≡ logAnswerOf lent held log domain
       → Told (asked .verdict) (asked .place) (asked .length) answer number written
-      → logWith number written ≡ hostLog plan state log domain answer
+      → hostLogWith number written ≡ hostLog plan state log domain answer
   unfolding hostLog logDone
   log-fit lent held asked fit planned stated asks tells =
-      let done : asked ≡ askedOf (planOf plan) (stateOf state) log domain =
+      let done : asked ≡ logAnswerOf (planOf plan) (stateOf state) log domain =
       asks
-      ∙ ap (λ (p : Plan). askedOf p held log domain) planned
-      ∙ ap (λ (s : State). askedOf (handedPlan plan) s log domain) stated
-      ∙ handed (λ p. askedOf p (stateOf state) log domain) (asked-alike (stateOf state) log domain) plan in
-      rw (fit, hostLog, tells .number-is, tells .answer-is) (ap (λ (answered : Asked). logDone answered answer) done)
+      ∙ ap (λ (p : Plan). logAnswerOf p held log domain) planned
+      ∙ ap (λ (s : State). logAnswerOf (handedPlan plan) s log domain) stated
+      ∙ handed (λ p. logAnswerOf p (stateOf state) log domain) (asked-alike (stateOf state) log domain) plan in
+      rw (fit, hostLog, tells .number-is, tells .answer-is) (ap (λ (answered : LogAnswer). logDone answered answer) done)

@@ -6,7 +6,7 @@ use mathlib.Core.List.{List}
 use Prim.Native.Nat.{ℕ}
 use borrow.Author.Tests.{le-leb}
 use Rattle.plan.specs.declared.Plan.{Plan}
-use Rattle.plan.specs.Possible.{countsPossible, planPossible}
+use Rattle.plan.specs.Validity.{countsValid, planValid}
 use Rattle.plan.proofs.Masks.{mask-most}
 use Rattle.plan.proofs.Sums.{below-all}
 use Rattle.state.specs.declared.State.{State}
@@ -16,35 +16,35 @@ use Rattle.engine.specs.FreshStart.{freshStartOf}
 use Rattle.engine.specs.Checks.{freshVerdict}
 use Rattle.engine.specs.Running.{runCallOf}
 use Rattle.engine.proofs.Verdicts.{allFit, log-impossible, run-impossible, run-refused, run-wrong-length}
-use Rattle.pirkvezo.specs.Asking.{askedOf}
+use Rattle.pirkvezo.specs.LogQuery.{logAnswerOf}
 use Rattle.pirkvezo.specs.Numbers.{handedPlan, masksFit, planOf}
-use Rattle.pirkvezo.proofs.Askings.{asked-refused}
+use Rattle.pirkvezo.proofs.LogQueries.{asked-refused}
 use Rattle.pirkvezo.proofs.Runs.{run-at}
 
 -- ---- masks that do not fit
 
 -- a possible plan's masks fit
-fit-of-possible : (numbers : List ℕ) → planPossible (planOf numbers) ≡ true → masksFit numbers ≡ true
+fit-of-valid : (numbers : List ℕ) → planValid (planOf numbers) ≡ true → masksFit numbers ≡ true
 unfolding masksFit planOf
-fit-of-possible numbers possible =
+fit-of-valid numbers possible =
     below-all _ 8 λ domain below. le-leb _ _ (rw (run-at numbers 84 8 domain below) at (mask-most (planOf numbers) domain possible below))
 
-unfit-impossible : (numbers : List ℕ) → masksFit numbers ≡ false → planPossible (planOf numbers) ≡ false
-unfit-impossible numbers unfit = go (planPossible (planOf numbers)) refl
+unfit-impossible : (numbers : List ℕ) → masksFit numbers ≡ false → planValid (planOf numbers) ≡ false
+unfit-impossible numbers unfit = go (planValid (planOf numbers)) refl
   where
-    go : (b : Bool) → planPossible (planOf numbers) ≡ b → planPossible (planOf numbers) ≡ false
-    go true e = absurd (false≢true (sym unfit ∙ fit-of-possible numbers e))
+    go : (b : Bool) → planValid (planOf numbers) ≡ b → planValid (planOf numbers) ≡ false
+    go true e = absurd (false≢true (sym unfit ∙ fit-of-valid numbers e))
     go false e = e
 
 -- the plan of all zeros is impossible
-pub no-plan-impossible : planPossible noPlan ≡ false
-unfolding planPossible countsPossible noPlan
+pub no-plan-impossible : planValid noPlan ≡ false
+unfolding planValid countsValid noPlan
 no-plan-impossible = refl
 
 -- what depends on an impossible plan only through its being impossible is the same of the plan that is handed on
 pub handed {ℓ} :
     {A : Type ℓ} (call : Plan → A)
-    → ((one other : Plan) → planPossible one ≡ false → planPossible other ≡ false → call one ≡ call other)
+    → ((one other : Plan) → planValid one ≡ false → planValid other ≡ false → call one ≡ call other)
     → (numbers : List ℕ)
     → call (handedPlan numbers) ≡ call (planOf numbers)
 unfolding handedPlan
@@ -58,16 +58,16 @@ handed call alike numbers = go (masksFit numbers) refl
 
 pub fresh-alike :
     (state : State) (cache boxes : List ℕ) (one other : Plan)
-    → planPossible one ≡ false
-    → planPossible other ≡ false
+    → planValid one ≡ false
+    → planValid other ≡ false
     → freshStartOf one state cache boxes ≡ freshStartOf other state cache boxes
 unfolding freshStartOf freshVerdict
 fresh-alike state cache boxes one other impossible impossible′ = rw (impossible, impossible′) refl
 
 pub run-alike :
     (scripts : List ℕ) (world : World) (limit : ℕ) (one other : Plan)
-    → planPossible one ≡ false
-    → planPossible other ≡ false
+    → planValid one ≡ false
+    → planValid other ≡ false
     → runCallOf one scripts world limit ≡ runCallOf other scripts world limit
 run-alike scripts world limit one other impossible impossible′ = go (allFit one scripts world) refl
   where
@@ -81,9 +81,9 @@ run-alike scripts world limit one other impossible impossible′ = go (allFit on
 
 pub asked-alike :
     (state : State) (log : List ℕ) (domain : ℕ) (one other : Plan)
-    → planPossible one ≡ false
-    → planPossible other ≡ false
-    → askedOf one state log domain ≡ askedOf other state log domain
+    → planValid one ≡ false
+    → planValid other ≡ false
+    → logAnswerOf one state log domain ≡ logAnswerOf other state log domain
 asked-alike state log domain one other impossible impossible′ =
     sym (asked-refused one state log domain _ (log-impossible one state log domain impossible))
     ∙ asked-refused other state log domain _ (log-impossible other state log domain impossible′)

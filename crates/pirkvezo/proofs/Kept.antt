@@ -11,10 +11,10 @@ use Rattle.refusal.specs.declared.Verdict.the-variants.{Accepted, Refused}
 use Rattle.engine.specs.Checks.{freshVerdict, runVerdict}
 use Rattle.engine.specs.FreshStart.{freshFrom, freshStartOf}
 use Rattle.engine.specs.Running.{ranFrom, runCallOf, runFrom}
-use Rattle.pirkvezo.specs.Answers.{allFit, answerOf, numberOf, wrongLength}
+use Rattle.pirkvezo.specs.Answers.{allFit, answerOf, verdictNumber, wrongLength}
 use Rattle.pirkvezo.specs.Numbers.{planOf, stateOf}
-use Rattle.pirkvezo.specs.Running.{RunCall, hostRun, runDone, runWith}
-use Rattle.pirkvezo.specs.Starting.{FreshCall, freshDone, freshWith, hostFreshStart}
+use Rattle.pirkvezo.specs.Running.{RunCall, hostRun, runDone, hostRunWith}
+use Rattle.pirkvezo.specs.Starting.{FreshCall, freshDone, hostFreshWith, hostFreshStart}
 use Rattle.pirkvezo.proofs.Calls.{lengths}
 use Rattle.pirkvezo.proofs.Whole.{state-kept}
 
@@ -43,7 +43,7 @@ fresh-kept plan state cache boxes answer refused = go (allFit plan state answer)
   where
     go : (b : Bool) → allFit plan state answer ≡ b → FreshKept state cache boxes (hostFreshStart plan state cache boxes answer)
     go false e =
-        let unfit : hostFreshStart plan state cache boxes answer ≡ freshWith (numberOf wrongLength) state cache boxes (answerOf wrongLength 0 0 answer) =
+        let unfit : hostFreshStart plan state cache boxes answer ≡ hostFreshWith (verdictNumber wrongLength) state cache boxes (answerOf wrongLength 0 0 answer) =
         rw (e, hostFreshStart) refl in
         rw unfit (record { state-is = refl; cache-is = refl; boxes-are = refl })
     go true e =
@@ -83,7 +83,7 @@ module _ (plan scripts state cache boxes log : List ℕ) (limit : ℕ) (answer :
       go : (b : Bool) → allFit plan state answer ≡ b → RunKept state cache boxes log (hostRun plan scripts state cache boxes log limit answer)
       go false e =
           let unfit : hostRun plan scripts state cache boxes log limit answer
-          ≡ runWith (numberOf wrongLength) state cache boxes log (answerOf wrongLength 0 0 answer) =
+          ≡ hostRunWith (verdictNumber wrongLength) state cache boxes log (answerOf wrongLength 0 0 answer) =
           rw (e, hostRun) refl in
           rw unfit (record { state-is = refl; cache-is = refl; boxes-are = refl; log-is = refl })
       go true e =

@@ -3,7 +3,7 @@ pub mod Runs
 pub mod Whole
 pub mod Written
 pub mod Answered
-pub mod Askings
+pub mod LogQueries
 pub mod Judged
 pub mod Calls
 pub mod Kept

@@ -15,9 +15,9 @@ use Rattle.refusal.specs.declared.Refusal.the-variants.{TextTooLong, WrongLengt
 use Rattle.refusal.specs.declared.Verdict.{Verdict}
 use Rattle.refusal.specs.declared.Verdict.the-variants.{Accepted, Refused}
 use Rattle.reader.specs.declared.Draft.{Draft}
-use Rattle.reader.specs.Draft.{Outcome, kept, noDraft, noOps, refused}
+use Rattle.reader.specs.Draft.{DraftOutcome, kept, noDraft, noOps, refused}
 use Rattle.reader.specs.Final.{finalVerdict, planWithMasks}
-use Rattle.reader.specs.Read.{Read, finished, judged, readOf, refusedRead, walkFrom}
+use Rattle.reader.specs.Read.{ReadOutcome, finished, judged, readOf, refusedRead, walkFrom}
 use Rattle.reader.proofs.GoodDraft.{GoodDraft, GoodOutcome, draft-first}
 use Rattle.reader.proofs.Walking.{walk-good}
 use Rattle.pirkvezo.specs.Numbers.{planNumbers, planOf}
@@ -50,7 +50,7 @@ judged-long Accepted draft store scripts good =
     }
 
 finished-long :
-    (size textLength : ℕ) (outcome : Outcome) (scripts : List ℕ) → GoodOutcome size outcome → PlanLengths (finished textLength outcome scripts .plan)
+    (size textLength : ℕ) (outcome : DraftOutcome) (scripts : List ℕ) → GoodOutcome size outcome → PlanLengths (finished textLength outcome scripts .plan)
 finished-long size textLength (refused refusal) scripts good = refused-long refusal scripts
 finished-long size textLength (kept draft store) scripts good = judged-long (finalVerdict textLength draft) draft store scripts (good .0)
 
@@ -59,10 +59,10 @@ pub read-long : (text scripts : List ℕ) → PlanLengths (readOf text scripts .
 unfolding readOf
 read-long text scripts = by-length (eqb (length scripts) scriptsLength)
   where
-    walked : Read
+    walked : ReadOutcome
     walked = finished (length text) (walkFrom (length text) text 0 noDraft noOps) scripts
 
-    by-size : (long : Bool) → PlanLengths ((elim long as (λ _. Read) [ true ↦ refusedRead TextTooLong scripts | false ↦ walked ]) .plan)
+    by-size : (long : Bool) → PlanLengths ((elim long as (λ _. ReadOutcome) [ true ↦ refusedRead TextTooLong scripts | false ↦ walked ]) .plan)
     by-size true = refused-long TextTooLong scripts
     by-size false =
         finished-long (length noOps) (length text) (walkFrom (length text) text 0 noDraft noOps) scripts
@@ -71,7 +71,7 @@ read-long text scripts = by-length (eqb (length scripts) scriptsLength)
     by-length :
         (fits : Bool)
         → PlanLengths
-        ((elim fits as (λ _. Read) [
+        ((elim fits as (λ _. ReadOutcome) [
           | false ↦ refusedRead WrongLength scripts
           | true ↦ elim (ltb 32_768 (length text)) [ true ↦ refusedRead TextTooLong scripts | false ↦ walked ]
         ]) .plan)

@@ -6,12 +6,12 @@ use mathlib.Core.List.{List}
 use Prim.Native.Nat.{ℕ, zero, suc}
 use lib.ListN.{length, length-set}
 use Rattle.plan.specs.declared.Plan.{Plan}
-use Rattle.script.specs.declared.Fetched.{Fetched}
-use Rattle.script.specs.declared.Fetched.the-variants.{Op as Fetch, End}
+use Rattle.script.specs.declared.ScriptItem.{ScriptItem}
+use Rattle.script.specs.declared.ScriptItem.the-variants.{Op as Fetch, End}
 use Rattle.records.specs.Records.{partRecords}
 use Rattle.state.specs.declared.State.{State}
 use Rattle.state.specs.World.{World, endedOf, freshState}
-use Rattle.machine.specs.Steps.{Ran, activeStep, closedOf, fetchedStep, nextOf, oneMore, opStepOf, runOf}
+use Rattle.machine.specs.Steps.{RunEffect, activeStep, closedOf, fetchedStep, nextOf, oneMore, opStepOf, runOf}
 use Rattle.machine.specs.Switch.{switchOf}
 use Rattle.machine.specs.View.{worldWith}
 use Rattle.refusal.specs.declared.Verdict.{Verdict}
@@ -50,7 +50,7 @@ module _ (plan : Plan) (scripts : List ℕ) (quota : ℕ) where
   unfolding switchOf
   switch-long world long = record { positions = long .positions; records = long .records }
 
-  fetched-long : (fetched : Fetched) (world : World) → Long world → Long (fetchedStep plan quota fetched world)
+  fetched-long : (fetched : ScriptItem) (world : World) → Long world → Long (fetchedStep plan quota fetched world)
   unfolding fetchedStep opStepOf
   fetched-long (Fetch op) world long =
       record { positions = simp length-set (long .positions); records = simp length-set (long .records) }
@@ -77,7 +77,7 @@ module _ (plan : Plan) (scripts : List ℕ) (quota : ℕ) where
       go :
           (ended : Bool)
           → Long (runOf plan scripts quota limit (activeStep plan scripts quota world) .world)
-          → Long ((elim ended as (λ _. Ran) [
+          → Long ((elim ended as (λ _. RunEffect) [
             | true ↦ record { done = 0; world = world }
             | false ↦ oneMore (runOf plan scripts quota limit (activeStep plan scripts quota world))
           ]) .world)

@@ -17,8 +17,8 @@ abbrev pub answerLength : ℕ
 answerLength = 4
 
 -- what a call returns: the refusal's number, 0 where nothing is refused
-abbrev pub numberOf : Verdict → ℕ
-numberOf verdict = codeOf verdict .number
+abbrev pub verdictNumber : Verdict → ℕ
+verdictNumber verdict = codeOf verdict .number
 
 -- the number, its companion, and two numbers of the call's own
 abbrev pub answerNumbers : Code → ℕ → ℕ → List ℕ

@@ -4,4 +4,4 @@ pub mod Answers
 pub mod Reading
 pub mod Starting
 pub mod Running
-pub mod Asking
+pub mod LogQuery

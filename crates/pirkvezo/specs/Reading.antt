@@ -2,8 +2,8 @@
 use Prim.Native.Nat.{ℕ}
 use mathlib.Core.Bool.{true, false}
 use mathlib.Core.List.{List}
-use Rattle.reader.specs.Read.{Read, readOf}
-use Rattle.pirkvezo.specs.Answers.{answerOf, numberOf, planFits, wrongLength}
+use Rattle.reader.specs.Read.{ReadOutcome, readOf}
+use Rattle.pirkvezo.specs.Answers.{answerOf, verdictNumber, planFits, wrongLength}
 use Rattle.pirkvezo.specs.Numbers.{planNumbers}
 
 -- the number returned, and the lent things at exit
@@ -18,14 +18,14 @@ abbrev pub readWith : ℕ → List ℕ → List ℕ → List ℕ → ReadCall
 readWith number scripts plan answer = record { number = number; scripts = scripts; plan = plan; answer = answer }
 
 -- the plan that is read, in numbers; all zeros beside a refused reading
-unfoldable pub readDone : Read → List ℕ → ReadCall
+unfoldable pub readDone : ReadOutcome → List ℕ → ReadCall
 readDone read answer =
-    readWith (numberOf (read .verdict)) (read .scripts) (planNumbers (read .plan)) (answerOf (read .verdict) 0 0 answer)
+    readWith (verdictNumber (read .verdict)) (read .scripts) (planNumbers (read .plan)) (answerOf (read .verdict) 0 0 answer)
 
 -- the call: lengths first, then what the entry point does
 unfoldable pub hostRead : List ℕ → List ℕ → List ℕ → List ℕ → ReadCall
 hostRead text scripts plan answer =
     elim (planFits plan answer) [
-      | false ↦ readWith (numberOf wrongLength) scripts plan (answerOf wrongLength 0 0 answer)
+      | false ↦ readWith (verdictNumber wrongLength) scripts plan (answerOf wrongLength 0 0 answer)
       | true ↦ readDone (readOf text scripts) answer
     ]

@@ -3,9 +3,9 @@
 use Prim.Native.Nat.{ℕ}
 use mathlib.Core.Bool.{true, false}
 use mathlib.Core.List.{List}
-use Rattle.engine.specs.Running.{Run, endingNumber, runCallOf, stepCallOf}
+use Rattle.engine.specs.Running.{RunOutcome, endingNumber, runCallOf, stepCallOf}
 use Rattle.machine.specs.View.{worldWith}
-use Rattle.pirkvezo.specs.Answers.{allFit, answerOf, numberOf, wrongLength}
+use Rattle.pirkvezo.specs.Answers.{allFit, answerOf, verdictNumber, wrongLength}
 use Rattle.pirkvezo.specs.Numbers.{planOf, stateNumbers, stateOf}
 
 -- the number returned, and the lent things at exit
@@ -18,21 +18,21 @@ pub record RunCall : Type 0 where
   pub answer : List ℕ
 
 -- an answer with the lent things at exit
-abbrev pub runWith : ℕ → List ℕ → List ℕ → List ℕ → List ℕ → List ℕ → RunCall
-runWith number state cache boxes log answer =
+abbrev pub hostRunWith : ℕ → List ℕ → List ℕ → List ℕ → List ℕ → List ℕ → RunCall
+hostRunWith number state cache boxes log answer =
     record { number = number; state = state; cache = cache; boxes = boxes; log = log; answer = answer }
 
 -- an answer's third and fourth number: the steps done, and 1 for ended, 0 for stopped
-unfoldable pub runDone : Run → List ℕ → RunCall
+unfoldable pub runDone : RunOutcome → List ℕ → RunCall
 runDone run answer =
-    runWith (numberOf (run .verdict)) (stateNumbers (run .world .state)) (run .world .cache) (run .world .boxes) (run .world .log)
+    hostRunWith (verdictNumber (run .verdict)) (stateNumbers (run .world .state)) (run .world .cache) (run .world .boxes) (run .world .log)
     (answerOf (run .verdict) (run .steps) (endingNumber (run .ending)) answer)
 
 -- running with a limit: lengths first, then what the entry point does
 unfoldable pub hostRun : List ℕ → List ℕ → List ℕ → List ℕ → List ℕ → List ℕ → ℕ → List ℕ → RunCall
 hostRun plan scripts state cache boxes log limit answer =
     elim (allFit plan state answer) [
-      | false ↦ runWith (numberOf wrongLength) state cache boxes log (answerOf wrongLength 0 0 answer)
+      | false ↦ hostRunWith (verdictNumber wrongLength) state cache boxes log (answerOf wrongLength 0 0 answer)
       | true ↦ runDone (runCallOf (planOf plan) scripts (worldWith (stateOf state) cache boxes log) limit) answer
     ]
 
@@ -40,6 +40,6 @@ hostRun plan scripts state cache boxes log limit answer =
 unfoldable pub hostStep : List ℕ → List ℕ → List ℕ → List ℕ → List ℕ → List ℕ → List ℕ → RunCall
 hostStep plan scripts state cache boxes log answer =
     elim (allFit plan state answer) [
-      | false ↦ runWith (numberOf wrongLength) state cache boxes log (answerOf wrongLength 0 0 answer)
+      | false ↦ hostRunWith (verdictNumber wrongLength) state cache boxes log (answerOf wrongLength 0 0 answer)
       | true ↦ runDone (stepCallOf (planOf plan) scripts (worldWith (stateOf state) cache boxes log)) answer
     ]

@@ -3,8 +3,8 @@
 use Prim.Native.Nat.{ℕ}
 use mathlib.Core.Bool.{true, false}
 use mathlib.Core.List.{List}
-use Rattle.engine.specs.FreshStart.{Fresh, freshStartOf}
-use Rattle.pirkvezo.specs.Answers.{allFit, answerOf, numberOf, wrongLength}
+use Rattle.engine.specs.FreshStart.{FreshOutcome, freshStartOf}
+use Rattle.pirkvezo.specs.Answers.{allFit, answerOf, verdictNumber, wrongLength}
 use Rattle.pirkvezo.specs.Numbers.{planOf, stateNumbers, stateOf}
 
 -- the number returned, and the lent things at exit
@@ -16,18 +16,18 @@ pub record FreshCall : Type 0 where
   pub answer : List ℕ
 
 -- an answer with the lent things at exit
-abbrev pub freshWith : ℕ → List ℕ → List ℕ → List ℕ → List ℕ → FreshCall
-freshWith number state cache boxes answer = record { number = number; state = state; cache = cache; boxes = boxes; answer = answer }
+abbrev pub hostFreshWith : ℕ → List ℕ → List ℕ → List ℕ → List ℕ → FreshCall
+hostFreshWith number state cache boxes answer = record { number = number; state = state; cache = cache; boxes = boxes; answer = answer }
 
 -- what the entry point answers and leaves, in numbers
-unfoldable pub freshDone : Fresh → List ℕ → FreshCall
+unfoldable pub freshDone : FreshOutcome → List ℕ → FreshCall
 freshDone fresh answer =
-    freshWith (numberOf (fresh .verdict)) (stateNumbers (fresh .state)) (fresh .cache) (fresh .boxes) (answerOf (fresh .verdict) 0 0 answer)
+    hostFreshWith (verdictNumber (fresh .verdict)) (stateNumbers (fresh .state)) (fresh .cache) (fresh .boxes) (answerOf (fresh .verdict) 0 0 answer)
 
 -- the call: lengths first, then what the entry point does
 unfoldable pub hostFreshStart : List ℕ → List ℕ → List ℕ → List ℕ → List ℕ → FreshCall
 hostFreshStart plan state cache boxes answer =
     elim (allFit plan state answer) [
-      | false ↦ freshWith (numberOf wrongLength) state cache boxes (answerOf wrongLength 0 0 answer)
+      | false ↦ hostFreshWith (verdictNumber wrongLength) state cache boxes (answerOf wrongLength 0 0 answer)
       | true ↦ freshDone (freshStartOf (planOf plan) (stateOf state) cache boxes) answer
     ]

@@ -5,11 +5,11 @@ use refusal::Verdict;
 use refusal::code_of;
 ghost use mathlib.Core.Path.{_≡_};
 ghost use Rattle.engine.specs.Running.{endingNumber};
-ghost use Rattle.pirkvezo.specs.Answers.{answerOf, numberOf, wrongLength};
+ghost use Rattle.pirkvezo.specs.Answers.{answerOf, verdictNumber, wrongLength};
 
 // Writes an answer and returns its first number. An answer of another length stays as it is.
 pub fn put_answer(answer: &mut [u64], verdict: Verdict, third: u64, fourth: u64) -> u32
-    ensures { λ r. ⌜ (r ≡ numberOf verdict) × (now (answer .exit) ≡ answerOf verdict third fourth (now (answer .entry))) ⌝ }
+    ensures { λ r. ⌜ (r ≡ verdictNumber verdict) × (now (answer .exit) ≡ answerOf verdict third fourth (now (answer .entry))) ⌝ }
 {
     let code = code_of(verdict);
     if answer.len() == 4 {
@@ -23,7 +23,7 @@ pub fn put_answer(answer: &mut [u64], verdict: Verdict, third: u64, fourth: u64)
 
 // 11: a plan, a state or an answer of another length.
 pub fn refuse_length(answer: &mut [u64]) -> u32
-    ensures { λ r. ⌜ (r ≡ numberOf wrongLength) × (now (answer .exit) ≡ answerOf wrongLength 0 0 (now (answer .entry))) ⌝ }
+    ensures { λ r. ⌜ (r ≡ verdictNumber wrongLength) × (now (answer .exit) ≡ answerOf wrongLength 0 0 (now (answer .entry))) ⌝ }
 {
     put_answer(answer, Verdict::Refused(Refusal::WrongLength), 0, 0)
 }

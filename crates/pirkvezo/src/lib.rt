@@ -1,6 +1,6 @@
 // The library for programs in other languages: every entry point over numbers and slices, each total, each returning the refusal's number.
 pub mod answers;
-pub mod asking;
+pub mod log_query;
 pub mod plans;
 pub mod reading;
 pub mod running;
@@ -10,7 +10,7 @@ pub mod states;
 use refusal::Verdict;
 
 // What an asking answers: the verdict, the place of the log's first byte within the lent log, and how many bytes it has.
-pub struct Asked {
+pub struct LogAnswer {
     pub verdict: Verdict,
     pub place: u64,
     pub length: u64,

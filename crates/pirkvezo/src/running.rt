@@ -7,7 +7,7 @@ use crate::states::load_state;
 use crate::states::store_state;
 use engine::running::run;
 ghost use mathlib.Core.Path.{_≡_};
-ghost use Rattle.pirkvezo.specs.Running.{hostRun, hostStep, runWith};
+ghost use Rattle.pirkvezo.specs.Running.{hostRun, hostStep, hostRunWith};
 
 // At most `limit` steps. The answer's third number is how many were done, its fourth 1 for ended and 0 for stopped.
 #[no_mangle]
@@ -21,7 +21,7 @@ pub extern "C" fn pirkvezo_run(
     limit: u64,
     answer: &mut [u64],
 ) -> u32
-    ensures { λ r. ⌜ runWith r (now (state .exit)) (now (cache .exit)) (now (boxes .exit)) (now (log .exit)) (now (answer .exit))
+    ensures { λ r. ⌜ hostRunWith r (now (state .exit)) (now (cache .exit)) (now (boxes .exit)) (now (log .exit)) (now (answer .exit))
         ≡ hostRun (now (plan .entry)) (now (scripts .entry)) (now (state .entry)) (now (cache .entry)) (now (boxes .entry)) (now (log .entry)) limit (now (answer .entry)) ⌝ }
 {
     if !((plan.len() == 92) & ((state.len() == 18) & (answer.len() == 4))) {
@@ -48,7 +48,7 @@ pub extern "C" fn pirkvezo_step(
     log: &mut [u8],
     answer: &mut [u64],
 ) -> u32
-    ensures { λ r. ⌜ runWith r (now (state .exit)) (now (cache .exit)) (now (boxes .exit)) (now (log .exit)) (now (answer .exit))
+    ensures { λ r. ⌜ hostRunWith r (now (state .exit)) (now (cache .exit)) (now (boxes .exit)) (now (log .exit)) (now (answer .exit))
         ≡ hostStep (now (plan .entry)) (now (scripts .entry)) (now (state .entry)) (now (cache .entry)) (now (boxes .entry)) (now (log .entry)) (now (answer .entry)) ⌝ }
 {
     pirkvezo_run(plan, scripts, state, cache, boxes, log, 1, answer)

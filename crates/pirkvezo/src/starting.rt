@@ -6,7 +6,7 @@ use crate::states::load_state;
 use crate::states::store_state;
 use engine::starting::fresh_start;
 ghost use mathlib.Core.Path.{_≡_};
-ghost use Rattle.pirkvezo.specs.Starting.{freshWith, hostFreshStart};
+ghost use Rattle.pirkvezo.specs.Starting.{hostFreshWith, hostFreshStart};
 
 // Zeroes the state, the cache table and the boxes; a refusal leaves them.
 #[no_mangle]
@@ -17,7 +17,7 @@ pub extern "C" fn pirkvezo_fresh_start(
     boxes: &mut [u32],
     answer: &mut [u64],
 ) -> u32
-    ensures { λ r. ⌜ freshWith r (now (state .exit)) (now (cache .exit)) (now (boxes .exit)) (now (answer .exit))
+    ensures { λ r. ⌜ hostFreshWith r (now (state .exit)) (now (cache .exit)) (now (boxes .exit)) (now (answer .exit))
         ≡ hostFreshStart (now (plan .entry)) (now (state .entry)) (now (cache .entry)) (now (boxes .entry)) (now (answer .entry)) ⌝ }
 {
     if !((plan.len() == 92) & ((state.len() == 18) & (answer.len() == 4))) {

@@ -9,18 +9,18 @@ use lib.Dec.{ltb}
 use borrow.Author.Tests.{ltb-true, ltb-false}
 use Rattle.plan.specs.declared.Plan.{Plan}
 use Rattle.plan.specs.Colours.{coloursAt, firstColour, holdingOf, maskAt, maskOf, ownsColour}
-use Rattle.plan.specs.Possible.{planPossible}
+use Rattle.plan.specs.Validity.{planValid}
 use Rattle.plan.specs.Rights.{maySend, rightsAt}
 use Rattle.plan.specs.Sums.{sumTo}
 use Rattle.plan.proofs.Bits.{mask-bits, mask-fits, mask-ones, no-high-bit, zero-no-bit}
-use Rattle.plan.proofs.Possible.{declared, parts, undeclared}
+use Rattle.plan.proofs.Validity.{declared, parts, undeclared}
 use Rattle.plan.proofs.Shares.{colours-at-most}
 use Rattle.plan.proofs.Sums.{sum-mono}
 
 -- the colours of a domain lie between its first and the next domain's first
 pub owned-range :
     (plan : Plan) (domain colour : ℕ)
-    → planPossible plan ≡ true
+    → planValid plan ≡ true
     → domain < plan .domains
     → ownsColour plan domain colour ≡ true
     → (firstColour plan domain ≤ colour) × (colour < firstColour plan (suc domain))
@@ -37,7 +37,7 @@ first-mono plan one other within = sum-mono (coloursAt plan) one other within
 
 -- no colour is given past 14
 pub owned-below :
-    (plan : Plan) (domain colour : ℕ) → planPossible plan ≡ true → domain < plan .domains → ownsColour plan domain colour ≡ true → colour < 15
+    (plan : Plan) (domain colour : ℕ) → planValid plan ≡ true → domain < plan .domains → ownsColour plan domain colour ≡ true → colour < 15
 owned-below plan domain colour possible below owns =
     let range = owned-range plan domain colour possible below owns in
     let rising : firstColour plan (suc domain) ≤ firstColour plan (plan .domains) = first-mono plan (suc domain) (plan .domains) below in
@@ -47,7 +47,7 @@ owned-below plan domain colour possible below owns =
 -- a lower domain's colours end before a higher one's begin
 apart :
     (plan : Plan) (one other colour : ℕ)
-    → planPossible plan ≡ true
+    → planValid plan ≡ true
     → one < other
     → other < plan .domains
     → ownsColour plan one colour ≡ true
@@ -62,7 +62,7 @@ apart plan one other colour possible less below owns owns′ =
 -- two domains have no colour in common
 pub masks-disjoint :
     (plan : Plan) (one other colour : ℕ)
-    → planPossible plan ≡ true
+    → planValid plan ≡ true
     → one < plan .domains
     → other < plan .domains
     → (one ≡ other → ⊥)
@@ -78,7 +78,7 @@ masks-disjoint plan one other colour possible below below′ differ owns owns′
         apart plan other one colour possible (omega arith) below owns′ owns
 
 -- a possible plan's masks have at most 16 bits
-pub mask-most : (plan : Plan) (domain : ℕ) → planPossible plan ≡ true → domain < 8 → maskAt plan domain ≤ 65_535
+pub mask-most : (plan : Plan) (domain : ℕ) → planValid plan ≡ true → domain < 8 → maskAt plan domain ≤ 65_535
 unfolding maskOf firstColour sumTo
 mask-most plan domain possible below = go (ltb domain (plan .domains)) refl
   where
@@ -93,7 +93,7 @@ mask-most plan domain possible below = go (ltb domain (plan .domains)) refl
 
 -- a domain's holding is what its share gives
 pub holding-is-colours :
-    (plan : Plan) (domain : ℕ) → planPossible plan ≡ true → domain < plan .domains → holdingOf plan domain ≡ coloursAt plan domain
+    (plan : Plan) (domain : ℕ) → planValid plan ≡ true → domain < plan .domains → holdingOf plan domain ≡ coloursAt plan domain
 unfolding holdingOf maskOf
 holding-is-colours plan domain possible below =
     ap ones (declared plan domain possible below .mask) ∙ mask-ones (firstColour plan domain) (coloursAt plan domain)
@@ -101,7 +101,7 @@ holding-is-colours plan domain possible below =
 -- a right to send is a declared domain's, to a declared domain
 pub right-declared :
     (plan : Plan) (sender recipient : ℕ)
-    → planPossible plan ≡ true
+    → planValid plan ≡ true
     → maySend plan sender recipient ≡ true
     → sender < 8
     → (sender < plan .domains) × (recipient < plan .domains)

@@ -6,36 +6,36 @@ use native.Mathlib.Nat.{add-suc, add-zero, div-add-mod', mod-lt, mod-eq-of-lt, m
 use native.Mathlib.Omega.{arith}
 use lib.ListN.{getD}
 use Rattle.plan.specs.declared.Plan.{Plan}
-use Rattle.plan.specs.Possible.{planPossible}
+use Rattle.plan.specs.Validity.{planValid}
 use Rattle.plan.specs.Sums.{sumTo}
-use Rattle.plan.specs.Windows.{lengthOf, ownerOf, paddedLength, slotOf, startOf, ticksTotal, windowsTotal}
-use Rattle.plan.proofs.Possible.{counts, declared-window, parts}
+use Rattle.plan.specs.Windows.{windowLength, windowOwner, paddedLength, slotOf, windowStart, ticksTotal, windowsTotal}
+use Rattle.plan.proofs.Validity.{counts, declared-window, parts}
 use Rattle.plan.proofs.Sums.{sum-most}
 
-pub pad-least : (plan : Plan) → planPossible plan ≡ true → 276 ≤ plan .pad
+pub pad-least : (plan : Plan) → planValid plan ≡ true → 276 ≤ plan .pad
 pad-least plan possible = counts plan possible .pad-least
 
-pub domains-positive : (plan : Plan) → planPossible plan ≡ true → 0 < plan .domains
+pub domains-positive : (plan : Plan) → planValid plan ≡ true → 0 < plan .domains
 domains-positive plan possible = counts plan possible .domains-least
 
-pub domains-most : (plan : Plan) → planPossible plan ≡ true → plan .domains ≤ 8
+pub domains-most : (plan : Plan) → planValid plan ≡ true → plan .domains ≤ 8
 domains-most plan possible = counts plan possible .domains-most
 
 -- a window's slot is a declared one
-pub slot-below : (plan : Plan) (window : ℕ) → planPossible plan ≡ true → slotOf plan window < plan .windows
+pub slot-below : (plan : Plan) (window : ℕ) → planValid plan ≡ true → slotOf plan window < plan .windows
 slot-below plan window possible = mod-lt window (counts plan possible .windows-least)
 
 -- every window is a declared domain's, of at least one tick
-pub owner-declared : (plan : Plan) (window : ℕ) → planPossible plan ≡ true → ownerOf plan window < plan .domains
-unfolding ownerOf
+pub owner-declared : (plan : Plan) (window : ℕ) → planValid plan ≡ true → windowOwner plan window < plan .domains
+unfolding windowOwner
 owner-declared plan window possible = declared-window plan (slotOf plan window) possible (slot-below plan window possible) .owner
 
-pub length-least : (plan : Plan) (window : ℕ) → planPossible plan ≡ true → 1 ≤ lengthOf plan window
-unfolding lengthOf
+pub length-least : (plan : Plan) (window : ℕ) → planValid plan ≡ true → 1 ≤ windowLength plan window
+unfolding windowLength
 length-least plan window possible = declared-window plan (slotOf plan window) possible (slot-below plan window possible) .length-least
 
-pub length-most : (plan : Plan) (window : ℕ) → planPossible plan ≡ true → lengthOf plan window ≤ 1_000_000
-unfolding lengthOf
+pub length-most : (plan : Plan) (window : ℕ) → planValid plan ≡ true → windowLength plan window ≤ 1_000_000
+unfolding windowLength
 length-most plan window possible = declared-window plan (slotOf plan window) possible (slot-below plan window possible) .length-most
 
 -- the ticks of the declared windows with their pads, once through
@@ -46,24 +46,24 @@ frame plan = sumTo (paddedLength plan) (plan .windows)
 start-within :
     (plan : Plan) (repeat slot : ℕ)
     → slot ≤ plan .windows
-    → startOf plan (repeat * plan .windows) ≡ repeat * frame plan
-    → startOf plan (repeat * plan .windows + slot) ≡ repeat * frame plan + sumTo (paddedLength plan) slot
-unfolding startOf lengthOf sumTo
-start-within plan repeat zero within first = ap (startOf plan) (add-zero (repeat * plan .windows)) ∙ first ∙ sym (add-zero (repeat * frame plan))
+    → windowStart plan (repeat * plan .windows) ≡ repeat * frame plan
+    → windowStart plan (repeat * plan .windows + slot) ≡ repeat * frame plan + sumTo (paddedLength plan) slot
+unfolding windowStart windowLength sumTo
+start-within plan repeat zero within first = ap (windowStart plan) (add-zero (repeat * plan .windows)) ∙ first ∙ sym (add-zero (repeat * frame plan))
 start-within plan repeat (suc slot) within first =
     let before = start-within plan repeat slot (omega arith) first in
     let place : (repeat * plan .windows + slot) % plan .windows ≡ slot =
     mul-add-mod-self-right repeat (plan .windows) slot ∙ mod-eq-of-lt (omega arith) in
-    let next : startOf plan (suc (repeat * plan .windows + slot)) ≡ repeat * frame plan + (sumTo (paddedLength plan) slot + paddedLength plan slot) =
+    let next : windowStart plan (suc (repeat * plan .windows + slot)) ≡ repeat * frame plan + (sumTo (paddedLength plan) slot + paddedLength plan slot) =
     rw (before, place) (omega arith) in
-    ap (startOf plan) (add-suc (repeat * plan .windows) slot) ∙ next
+    ap (windowStart plan) (add-suc (repeat * plan .windows) slot) ∙ next
 
 -- a repeat starts after the repeats before it
-start-repeat : (plan : Plan) (repeat : ℕ) → startOf plan (repeat * plan .windows) ≡ repeat * frame plan
-unfolding startOf frame
-start-repeat plan zero = ap (startOf plan) (zero-mul (plan .windows)) ∙ sym (zero-mul (frame plan))
+start-repeat : (plan : Plan) (repeat : ℕ) → windowStart plan (repeat * plan .windows) ≡ repeat * frame plan
+unfolding windowStart frame
+start-repeat plan zero = ap (windowStart plan) (zero-mul (plan .windows)) ∙ sym (zero-mul (frame plan))
 start-repeat plan (suc repeat) =
-    ap (startOf plan) (suc-mul repeat (plan .windows))
+    ap (windowStart plan) (suc-mul repeat (plan .windows))
     ∙ start-within plan repeat (plan .windows) (omega arith) (start-repeat plan repeat)
     ∙ sym (suc-mul repeat (frame plan))
 
@@ -71,32 +71,32 @@ start-repeat plan (suc repeat) =
 pub start-closed :
     (plan : Plan) (window : ℕ)
     → 0 < plan .windows
-    → startOf plan window ≡ window / plan .windows * frame plan + sumTo (paddedLength plan) (slotOf plan window)
+    → windowStart plan window ≡ window / plan .windows * frame plan + sumTo (paddedLength plan) (slotOf plan window)
 start-closed plan window some =
     let slot : slotOf plan window < plan .windows = mod-lt window some in
     let repeat = window / plan .windows in
-    ap (startOf plan) (sym (div-add-mod' window (plan .windows)))
+    ap (windowStart plan) (sym (div-add-mod' window (plan .windows)))
     ∙ start-within plan repeat (slotOf plan window) (omega arith) (start-repeat plan repeat)
 
 -- the start past the last window is the run's total
-pub start-total : (plan : Plan) → planPossible plan ≡ true → startOf plan (windowsTotal plan) ≡ ticksTotal plan
+pub start-total : (plan : Plan) → planValid plan ≡ true → windowStart plan (windowsTotal plan) ≡ ticksTotal plan
 unfolding windowsTotal ticksTotal frame
 start-total plan possible = start-repeat plan (plan .run)
 
 -- a later window starts no earlier
-pub start-mono : (plan : Plan) (window more : ℕ) → startOf plan window ≤ startOf plan (window + more)
-unfolding startOf
+pub start-mono : (plan : Plan) (window more : ℕ) → windowStart plan window ≤ windowStart plan (window + more)
+unfolding windowStart
 start-mono plan window zero = rw add-zero (omega arith)
 start-mono plan window (suc more) =
-    let before : startOf plan window ≤ startOf plan (window + more) = start-mono plan window more in
+    let before : windowStart plan window ≤ windowStart plan (window + more) = start-mono plan window more in
     rw add-suc (omega arith)
 
 -- no window that has a place in the run ends past the run's total
-pub start-most : (plan : Plan) (window : ℕ) → planPossible plan ≡ true → window ≤ windowsTotal plan → startOf plan window ≤ ticksTotal plan
+pub start-most : (plan : Plan) (window : ℕ) → planValid plan ≡ true → window ≤ windowsTotal plan → windowStart plan window ≤ ticksTotal plan
 start-most plan window possible within =
     let rest = windowsTotal plan - window in
     let later : window + rest ≡ windowsTotal plan = omega arith in
-    let last : startOf plan (window + rest) ≡ ticksTotal plan = ap (startOf plan) later ∙ start-total plan possible in
+    let last : windowStart plan (window + rest) ≡ ticksTotal plan = ap (windowStart plan) later ∙ start-total plan possible in
     rw last at (start-mono plan window rest)
 
 -- the first declared windows with their pads, each of at most 2,000,000 ticks
@@ -110,14 +110,14 @@ padded-most plan count pad lengths = sum-most (paddedLength plan) 2_000_000 coun
 -- the start in closed form, as whole repeats of what the declared windows take once through
 pub start-repeats :
     (plan : Plan) (window : ℕ)
-    → planPossible plan ≡ true
-    → window / plan .windows * sumTo (paddedLength plan) (plan .windows) + sumTo (paddedLength plan) (slotOf plan window) ≡ startOf plan window
+    → planValid plan ≡ true
+    → window / plan .windows * sumTo (paddedLength plan) (plan .windows) + sumTo (paddedLength plan) (slotOf plan window) ≡ windowStart plan window
 unfolding frame
 start-repeats plan window possible = sym (start-closed plan window (counts plan possible .windows-least))
 
 -- no start of a run is over the largest total
 pub start-fits :
-    (plan : Plan) (window : ℕ) → planPossible plan ≡ true → window ≤ windowsTotal plan → startOf plan window ≤ 4_294_967_295
+    (plan : Plan) (window : ℕ) → planValid plan ≡ true → window ≤ windowsTotal plan → windowStart plan window ≤ 4_294_967_295
 start-fits plan window possible within =
-    let most : startOf plan window ≤ ticksTotal plan = start-most plan window possible within in
+    let most : windowStart plan window ≤ ticksTotal plan = start-most plan window possible within in
     omega (arith, parts plan possible .ticks)

@@ -4,4 +4,4 @@ pub mod Sums
 pub mod Colours
 pub mod Rights
 pub mod Windows
-pub mod Possible
+pub mod Validity

@@ -9,21 +9,21 @@ abbrev pub slotOf : Plan → ℕ → ℕ
 slotOf plan window = window % plan .windows
 
 -- whose window it is
-unfoldable pub ownerOf : Plan → ℕ → ℕ
-ownerOf plan window = getD (plan .owners) (slotOf plan window) 0
+unfoldable pub windowOwner : Plan → ℕ → ℕ
+windowOwner plan window = getD (plan .owners) (slotOf plan window) 0
 
 -- how long it is
-unfoldable pub lengthOf : Plan → ℕ → ℕ
-lengthOf plan window = getD (plan .lengths) (slotOf plan window) 0
+unfoldable pub windowLength : Plan → ℕ → ℕ
+windowLength plan window = getD (plan .lengths) (slotOf plan window) 0
 
 -- the first window starts at tick 0, and each next one a length and a pad later
-unfoldable pub startOf : Plan → ℕ → ℕ
-startOf plan zero = 0
-startOf plan (suc window) = startOf plan window + lengthOf plan window + plan .pad
+unfoldable pub windowStart : Plan → ℕ → ℕ
+windowStart plan zero = 0
+windowStart plan (suc window) = windowStart plan window + windowLength plan window + plan .pad
 
 -- a window's end: its start + its length
-unfoldable pub endOf : Plan → ℕ → ℕ
-endOf plan window = startOf plan window + lengthOf plan window
+unfoldable pub windowEnd : Plan → ℕ → ℕ
+windowEnd plan window = windowStart plan window + windowLength plan window
 
 -- the number of windows of the whole run: the declared ones, *run* times
 unfoldable pub windowsTotal : Plan → ℕ

@@ -1,5 +1,5 @@
 // A plan: what the reader hands on to the machine.
-pub mod checking;
+pub mod validity;
 pub mod limits;
 pub mod sharing;
 pub mod timing;

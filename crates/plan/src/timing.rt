@@ -4,9 +4,9 @@ ghost use mathlib.Core.Path.{_≡_};
 ghost use mathlib.Core.Bool.{true};
 ghost use Prim.Native.Nat.{ℕ, _*_, _≤_, _<_};
 ghost use lib.ListN.{getD};
-ghost use Rattle.plan.specs.Possible.{planPossible};
+ghost use Rattle.plan.specs.Validity.{planValid};
 ghost use Rattle.plan.specs.Sums.{sumTo};
-ghost use Rattle.plan.specs.Windows.{lengthOf, ownerOf, paddedLength, startOf, ticksTotal, windowsTotal};
+ghost use Rattle.plan.specs.Windows.{windowLength, windowOwner, paddedLength, windowStart, ticksTotal, windowsTotal};
 
 // The ticks of the first declared windows with their pads, once through.
 fn padded_lengths(plan: Plan, count: usize) -> u64
@@ -47,9 +47,9 @@ pub fn windows_total(plan: Plan) -> u64
 }
 
 // The domain whose window it is.
-pub fn owner_of(plan: Plan, window: u64) -> u32
-    requires { ⌜ planPossible plan ≡ true ⌝ }
-    ensures { λ r. ⌜ r ≡ ownerOf plan window ⌝ }
+pub fn window_owner(plan: Plan, window: u64) -> u32
+    requires { ⌜ planValid plan ≡ true ⌝ }
+    ensures { λ r. ⌜ r ≡ windowOwner plan window ⌝ }
 {
     let owners = plan.owners;
     let windows = plan.windows as u64;
@@ -58,9 +58,9 @@ pub fn owner_of(plan: Plan, window: u64) -> u32
 }
 
 // How long a window is.
-pub fn length_of(plan: Plan, window: u64) -> u32
-    requires { ⌜ planPossible plan ≡ true ⌝ }
-    ensures { λ r. ⌜ r ≡ lengthOf plan window ⌝ }
+pub fn window_length(plan: Plan, window: u64) -> u32
+    requires { ⌜ planValid plan ≡ true ⌝ }
+    ensures { λ r. ⌜ r ≡ windowLength plan window ⌝ }
 {
     let lengths = plan.lengths;
     let windows = plan.windows as u64;
@@ -69,9 +69,9 @@ pub fn length_of(plan: Plan, window: u64) -> u32
 }
 
 // When a window starts: whole repeats, and the windows of this repeat before it.
-pub fn start_of(plan: Plan, window: u64) -> u64
-    requires { ⌜ (planPossible plan ≡ true) × (window ≤ windowsTotal plan) ⌝ }
-    ensures { λ r. ⌜ r ≡ startOf plan window ⌝ }
+pub fn window_start(plan: Plan, window: u64) -> u64
+    requires { ⌜ (planValid plan ≡ true) × (window ≤ windowsTotal plan) ⌝ }
+    ensures { λ r. ⌜ r ≡ windowStart plan window ⌝ }
 {
     let windows = plan.windows as u64;
     let count = plan.windows as usize;

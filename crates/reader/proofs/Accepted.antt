@@ -12,23 +12,23 @@ use Rattle.plan.proofs.MaskLists.{mask-alike, mask-due}
 use Rattle.plan.proofs.Sums.{below-all}
 use Rattle.plan.specs.declared.Plan.{Plan}
 use Rattle.plan.specs.Colours.{coloursAt, sharesTotal}
-use Rattle.plan.specs.Possible.{countsPossible, declaredPossible, domainPossible, maskPossible, planPossible, undeclaredPossible, windowPossible, within}
+use Rattle.plan.specs.Validity.{countsValid, declaredValid, domainValid, maskValid, planValid, undeclaredValid, windowValid, within}
 use Rattle.plan.specs.Windows.{ticksTotal}
 use Rattle.script.specs.Limits.{scriptsLength}
 use Rattle.refusal.specs.declared.Refusal.{Refusal}
 use Rattle.refusal.specs.declared.Refusal.the-variants.{TextTooLong, WrongLength}
 use Rattle.refusal.specs.declared.Verdict.{Verdict}
 use Rattle.refusal.specs.declared.Verdict.the-variants.{Accepted, Refused}
-use Rattle.taking.proofs.Choices.{neither}
-use Rattle.text.proofs.Reached.{cond-holds}
+use Rattle.syntax.proofs.Choices.{neither}
+use Rattle.lexer.proofs.Reached.{cond-holds}
 use Rattle.reader.proofs.GoodDraft.{GoodDraft, GoodOutcome, draft-first}
 use Rattle.reader.proofs.HighBits.{high-off}
 use Rattle.reader.proofs.LastChecks.{Passes, coloured-each, passes, undeclared-none}
 use Rattle.reader.proofs.Walking.{walk-good}
 use Rattle.reader.specs.declared.Draft.{Draft}
-use Rattle.reader.specs.Draft.{Outcome, kept, noDraft, noOps, refused}
+use Rattle.reader.specs.Draft.{DraftOutcome, kept, noDraft, noOps, refused}
 use Rattle.reader.specs.Final.{finalVerdict, lacking, planWithMasks}
-use Rattle.reader.specs.Read.{Read, finished, judged, readOf, refusedRead, walkFrom}
+use Rattle.reader.specs.Read.{ReadOutcome, finished, judged, readOf, refusedRead, walkFrom}
 
 -- ---- tests
 
@@ -58,8 +58,8 @@ module _ (draft : Draft) (good : GoodDraft draft) (fine : Passes draft) where
       let run : draft .plan .run ≡ 0 → ⊥ = eqb-false _ _ (third .1) in
       (pad, omega arith, omega arith, omega arith)
 
-  counts-pass : countsPossible (planOf draft) ≡ true
-  unfolding planWithMasks countsPossible
+  counts-pass : countsValid (planOf draft) ≡ true
+  unfolding planWithMasks countsValid
   counts-pass =
       both _ _ (both _ _ (both _ _
       (within-true 276 1_000_000 _ (good .pad-least (present .0)) (good .pad-most))
@@ -77,15 +77,15 @@ module _ (draft : Draft) (good : GoodDraft draft) (fine : Passes draft) where
       here .noted place has (undeclared-none (draft .named) (draft .plan .domains) 8 place (fine .all-declared) (omega arith) from))
 
   -- the masks are those that the shares give
-  mask-pass : (domain : ℕ) → domain < 8 → maskPossible (planOf draft) domain ≡ true
-  unfolding planWithMasks maskPossible
+  mask-pass : (domain : ℕ) → domain < 8 → maskValid (planOf draft) domain ≡ true
+  unfolding planWithMasks maskValid
   mask-pass domain small =
       eq-eqb _ _
       (mask-due (draft .plan) domain small
       ∙ ap (λ (mask : ℕ). cond (ltb domain (draft .plan .domains)) mask 0) (mask-alike (draft .plan) (planOf draft) domain refl))
 
-  declared-pass : (domain : ℕ) → domain < draft .plan .domains → declaredPossible (planOf draft) domain ≡ true
-  unfolding planWithMasks declaredPossible
+  declared-pass : (domain : ℕ) → domain < draft .plan .domains → declaredValid (planOf draft) domain ≡ true
+  unfolding planWithMasks declaredValid
   declared-pass domain below =
       let here = good .domains .declared domain below in
       let colours : coloursAt (draft .plan) domain ≡ 0 → ⊥ =
@@ -96,22 +96,22 @@ module _ (draft : Draft) (good : GoodDraft draft) (fine : Passes draft) where
       (lt-ltb _ _ (rights-most domain below)))
       (ap not (here .not-own))
 
-  undeclared-pass : (domain : ℕ) → draft .plan .domains ≤ domain → undeclaredPossible (planOf draft) domain ≡ true
-  unfolding planWithMasks undeclaredPossible
+  undeclared-pass : (domain : ℕ) → draft .plan .domains ≤ domain → undeclaredValid (planOf draft) domain ≡ true
+  unfolding planWithMasks undeclaredValid
   undeclared-pass domain past =
       let none = good .domains .undeclared domain past in
       both _ _ (eq-eqb _ _ (none .0)) (eq-eqb _ _ (none .1))
 
-  domain-pass : (domain : ℕ) → domain < 8 → domainPossible (planOf draft) domain ≡ true
-  unfolding planWithMasks domainPossible
+  domain-pass : (domain : ℕ) → domain < 8 → domainValid (planOf draft) domain ≡ true
+  unfolding planWithMasks domainValid
   domain-pass domain _ =
-      cond-holds (λ (test : Bool). test ≡ true) (ltb domain (draft .plan .domains)) (declaredPossible (planOf draft) domain)
-      (undeclaredPossible (planOf draft) domain)
+      cond-holds (λ (test : Bool). test ≡ true) (ltb domain (draft .plan .domains)) (declaredValid (planOf draft) domain)
+      (undeclaredValid (planOf draft) domain)
       (λ below. declared-pass domain (ltb-true _ _ below))
       (λ past. undeclared-pass domain (ltb-false _ _ past))
 
-  window-pass : (slot : ℕ) → slot < 32 → windowPossible (planOf draft) slot ≡ true
-  unfolding planWithMasks windowPossible
+  window-pass : (slot : ℕ) → slot < 32 → windowValid (planOf draft) slot ≡ true
+  unfolding planWithMasks windowValid
   window-pass slot small =
       cond-holds (λ (test : Bool). test ≡ true) (ltb slot (draft .plan .windows)) _ _
       (λ below.
@@ -121,15 +121,15 @@ module _ (draft : Draft) (good : GoodDraft draft) (fine : Passes draft) where
       let none = good .windows .no-window slot (ltb-false _ _ past) in
       both _ _ (eq-eqb _ _ (none .0)) (eq-eqb _ _ (none .1)))
 
-  pub passing-possible : planPossible (planOf draft) ≡ true
-  unfolding planWithMasks planPossible sharesTotal ticksTotal
-  passing-possible =
+  pub passing-valid : planValid (planOf draft) ≡ true
+  unfolding planWithMasks planValid sharesTotal ticksTotal
+  passing-valid =
       both _ _ (both _ _ (both _ _ (both _ _ (both _ _
       counts-pass
-      (below-all (domainPossible (planOf draft)) 8 domain-pass))
+      (below-all (domainValid (planOf draft)) 8 domain-pass))
       (le-leb _ _ (fine .shares)))
-      (below-all (maskPossible (planOf draft)) 8 mask-pass))
-      (below-all (windowPossible (planOf draft)) 32 window-pass))
+      (below-all (maskValid (planOf draft)) 8 mask-pass))
+      (below-all (windowValid (planOf draft)) 32 window-pass))
       (le-leb _ _ (fine .ticks))
 
 -- ---- the whole reading
@@ -139,20 +139,20 @@ not-refused : (why : Refusal) (scripts : List ℕ) → refusedRead why scripts .
 unfolding refusedRead
 not-refused why scripts e = let z : _≡_ {A = ℕ} 0 1 = cc in omega arith
 
-judged-possible : (textLength : ℕ) (draft : Draft) (store scripts : List ℕ) → GoodDraft draft → (verdict : Verdict)
+judged-valid : (textLength : ℕ) (draft : Draft) (store scripts : List ℕ) → GoodDraft draft → (verdict : Verdict)
     → finalVerdict textLength draft ≡ verdict → judged verdict draft store scripts .verdict ≡ Accepted
-    → planPossible (judged verdict draft store scripts .plan) ≡ true
-judged-possible textLength draft store scripts good Accepted final e = passing-possible draft good (passes textLength draft final)
-judged-possible textLength draft store scripts good (Refused why) final e = absurd (not-refused why _ e)
+    → planValid (judged verdict draft store scripts .plan) ≡ true
+judged-valid textLength draft store scripts good Accepted final e = passing-valid draft good (passes textLength draft final)
+judged-valid textLength draft store scripts good (Refused why) final e = absurd (not-refused why _ e)
 
-finished-possible : (size textLength : ℕ) (outcome : Outcome) (scripts : List ℕ) → GoodOutcome size outcome
-    → finished textLength outcome scripts .verdict ≡ Accepted → planPossible (finished textLength outcome scripts .plan) ≡ true
-finished-possible size textLength (refused why) scripts good e = absurd (not-refused why scripts e)
-finished-possible size textLength (kept draft store) scripts good e =
-    judged-possible textLength draft store scripts (good .0) (finalVerdict textLength draft) refl e
+finished-valid : (size textLength : ℕ) (outcome : DraftOutcome) (scripts : List ℕ) → GoodOutcome size outcome
+    → finished textLength outcome scripts .verdict ≡ Accepted → planValid (finished textLength outcome scripts .plan) ≡ true
+finished-valid size textLength (refused why) scripts good e = absurd (not-refused why scripts e)
+finished-valid size textLength (kept draft store) scripts good e =
+    judged-valid textLength draft store scripts (good .0) (finalVerdict textLength draft) refl e
 
 -- what holds of every refusal, and of what comes after the last line, holds of a reading
-read-holds : (Holds : Read → Type 0) (text scripts : List ℕ)
+read-holds : (Holds : ReadOutcome → Type 0) (text scripts : List ℕ)
     → ((why : Refusal) → Holds (refusedRead why scripts))
     → (length scripts ≡ scriptsLength → Holds (finished (length text) (walkFrom (length text) text 0 noDraft noOps) scripts))
     → Holds (readOf text scripts)
@@ -160,7 +160,7 @@ unfolding readOf
 read-holds Holds text scripts broken walked = by-length (eqb (length scripts) scriptsLength) refl
   where
     by-size : (long : Bool) → length scripts ≡ scriptsLength
-        → Holds (elim long as (λ _. Read) [
+        → Holds (elim long as (λ _. ReadOutcome) [
           | true ↦ refusedRead TextTooLong scripts
           | false ↦ finished (length text) (walkFrom (length text) text 0 noDraft noOps) scripts
         ])
@@ -168,7 +168,7 @@ read-holds Holds text scripts broken walked = by-length (eqb (length scripts) sc
     by-size false fit = walked fit
 
     by-length : (fits : Bool) → eqb (length scripts) scriptsLength ≡ fits
-        → Holds (elim fits as (λ _. Read) [
+        → Holds (elim fits as (λ _. ReadOutcome) [
           | false ↦ refusedRead WrongLength scripts
           | true ↦
               elim (ltb 32_768 (length text)) [
@@ -184,12 +184,12 @@ walked-good : (text : List ℕ) → GoodOutcome (length noOps) (walkFrom (length
 walked-good text = walk-good (length text) text 0 noDraft noOps draft-first
 
 -- an accepted plan passes the check for 12
-pub accepted-possible : (text scripts : List ℕ) → readOf text scripts .verdict ≡ Accepted → planPossible (readOf text scripts .plan) ≡ true
-accepted-possible text scripts =
-    read-holds (λ read. read .verdict ≡ Accepted → planPossible (read .plan) ≡ true) text scripts
+pub accepted-valid : (text scripts : List ℕ) → readOf text scripts .verdict ≡ Accepted → planValid (readOf text scripts .plan) ≡ true
+accepted-valid text scripts =
+    read-holds (λ read. read .verdict ≡ Accepted → planValid (read .plan) ≡ true) text scripts
     (λ why e. absurd (not-refused why scripts e))
     (λ fit.
-    finished-possible (length noOps) (length text) (walkFrom (length text) text 0 noDraft noOps) scripts (walked-good text))
+    finished-valid (length noOps) (length text) (walkFrom (length text) text 0 noDraft noOps) scripts (walked-good text))
 
 -- the script store that a reading leaves is as long as the one that it was lent
 pub read-store : (text scripts : List ℕ) → length (readOf text scripts .scripts) ≡ length scripts
@@ -203,7 +203,7 @@ read-store text scripts =
     by-verdict Accepted draft store same = same
     by-verdict (Refused why) draft store same = refl
 
-    stored : (outcome : Outcome) → GoodOutcome (length noOps) outcome → length scripts ≡ scriptsLength
+    stored : (outcome : DraftOutcome) → GoodOutcome (length noOps) outcome → length scripts ≡ scriptsLength
         → length (finished (length text) outcome scripts .scripts) ≡ length scripts
     stored (refused why) good fit = refl
     stored (kept draft store) good fit =

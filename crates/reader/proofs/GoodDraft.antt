@@ -21,11 +21,11 @@ use Rattle.line.specs.declared.Line.{Line}
 use Rattle.plan.specs.Colours.{hasBit}
 use Rattle.refusal.specs.declared.Refusal.the-variants.{RepeatedOrMissing, TooMany}
 use Rattle.script.specs.Stored.{storedOf}
-use Rattle.taking.proofs.Choices.{same-or-not}
-use Rattle.taking.proofs.GoodList.{Noted, Recorded}
-use Rattle.text.proofs.Reached.{cond-holds}
+use Rattle.syntax.proofs.Choices.{same-or-not}
+use Rattle.syntax.proofs.GoodList.{Noted, Recorded}
+use Rattle.lexer.proofs.Reached.{cond-holds}
 use Rattle.reader.specs.declared.Draft.{Draft}
-use Rattle.reader.specs.Draft.{Outcome, kept, noDraft, planWithDomain, planWithPad, planWithRun, planWithWindow, refused, takeDomain, takeForm, takeLine, takeOp, takePad, takeRun, takeWindow, withPlan}
+use Rattle.reader.specs.Draft.{DraftOutcome, kept, noDraft, planWithDomain, planWithPad, planWithRun, planWithWindow, refused, takeDomain, takeForm, takeLine, takeOp, takePad, takeRun, takeWindow, withPlan}
 
 -- ---- domains
 
@@ -199,7 +199,7 @@ draft-first =
     }
 
 -- what is kept after a line is a good draft again, and a store as long as before
-abbrev pub GoodOutcome : ℕ → Outcome → Type 0
+abbrev pub GoodOutcome : ℕ → DraftOutcome → Type 0
 GoodOutcome size (refused refusal) = Unit {0}
 GoodOutcome size (kept draft store) = GoodDraft draft × (length store ≡ size)
 

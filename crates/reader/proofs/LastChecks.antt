@@ -16,13 +16,13 @@ use Rattle.plan.specs.Windows.{ticksTotal}
 use Rattle.refusal.specs.declared.Refusal.{Refusal}
 use Rattle.refusal.specs.declared.Verdict.{Verdict}
 use Rattle.refusal.specs.declared.Verdict.the-variants.{Accepted, Refused}
-use Rattle.taking.proofs.Choices.{same-or-not}
+use Rattle.syntax.proofs.Choices.{same-or-not}
 use Rattle.reader.specs.declared.Draft.{Draft}
-use Rattle.reader.specs.Final.{finalVerdict, firstColourless, firstPlace, firstUndeclared, lacking, planWithMasks}
+use Rattle.reader.specs.Final.{finalVerdict, firstColourless, firstOffset, firstUndeclared, lacking, planWithMasks}
 
 -- ---- the first undeclared recipient
 
-place-none : (a : ℕ) → firstPlace a 0 ≡ a
+place-none : (a : ℕ) → firstOffset a 0 ≡ a
 place-none a = go (eqb a 0) refl
   where
     go : (test : Bool) → eqb a 0 ≡ test → cond test 0 a ≡ a
@@ -30,7 +30,7 @@ place-none a = go (eqb a 0) refl
     go false e = refl
 
 module _ (named : List ℕ) (declared count found : ℕ) (so-far : found ≡ firstUndeclared named declared count) where
-  pub undeclared-next : declared ≤ count → firstPlace found (getD named count 0) ≡ firstUndeclared named declared (count + 1)
+  pub undeclared-next : declared ≤ count → firstOffset found (getD named count 0) ≡ firstUndeclared named declared (count + 1)
   unfolding firstUndeclared
   undeclared-next past = rw (add-one count, le-ltb count declared past, so-far)
 
@@ -39,7 +39,7 @@ module _ (named : List ℕ) (declared count found : ℕ) (so-far : found ≡ fir
   undeclared-same below = so-far ∙ rw (add-one count, lt-ltb count declared below) (sym (place-none (firstUndeclared named declared count)))
 
 -- there is none: neither of two places is one
-place-both : (a b : ℕ) → firstPlace a b ≡ 0 → (a ≡ 0) × (b ≡ 0)
+place-both : (a b : ℕ) → firstOffset a b ≡ 0 → (a ≡ 0) × (b ≡ 0)
 place-both a b none = go (eqb a 0) (eqb b 0) (leb a b) refl refl none
   where
     go : (first second less : Bool) → eqb a 0 ≡ first → eqb b 0 ≡ second → cond first b (cond second a (cond less a b)) ≡ 0 → (a ≡ 0) × (b ≡ 0)

@@ -19,13 +19,13 @@ use Rattle.refusal.specs.declared.Verdict.{Verdict}
 use Rattle.refusal.specs.declared.Verdict.the-variants.{Accepted, Refused}
 use Rattle.reader.proofs.GoodDraft.{GoodDraft, GoodOutcome, line-taken}
 use Rattle.reader.specs.declared.Draft.{Draft}
-use Rattle.reader.specs.Draft.{Outcome, kept, outcomeWith, refused, takeForm, takeLine}
-use Rattle.reader.specs.Read.{lineOf, walkFrom}
+use Rattle.reader.specs.Draft.{DraftOutcome, kept, outcomeWith, refused, takeForm, takeLine}
+use Rattle.reader.specs.Read.{draftLine, walkFrom}
 
 -- ---- a line that is taken up
 
 pub next-good : (text : List ℕ) (at : ℕ) (draft : Draft) → GoodDraft draft → at < length text
-    → GoodLine text (draft .plan .domains) (draft .named) at (lineOf text at draft)
+    → GoodLine text (draft .plan .domains) (draft .named) at (draftLine text at draft)
 next-good text at draft so-far below = line-good text (draft .plan .domains) (draft .named) at (so-far .domains .named-places) (omega arith)
 
 -- it reaches at least as far as it began
@@ -43,7 +43,7 @@ kept-reaches (RefusedForm refusal) declared bracket at end named marked draft ne
 -- ---- the walk
 
 -- what is left of the lines gives the whole, and enough turns are left to end it
-pub record LinesLeft (text : List ℕ) (at : ℕ) (draft : Draft) (store : List ℕ) (whole : Outcome) : Type 0 where
+pub record LinesLeft (text : List ℕ) (at : ℕ) (draft : Draft) (store : List ℕ) (whole : DraftOutcome) : Type 0 where
   pub lines : ℕ
   pub enough : length text ≤ at + lines
   pub same : walkFrom lines text at draft store ≡ whole
@@ -52,7 +52,7 @@ pub record LinesLeft (text : List ℕ) (at : ℕ) (draft : Draft) (store : List 
 pub lines-first : (text : List ℕ) (draft : Draft) (store : List ℕ) → GoodDraft draft → LinesLeft text 0 draft store (walkFrom (length text) text 0 draft store)
 lines-first text draft store good = record { lines = length text; enough = omega arith; same = refl; good = good }
 
-module _ (text : List ℕ) (at : ℕ) (draft : Draft) (store : List ℕ) (whole : Outcome) (left : LinesLeft text at draft store whole) where
+module _ (text : List ℕ) (at : ℕ) (draft : Draft) (store : List ℕ) (whole : DraftOutcome) (left : LinesLeft text at draft store whole) where
   pub lines-end : length text ≤ at → kept draft store ≡ whole
   unfolding walkFrom
   lines-end past = go (left .lines) (left .same)
@@ -61,7 +61,7 @@ module _ (text : List ℕ) (at : ℕ) (draft : Draft) (store : List ℕ) (whole 
       go zero same = same
       go (suc lines) same = rw (walkFrom, le-ltb at (length text) past) at same
 
-  pub lines-refused : (why : Refusal) → at < length text → takeLine (lineOf text at draft) draft store ≡ refused why → refused why ≡ whole
+  pub lines-refused : (why : Refusal) → at < length text → takeLine (draftLine text at draft) draft store ≡ refused why → refused why ≡ whole
   unfolding walkFrom
   lines-refused why below taken = go (left .lines) (left .enough) (left .same)
     where
@@ -71,22 +71,22 @@ module _ (text : List ℕ) (at : ℕ) (draft : Draft) (store : List ℕ) (whole 
 
   -- in a turn
   module _ (below : at < length text) where
-    fine : GoodLine text (draft .plan .domains) (draft .named) at (lineOf text at draft)
+    fine : GoodLine text (draft .plan .domains) (draft .named) at (draftLine text at draft)
     fine = next-good text at draft (left .good) below
 
-    pub lines-reach : (next : Draft) (filled : List ℕ) → takeLine (lineOf text at draft) draft store ≡ kept next filled → at ≤ lineOf text at draft .end
+    pub lines-reach : (next : Draft) (filled : List ℕ) → takeLine (draftLine text at draft) draft store ≡ kept next filled → at ≤ draftLine text at draft .end
     unfolding takeLine
     lines-reach next filled taken =
-        let line = lineOf text at draft in
+        let line = draftLine text at draft in
         kept-reaches (line .form) _ (line .bracket) at (line .end) (draft .named) (line .named) draft next store filled (fine .form) taken
 
-    pub lines-next : (next : Draft) (filled : List ℕ) → takeLine (lineOf text at draft) draft store ≡ kept next filled
-        → LinesLeft text (lineOf text at draft .end + 1) next filled whole
+    pub lines-next : (next : Draft) (filled : List ℕ) → takeLine (draftLine text at draft) draft store ≡ kept next filled
+        → LinesLeft text (draftLine text at draft .end + 1) next filled whole
     unfolding walkFrom
     lines-next next filled taken = go (left .lines) (left .enough) (left .same)
       where
         line : Line
-        line = lineOf text at draft
+        line = draftLine text at draft
 
         after : GoodDraft next
         after = subst (GoodOutcome (length store)) taken (line-taken draft store (left .good) text at line fine) .0
@@ -106,14 +106,14 @@ pub walk-good : (lines : ℕ) (text : List ℕ) (at : ℕ) (draft : Draft) (stor
 unfolding walkFrom
 walk-good zero text at draft store good = (good, refl)
 walk-good (suc lines) text at draft store good =
-    by-end (ltb at (length text)) refl (walk-good lines text (lineOf text at draft .end + 1))
+    by-end (ltb at (length text)) refl (walk-good lines text (draftLine text at draft .end + 1))
   where
     Again : Type 0
-    Again = (next : Draft) (filled : List ℕ) → GoodDraft next → GoodOutcome (length filled) (walkFrom lines text (lineOf text at draft .end + 1) next filled)
+    Again = (next : Draft) (filled : List ℕ) → GoodDraft next → GoodOutcome (length filled) (walkFrom lines text (draftLine text at draft .end + 1) next filled)
 
-    by-line : (taken : Outcome) → GoodOutcome (length store) taken → Again
+    by-line : (taken : DraftOutcome) → GoodOutcome (length store) taken → Again
         → GoodOutcome (length store)
-        (elim taken [ refused refusal ↦ refused refusal | kept next filled ↦ walkFrom lines text (lineOf text at draft .end + 1) next filled ])
+        (elim taken [ refused refusal ↦ refused refusal | kept next filled ↦ walkFrom lines text (draftLine text at draft .end + 1) next filled ])
     by-line (refused refusal) h again = tt
     by-line (kept next filled) h again = rw (← h .1) (again next filled (h .0))
 
@@ -121,21 +121,21 @@ walk-good (suc lines) text at draft store good =
         → GoodOutcome (length store)
         (elim test [
           | true ↦
-              elim (takeLine (lineOf text at draft) draft store) [
+              elim (takeLine (draftLine text at draft) draft store) [
                 | refused refusal ↦ refused refusal
-                | kept next filled ↦ walkFrom lines text (lineOf text at draft .end + 1) next filled
+                | kept next filled ↦ walkFrom lines text (draftLine text at draft .end + 1) next filled
               ]
           | false ↦ kept draft store
         ])
     by-end true e again =
-        by-line (takeLine (lineOf text at draft) draft store)
-        (line-taken draft store good text at (lineOf text at draft) (next-good text at draft good (ltb-true _ _ e))) again
+        by-line (takeLine (draftLine text at draft) draft store)
+        (line-taken draft store good text at (draftLine text at draft) (next-good text at draft good (ltb-true _ _ e))) again
     by-end false e again = (good, refl)
 
 -- ---- a turn, by what its line and its verdict are known to be
 
-module _ (text : List ℕ) (at : ℕ) (draft : Draft) (store : List ℕ) (whole : Outcome) (left : LinesLeft text at draft store whole)
-    (below : at < length text) (line : Line) (is : line ≡ lineOf text at draft) where
+module _ (text : List ℕ) (at : ℕ) (draft : Draft) (store : List ℕ) (whole : DraftOutcome) (left : LinesLeft text at draft store whole)
+    (below : at < length text) (line : Line) (is : line ≡ draftLine text at draft) where
   good-line : GoodLine text (draft .plan .domains) (draft .named) at line
   good-line = rw is (next-good text at draft (left .good) below)
 
@@ -156,10 +156,10 @@ module _ (text : List ℕ) (at : ℕ) (draft : Draft) (store : List ℕ) (whole 
     pub turn-refused : (why : Refusal) → verdict ≡ Refused why → outcomeWith verdict next filled ≡ whole
     turn-refused why known =
         let shown : outcomeWith verdict next filled ≡ refused why = ap (λ (v : Verdict). outcomeWith v next filled) known in
-        let here : takeLine (lineOf text at draft) draft store ≡ refused why = ap (λ (l : Line). takeLine l draft store) (sym is) ∙ sym taken ∙ shown in
+        let here : takeLine (draftLine text at draft) draft store ≡ refused why = ap (λ (l : Line). takeLine l draft store) (sym is) ∙ sym taken ∙ shown in
         shown ∙ lines-refused text at draft store whole left why below here
 
-    accepted : verdict ≡ Accepted → takeLine (lineOf text at draft) draft store ≡ kept next filled
+    accepted : verdict ≡ Accepted → takeLine (draftLine text at draft) draft store ≡ kept next filled
     accepted known = ap (λ (l : Line). takeLine l draft store) (sym is) ∙ sym taken ∙ ap (λ (v : Verdict). outcomeWith v next filled) known
 
     pub turn-reach : verdict ≡ Accepted → at ≤ line .end

@@ -15,17 +15,17 @@ use Rattle.reader.proofs.Walking.{walk-good}
 use Rattle.reader.specs.declared.Draft.{Draft}
 use Rattle.reader.specs.Draft.{kept, noDraft, noOps, outcomeWith}
 use Rattle.reader.specs.Final.{finalVerdict, planWithMasks}
-use Rattle.reader.specs.Read.{Read, finished, judged, readOf, refusedRead, walkFrom}
+use Rattle.reader.specs.Read.{ReadOutcome, finished, judged, readOf, refusedRead, walkFrom}
 
 -- an answer that is the definition's, part by part
-abbrev pub Answers : Read → Verdict → Plan → List ℕ → Type 0
+abbrev pub Answers : ReadOutcome → Verdict → Plan → List ℕ → Type 0
 Answers answer verdict plan scripts = (verdict ≡ answer .verdict) × (plan ≡ answer .plan) × (scripts ≡ answer .scripts)
 
-answers-refused : (answer : Read) (why : Refusal) (scripts : List ℕ) (verdict : Verdict) (plan : Plan) → answer ≡ refusedRead why scripts
+answers-refused : (answer : ReadOutcome) (why : Refusal) (scripts : List ℕ) (verdict : Verdict) (plan : Plan) → answer ≡ refusedRead why scripts
     → verdict ≡ Refused why → plan ≡ noPlan → Answers answer verdict plan scripts
 unfolding refusedRead
 answers-refused answer why scripts verdict plan is v p =
-    (v ∙ ap (λ (r : Read). r .verdict) (sym is), p ∙ ap (λ (r : Read). r .plan) (sym is), ap (λ (r : Read). r .scripts) (sym is))
+    (v ∙ ap (λ (r : ReadOutcome). r .verdict) (sym is), p ∙ ap (λ (r : ReadOutcome). r .plan) (sym is), ap (λ (r : ReadOutcome). r .scripts) (sym is))
 
 module _ (text scripts : List ℕ) where
   -- ---- 11, then 1
@@ -78,4 +78,4 @@ module _ (text scripts : List ℕ) where
               → plan ≡ planWithMasks (draft .plan) → filled ≡ store → Answers (readOf text scripts) answer plan filled
           read-accepted answer plan filled known v p s =
               let is = read-judged ∙ ap (λ (v : Verdict). judged v draft store scripts) (sym final ∙ known) in
-              (v ∙ ap (λ (r : Read). r .verdict) (sym is), p ∙ ap (λ (r : Read). r .plan) (sym is), s ∙ ap (λ (r : Read). r .scripts) (sym is))
+              (v ∙ ap (λ (r : ReadOutcome). r .verdict) (sym is), p ∙ ap (λ (r : ReadOutcome). r .plan) (sym is), s ∙ ap (λ (r : ReadOutcome). r .scripts) (sym is))

@@ -30,12 +30,12 @@ unfoldable pub noOps : List ℕ
 noOps = replicate scriptsLength 0
 
 -- the lines read so far gave a draft and a store, or were refused
-pub data Outcome : Type 0 where
-  refused : Refusal → Outcome
-  kept : Draft → List ℕ → Outcome
+pub data DraftOutcome : Type 0 where
+  refused : Refusal → DraftOutcome
+  kept : Draft → List ℕ → DraftOutcome
 
 -- the outcome of a verdict, with the draft and the store beside it
-abbrev pub outcomeWith : Verdict → Draft → List ℕ → Outcome
+abbrev pub outcomeWith : Verdict → Draft → List ℕ → DraftOutcome
 outcomeWith Accepted draft store = kept draft store
 outcomeWith (Refused refusal) draft store = refused refusal
 
@@ -108,27 +108,27 @@ planWithWindow plan line =
 -- ---- what each form adds, or 5 or 10 with the line's bracket
 
 -- a second pad gives 5; its limits keep it above 0, so 0 is none yet
-unfoldable pub takePad : ℕ → ℕ → Draft → List ℕ → Outcome
+unfoldable pub takePad : ℕ → ℕ → Draft → List ℕ → DraftOutcome
 takePad ticks bracket draft store =
     cond (eqb (draft .plan .pad) 0) (kept (withPlan draft (planWithPad (draft .plan) ticks)) store) (refused (RepeatedOrMissing bracket))
 
 -- the same of a run
-unfoldable pub takeRun : ℕ → ℕ → Draft → List ℕ → Outcome
+unfoldable pub takeRun : ℕ → ℕ → Draft → List ℕ → DraftOutcome
 takeRun times bracket draft store =
     cond (eqb (draft .plan .run) 0) (kept (withPlan draft (planWithRun (draft .plan) times)) store) (refused (RepeatedOrMissing bracket))
 
 -- a domain line always fits: its number was the next one
-unfoldable pub takeDomain : DomainLine → List ℕ → Draft → List ℕ → Outcome
+unfoldable pub takeDomain : DomainLine → List ℕ → Draft → List ℕ → DraftOutcome
 takeDomain line named draft store =
     kept (record { plan = planWithDomain (draft .plan) line; counts = draft .counts; named = named }) store
 
 -- a window past the most gives 10
-unfoldable pub takeWindow : WindowLine → ℕ → Draft → List ℕ → Outcome
+unfoldable pub takeWindow : WindowLine → ℕ → Draft → List ℕ → DraftOutcome
 takeWindow line bracket draft store =
     cond (leb mostWindows (draft .plan .windows)) (refused (TooMany bracket)) (kept (withPlan draft (planWithWindow (draft .plan) line)) store)
 
 -- an op past the most of its domain gives 10; the others stand in the domain's part of the store, in the order read
-unfoldable pub takeOp : OpLine → ℕ → Draft → List ℕ → Outcome
+unfoldable pub takeOp : OpLine → ℕ → Draft → List ℕ → DraftOutcome
 takeOp line bracket draft store =
     let place = getD (draft .counts) (line .domain) 0 in
     cond (leb mostOps place) (refused (TooMany bracket))
@@ -136,7 +136,7 @@ takeOp line bracket draft store =
     (set store (mostOps * line .domain + place) (storedOf (line .op))))
 
 -- a form is taken up by its kind; a line without a token adds nothing
-abbrev pub takeForm : Form → ℕ → List ℕ → Draft → List ℕ → Outcome
+abbrev pub takeForm : Form → ℕ → List ℕ → Draft → List ℕ → DraftOutcome
 takeForm Blank bracket named draft store = kept draft store
 takeForm (Pad ticks) bracket named draft store = takePad ticks bracket draft store
 takeForm (Run times) bracket named draft store = takeRun times bracket draft store
@@ -146,5 +146,5 @@ takeForm (Op line) bracket named draft store = takeOp line bracket draft store
 takeForm (RefusedForm refusal) bracket named draft store = refused refusal
 
 -- a line is taken up by its form
-unfoldable pub takeLine : Line → Draft → List ℕ → Outcome
+unfoldable pub takeLine : Line → Draft → List ℕ → DraftOutcome
 takeLine line draft store = takeForm (line .form) (line .bracket) (line .named) draft store

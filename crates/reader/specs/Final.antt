@@ -18,14 +18,14 @@ unfoldable pub lacking : Plan → Bool
 lacking plan = eqb (plan .pad) 0 || eqb (plan .domains) 0 || eqb (plan .windows) 0 || eqb (plan .run) 0
 
 -- the lesser of two places, each an offset plus one, or 0 for none
-abbrev pub firstPlace : ℕ → ℕ → ℕ
-firstPlace a b = cond (eqb a 0) b (cond (eqb b 0) a (cond (leb a b) a b))
+abbrev pub firstOffset : ℕ → ℕ → ℕ
+firstOffset a b = cond (eqb a 0) b (cond (eqb b 0) a (cond (leb a b) a b))
 
 -- 4: where the text first names, as a recipient, one of the first `count` domains that is not declared; an offset plus one, or 0 for none
 unfoldable pub firstUndeclared : List ℕ → ℕ → ℕ → ℕ
 firstUndeclared named declared zero = 0
 firstUndeclared named declared (suc count) =
-    firstPlace (firstUndeclared named declared count) (cond (ltb count declared) 0 (getD named count 0))
+    firstOffset (firstUndeclared named declared count) (cond (ltb count declared) 0 (getD named count 0))
 
 -- 6: the lowest of the domains from `domain` on, `left` in number, whose share gives no colour; past the last where each gives one
 unfoldable pub firstColourless : Plan → ℕ → ℕ → ℕ

@@ -1,5 +1,5 @@
 // What a good line adds to the plan and the scripts; at a line's end 5 and 10.
-use crate::Added;
+use crate::DraftResult;
 use crate::Draft;
 use forms::DomainLine;
 use forms::Form;
@@ -86,49 +86,49 @@ fn plan_with_window(mut plan: Plan, line: WindowLine) -> Plan
 }
 
 // A second pad is refused.
-fn take_pad(ticks: u32, bracket: usize, draft: Draft) -> Added
+fn take_pad(ticks: u32, bracket: usize, draft: Draft) -> DraftResult
     ensures { λ r. ⌜ ((store : List ℕ) → outcomeWith (r .verdict) (r .draft) store ≡ takePad ticks bracket draft store) ⌝ }
 {
     let plan = draft.plan;
     if plan.pad != 0 {
-        return Added {
+        return DraftResult {
             verdict: Verdict::Refused(Refusal::RepeatedOrMissing(bracket)),
             draft,
         };
     }
     let fuller = with_plan(draft, plan_with_pad(plan, ticks));
-    Added {
+    DraftResult {
         verdict: Verdict::Accepted,
         draft: fuller,
     }
 }
 
 // A second run is refused.
-fn take_run(times: u32, bracket: usize, draft: Draft) -> Added
+fn take_run(times: u32, bracket: usize, draft: Draft) -> DraftResult
     ensures { λ r. ⌜ ((store : List ℕ) → outcomeWith (r .verdict) (r .draft) store ≡ takeRun times bracket draft store) ⌝ }
 {
     let plan = draft.plan;
     if plan.run != 0 {
-        return Added {
+        return DraftResult {
             verdict: Verdict::Refused(Refusal::RepeatedOrMissing(bracket)),
             draft,
         };
     }
     let fuller = with_plan(draft, plan_with_run(plan, times));
-    Added {
+    DraftResult {
         verdict: Verdict::Accepted,
         draft: fuller,
     }
 }
 
 // A domain line always fits: its number was the next one.
-fn take_domain(line: DomainLine, named: [usize; 8], draft: Draft) -> Added
+fn take_domain(line: DomainLine, named: [usize; 8], draft: Draft) -> DraftResult
     requires { ⌜ draft .plan .domains < 8 ⌝ }
     ensures { λ r. ⌜ ((store : List ℕ) → outcomeWith (r .verdict) (r .draft) store ≡ takeDomain line named draft store) ⌝ }
 {
     let plan = plan_with_domain(draft.plan, line);
     let counts = draft.counts;
-    Added {
+    DraftResult {
         verdict: Verdict::Accepted,
         draft: Draft {
             plan,
@@ -139,25 +139,25 @@ fn take_domain(line: DomainLine, named: [usize; 8], draft: Draft) -> Added
 }
 
 // The 33rd window is refused.
-fn take_window(line: WindowLine, bracket: usize, draft: Draft) -> Added
+fn take_window(line: WindowLine, bracket: usize, draft: Draft) -> DraftResult
     ensures { λ r. ⌜ ((store : List ℕ) → outcomeWith (r .verdict) (r .draft) store ≡ takeWindow line bracket draft store) ⌝ }
 {
     let plan = draft.plan;
     if MOST_WINDOWS <= plan.windows {
-        return Added {
+        return DraftResult {
             verdict: Verdict::Refused(Refusal::TooMany(bracket)),
             draft,
         };
     }
     let fuller = with_plan(draft, plan_with_window(plan, line));
-    Added {
+    DraftResult {
         verdict: Verdict::Accepted,
         draft: fuller,
     }
 }
 
 // A domain's 257th op is refused.
-fn take_op(line: OpLine, bracket: usize, draft: Draft, store: &mut [u32; 2048]) -> Added
+fn take_op(line: OpLine, bracket: usize, draft: Draft, store: &mut [u32; 2048]) -> DraftResult
     requires { ⌜ line .domain < 8 ⌝ }
     ensures { λ r. ⌜ outcomeWith (r .verdict) (r .draft) (now (store .exit)) ≡ takeOp line bracket draft (now (store .entry)) ⌝ }
 {
@@ -166,7 +166,7 @@ fn take_op(line: OpLine, bracket: usize, draft: Draft, store: &mut [u32; 2048]) 
     let mut counts = draft.counts;
     let place = counts[domain];
     if MOST_OPS <= place {
-        return Added {
+        return DraftResult {
             verdict: Verdict::Refused(Refusal::TooMany(bracket)),
             draft,
         };
@@ -175,7 +175,7 @@ fn take_op(line: OpLine, bracket: usize, draft: Draft, store: &mut [u32; 2048]) 
     counts[domain] = place + 1;
     let plan = draft.plan;
     let named = draft.named;
-    Added {
+    DraftResult {
         verdict: Verdict::Accepted,
         draft: Draft {
             plan,
@@ -186,7 +186,7 @@ fn take_op(line: OpLine, bracket: usize, draft: Draft, store: &mut [u32; 2048]) 
 }
 
 // A line is taken up: its form says what it adds. Beside a refusal the contract leaves draft and store free, and nobody reads them there.
-pub fn take_line(line: Line, draft: Draft, store: &mut [u32; 2048]) -> Added
+pub fn take_line(line: Line, draft: Draft, store: &mut [u32; 2048]) -> DraftResult
     requires { ⌜ ((domain : DomainLine) → line .form ≡ Domain domain → draft .plan .domains < 8)
         × ((op : OpLine) → line .form ≡ Op op → op .domain < 8) ⌝ }
     ensures { λ r. ⌜ outcomeWith (r .verdict) (r .draft) (now (store .exit)) ≡ takeLine line draft (now (store .entry)) ⌝ }
@@ -195,7 +195,7 @@ pub fn take_line(line: Line, draft: Draft, store: &mut [u32; 2048]) -> Added
     let bracket = line.bracket;
     let named = line.named;
     match form {
-        Form::Blank => Added {
+        Form::Blank => DraftResult {
             verdict: Verdict::Accepted,
             draft,
         },
@@ -204,7 +204,7 @@ pub fn take_line(line: Line, draft: Draft, store: &mut [u32; 2048]) -> Added
         Form::Domain(domain) => take_domain(domain, named, draft),
         Form::Window(window) => take_window(window, bracket, draft),
         Form::Op(op) => take_op(op, bracket, draft, store),
-        Form::Refused(refusal) => Added {
+        Form::Refused(refusal) => DraftResult {
             verdict: Verdict::Refused(refusal),
             draft,
         },

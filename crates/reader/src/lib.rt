@@ -1,10 +1,10 @@
 // The plan reader: from a text to a plan and the scripts, or a refusal with its place.
 mod drafting;
-mod last;
+mod final_checks;
 mod walk;
 
-use last::final_verdict;
-use last::plan_with_masks;
+use final_checks::final_verdict;
+use final_checks::plan_with_masks;
 use plan::Plan;
 use plan::no_plan;
 use refusal::Refusal;
@@ -26,23 +26,23 @@ pub struct Draft {
 }
 
 // What lines add: that they were taken up, and the draft with them; or the refusal. Beside a refusal the draft may be any: nobody reads it.
-pub struct Added {
+pub struct DraftResult {
     pub verdict: Verdict,
     pub draft: Draft,
 }
 
 // What reading answers, beside the script store.
-pub struct Reading {
+pub struct ReadResult {
     pub verdict: Verdict,
     pub plan: Plan,
 }
 
 // The plan beside a refusal is all zeros.
-fn refused_reading(refusal: Refusal) -> Reading
+fn refused_reading(refusal: Refusal) -> ReadResult
     ensures { λ r. ⌜ (r .verdict ≡ Verdict.Refused refusal) × (r .plan ≡ noPlan) ⌝ }
 {
     let plan = no_plan();
-    Reading {
+    ReadResult {
         verdict: Verdict::Refused(refusal),
         plan,
     }
@@ -50,7 +50,7 @@ fn refused_reading(refusal: Refusal) -> Reading
 
 // A plan text is read: the plan, with its scripts in the store lent, or a refusal. The store is written only once every check has
 // passed.
-pub fn read_plan(text: &[u8], scripts: &mut [u32]) -> Reading
+pub fn read_plan(text: &[u8], scripts: &mut [u32]) -> ReadResult
     ensures { λ r. ⌜ (r .verdict ≡ readOf (now (text .entry)) (now (scripts .entry)) .verdict)
         × (r .plan ≡ readOf (now (text .entry)) (now (scripts .entry)) .plan)
         × (now (scripts .exit) ≡ readOf (now (text .entry)) (now (scripts .entry)) .scripts) ⌝ }
@@ -74,7 +74,7 @@ pub fn read_plan(text: &[u8], scripts: &mut [u32]) -> Reading
     }
     hand_over(&store, scripts);
     let plan = plan_with_masks(draft.plan);
-    Reading {
+    ReadResult {
         verdict: Verdict::Accepted,
         plan,
     }

@@ -1,5 +1,5 @@
 // The lines of a text, each taken up as it is read.
-use crate::Added;
+use crate::DraftResult;
 use crate::drafting::no_draft;
 use crate::drafting::take_line;
 use line::line_at;
@@ -11,7 +11,7 @@ ghost use Rattle.reader.specs.Read.{walkFrom};
 
 // Every line is taken up in turn, or the first refusal is handed on; beside it draft and store are left free as at `take_line`: `read_plan` drops
 // both.
-pub fn walk(text: &[u8], store: &mut [u32; 2048]) -> Added
+pub fn walk(text: &[u8], store: &mut [u32; 2048]) -> DraftResult
     ensures { λ r. ⌜ outcomeWith (r .verdict) (r .draft) (now (store .exit))
         ≡ walkFrom (length (now (text .entry))) (now (text .entry)) 0 noDraft (now (store .entry)) ⌝ }
 {
@@ -30,7 +30,7 @@ pub fn walk(text: &[u8], store: &mut [u32; 2048]) -> Added
         draft = next;
         at = line.end + 1;
     }
-    Added {
+    DraftResult {
         verdict: Verdict::Accepted,
         draft,
     }

@@ -4,44 +4,44 @@ use mathlib.Core.List.{List, [], _∷_}
 use lib.Seq.{sets}
 use Rattle.lists.specs.Part.{part}
 use Rattle.plan.specs.declared.Plan.{Plan}
-use Rattle.records.specs.declared.Seen.{Seen}
-use Rattle.records.specs.declared.Seen.the-variants.{Hit1, Hit2, Miss, Sent, Got, Empty, Denied, Ran, Barred}
+use Rattle.records.specs.declared.Observation.{Observation}
+use Rattle.records.specs.declared.Observation.the-variants.{Hit1, Hit2, Miss, Sent, Got, Empty, Denied, Ran, Barred}
 
 -- each kind of record has a number, 1 to 9
-abbrev pub kindOf : Seen → ℕ
-kindOf (Hit1 line) = 1
-kindOf (Hit2 line) = 2
-kindOf (Miss line) = 3
-kindOf (Sent recipient) = 4
-kindOf (Got word) = 5
-kindOf (Empty sender) = 6
-kindOf (Denied other) = 7
-kindOf (Ran ticks) = 8
-kindOf (Barred line) = 9
+abbrev pub recordKind : Observation → ℕ
+recordKind (Hit1 line) = 1
+recordKind (Hit2 line) = 2
+recordKind (Miss line) = 3
+recordKind (Sent recipient) = 4
+recordKind (Got word) = 5
+recordKind (Empty sender) = 6
+recordKind (Denied other) = 7
+recordKind (Ran ticks) = 8
+recordKind (Barred line) = 9
 
 -- a record's value: the line that was asked for, the recipient, the word, the other domain of an empty box or of a denied op, or the ticks
-abbrev pub valueOf : Seen → ℕ
-valueOf (Hit1 line) = line
-valueOf (Hit2 line) = line
-valueOf (Miss line) = line
-valueOf (Sent recipient) = recipient
-valueOf (Got word) = word
-valueOf (Empty sender) = sender
-valueOf (Denied other) = other
-valueOf (Ran ticks) = ticks
-valueOf (Barred line) = line
+abbrev pub recordValue : Observation → ℕ
+recordValue (Hit1 line) = line
+recordValue (Hit2 line) = line
+recordValue (Miss line) = line
+recordValue (Sent recipient) = recipient
+recordValue (Got word) = word
+recordValue (Empty sender) = sender
+recordValue (Denied other) = other
+recordValue (Ran ticks) = ticks
+recordValue (Barred line) = line
 
 -- the byte of a number at a place, little end first
 abbrev pub byteOf : ℕ → ℕ → ℕ
 byteOf unit number = number / unit % 256
 
 -- a record's eight bytes: one for the kind, one that is 0, two for the value, four for the clock once the op is done; low bytes come first
-unfoldable pub recordBytes : Seen → ℕ → List ℕ
+unfoldable pub recordBytes : Observation → ℕ → List ℕ
 recordBytes seen clock =
-    kindOf seen
+    recordKind seen
     ∷ 0
-    ∷ byteOf 1 (valueOf seen)
-    ∷ byteOf 256 (valueOf seen)
+    ∷ byteOf 1 (recordValue seen)
+    ∷ byteOf 256 (recordValue seen)
     ∷ byteOf 1 clock
     ∷ byteOf 256 clock
     ∷ byteOf 65_536 clock
@@ -57,13 +57,13 @@ unfoldable pub partRecords : Plan → ℕ → ℕ
 partRecords plan logLength = logLength / (recordSize * plan .domains)
 
 -- the parts follow each other in domain order: the place of a domain's record, by its number
-abbrev pub recordPlace : ℕ → ℕ → ℕ → ℕ
-recordPlace quota domain number = recordSize * (quota * domain + number)
+abbrev pub recordIndex : ℕ → ℕ → ℕ → ℕ
+recordIndex quota domain number = recordSize * (quota * domain + number)
 
--- the log with one record stored
-unfoldable pub stored : ℕ → ℕ → ℕ → Seen → ℕ → List ℕ → List ℕ
-stored quota domain number seen clock log = sets log (recordPlace quota domain number) (recordBytes seen clock)
+-- the log with one record recordStored
+unfoldable pub recordStored : ℕ → ℕ → ℕ → Observation → ℕ → List ℕ → List ℕ
+recordStored quota domain number seen clock log = sets log (recordIndex quota domain number) (recordBytes seen clock)
 
 -- a domain's own log: the bytes of the records that it has so far, from the start of its part
 unfoldable pub logPart : ℕ → ℕ → ℕ → List ℕ → List ℕ
-logPart quota domain count log = part (recordPlace quota domain 0) (recordSize * count) log
+logPart quota domain count log = part (recordIndex quota domain 0) (recordSize * count) log

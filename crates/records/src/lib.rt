@@ -4,10 +4,10 @@ ghost use Prim.Native.Nat.{_+_, _*_, _≤_, _<_};
 ghost use lib.ListN.{length};
 ghost use lib.Seq.{sets};
 ghost use Rattle.plan.specs.declared.Plan.{Plan};
-ghost use Rattle.records.specs.Records.{kindOf, partRecords, recordBytes, stored, valueOf};
+ghost use Rattle.records.specs.Records.{recordKind, partRecords, recordBytes, recordStored, recordValue};
 
 // What an op shows the domain that runs it, with the value that its record keeps.
-pub enum Seen {
+pub enum Observation {
     Hit1(u16),
     Hit2(u16),
     Miss(u16),
@@ -20,46 +20,46 @@ pub enum Seen {
 }
 
 // A record's kind.
-pub fn kind_of(seen: Seen) -> u8
-    ensures { λ r. ⌜ r ≡ kindOf seen ⌝ }
+pub fn record_kind(seen: Observation) -> u8
+    ensures { λ r. ⌜ r ≡ recordKind seen ⌝ }
 {
     match seen {
-        Seen::Hit1(_) => 1,
-        Seen::Hit2(_) => 2,
-        Seen::Miss(_) => 3,
-        Seen::Sent(_) => 4,
-        Seen::Got(_) => 5,
-        Seen::Empty(_) => 6,
-        Seen::Denied(_) => 7,
-        Seen::Ran(_) => 8,
-        Seen::Barred(_) => 9,
+        Observation::Hit1(_) => 1,
+        Observation::Hit2(_) => 2,
+        Observation::Miss(_) => 3,
+        Observation::Sent(_) => 4,
+        Observation::Got(_) => 5,
+        Observation::Empty(_) => 6,
+        Observation::Denied(_) => 7,
+        Observation::Ran(_) => 8,
+        Observation::Barred(_) => 9,
     }
 }
 
 // A record's value.
-pub fn value_of(seen: Seen) -> u32
-    ensures { λ r. ⌜ r ≡ valueOf seen ⌝ }
+pub fn record_value(seen: Observation) -> u32
+    ensures { λ r. ⌜ r ≡ recordValue seen ⌝ }
 {
     match seen {
-        Seen::Hit1(line) => line as u32,
-        Seen::Hit2(line) => line as u32,
-        Seen::Miss(line) => line as u32,
-        Seen::Sent(recipient) => recipient as u32,
-        Seen::Got(word) => word,
-        Seen::Empty(sender) => sender as u32,
-        Seen::Denied(other) => other as u32,
-        Seen::Ran(ticks) => ticks as u32,
-        Seen::Barred(line) => line as u32,
+        Observation::Hit1(line) => line as u32,
+        Observation::Hit2(line) => line as u32,
+        Observation::Miss(line) => line as u32,
+        Observation::Sent(recipient) => recipient as u32,
+        Observation::Got(word) => word,
+        Observation::Empty(sender) => sender as u32,
+        Observation::Denied(other) => other as u32,
+        Observation::Ran(ticks) => ticks as u32,
+        Observation::Barred(line) => line as u32,
     }
 }
 
 // Writes a record's eight bytes at a place of the log.
-fn write_record(log: &mut [u8], at: usize, seen: Seen, clock: u64)
+fn write_record(log: &mut [u8], at: usize, seen: Observation, clock: u64)
     requires { ⌜ at + 8 ≤ length (now log) ⌝ }
     ensures { λ _. ⌜ now (log .exit) ≡ sets (now (log .entry)) at (recordBytes seen clock) ⌝ }
 {
-    let value = value_of(seen);
-    log[at] = kind_of(seen);
+    let value = record_value(seen);
+    log[at] = record_kind(seen);
     log[at + 1] = 0;
     log[at + 2] = (value % 256) as u8;
     log[at + 3] = (value / 256 % 256) as u8;
@@ -70,9 +70,9 @@ fn write_record(log: &mut [u8], at: usize, seen: Seen, clock: u64)
 }
 
 // Stores a domain's record, by its number in the domain's part.
-pub fn store_record(log: &mut [u8], quota: u64, domain: u64, number: u64, seen: Seen, clock: u64)
+pub fn store_record(log: &mut [u8], quota: u64, domain: u64, number: u64, seen: Observation, clock: u64)
     requires { ⌜ 8 * (quota * domain + number) + 8 ≤ length (now log) ⌝ }
-    ensures { λ _. ⌜ now (log .exit) ≡ stored quota domain number seen clock (now (log .entry)) ⌝ }
+    ensures { λ _. ⌜ now (log .exit) ≡ recordStored quota domain number seen clock (now (log .entry)) ⌝ }
 {
     let at = 8 * (quota * domain + number);
     write_record(log, at as usize, seen, clock);

@@ -9,7 +9,7 @@ use Rattle.refusal.specs.declared.Verdict.{Verdict}
 use Rattle.refusal.specs.declared.Verdict.the-variants.{Accepted}
 use Rattle.reader.specs.Draft.{noOps}
 use Rattle.reader.specs.Read.{readOf}
-use Rattle.reader.proofs.Accepted.{accepted-possible, read-store}
+use Rattle.reader.proofs.Accepted.{accepted-valid, read-store}
 use Rattle.machine.specs.Fresh.{freshWorld}
 use Rattle.engine.specs.Running.{ranFrom, runCallOf, runFrom}
 use Rattle.engine.proofs.FreshRuns.{fresh-run-accepted, fresh-run-ends}
@@ -23,7 +23,7 @@ unfolding noOps runCallOf ranFrom
 planrun-ends text accepted =
     let plan = readOf text noOps .plan in
     let scripts = readOf text noOps .scripts in
-    let possible = accepted-possible text noOps accepted in
+    let possible = accepted-valid text noOps accepted in
     let store : length scripts ≡ scriptsLength = read-store text noOps ∙ length-replicate {A = ℕ} scriptsLength 0 in
     record {
       accepted =

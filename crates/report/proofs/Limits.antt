@@ -8,9 +8,9 @@ use native.Mathlib.Omega.{arith}
 use lib.Dec.{eqb}
 use lib.ListN.{length, length-append}
 use Rattle.lists.specs.Ascii.{bytesOf}
-use Rattle.text.specs.Decimal.{decimalOf}
-use Rattle.text.proofs.Decimals.{decimal-most}
-use Rattle.records.specs.Records.{recordPlace}
+use Rattle.lexer.specs.Decimal.{decimalOf}
+use Rattle.lexer.proofs.Decimals.{decimal-most}
+use Rattle.records.specs.Records.{recordIndex}
 use Rattle.state.specs.declared.State.{State}
 use Rattle.state.specs.World.{recordsAt}
 use Rattle.report.specs.Lines.{clockAt, domainLines, kindAt, kindWord, seenLine, seenLines, valueAt}
@@ -59,7 +59,7 @@ pub domain-limit : (quota domain : ℕ) (log : List ℕ) (count : ℕ) → lengt
 unfolding domainLines
 domain-limit quota domain log zero = omega arith
 domain-limit quota domain log (suc count) =
-    simp length-append (omega (arith, domain-limit quota domain log count, seen-limit domain (recordPlace quota domain count) log))
+    simp length-append (omega (arith, domain-limit quota domain log count, seen-limit domain (recordIndex quota domain count) log))
 
 -- the lines of the first domains
 pub domains-limit :

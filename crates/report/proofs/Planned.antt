@@ -12,7 +12,7 @@ use Rattle.reader.specs.Draft.{noOps}
 use Rattle.reader.specs.Read.{readOf}
 use Rattle.machine.specs.Fresh.{freshWorld}
 use Rattle.engine.specs.Running.{runCallOf}
-use Rattle.report.specs.Lines.{refusedLine}
+use Rattle.report.specs.Lines.{refusalLine}
 use Rattle.report.specs.Planrun.{largestLimit, lentLog, planrunOf, ranLines, readLines}
 
 module _ (text : List ℕ) where
@@ -20,10 +20,10 @@ module _ (text : List ℕ) where
       (refusal : Refusal) (code : Code)
       → Refused refusal ≡ readOf text noOps .verdict
       → code ≡ codeOf (Refused refusal)
-      → refusedLine code ≡ planrunOf text
+      → refusalLine code ≡ planrunOf text
   unfolding planrunOf
   planned-refused refusal code refused coded =
-      ap refusedLine coded ∙ ap (λ (verdict : Verdict). readLines verdict (readOf text noOps)) refused
+      ap refusalLine coded ∙ ap (λ (verdict : Verdict). readLines verdict (readOf text noOps)) refused
 
   pub planned-ran :
       (plan : Plan) (scripts : List ℕ)

@@ -8,9 +8,9 @@ use lib.ListN.{length}
 use lib.Seq.{sets}
 use Rattle.lists.specs.Ascii.{bytesOf}
 use Rattle.lists.proofs.Stores.{Wrote, wrote-both, wrote-first, wrote-three}
-use Rattle.text.specs.Decimal.{decimalOf}
+use Rattle.lexer.specs.Decimal.{decimalOf}
 use Rattle.plan.specs.declared.Plan.{Plan}
-use Rattle.records.specs.Records.{partRecords, recordPlace}
+use Rattle.records.specs.Records.{partRecords, recordIndex}
 use Rattle.state.specs.declared.State.{State}
 use Rattle.state.specs.World.{recordsAt}
 use Rattle.report.specs.Lines.{clockAt, domainLines, endLine, kindAt, kindWord, runLines, seenLine, seenLines, valueAt}
@@ -45,11 +45,11 @@ seen-written buffer log at domain place clock value clock-is value-is one two th
 pub domain-written :
     (buffer log : List ℕ) (at quota domain count : ℕ) {first second : List ℕ} {next end : ℕ}
     → Wrote buffer at (domainLines quota domain log count) first next
-    → Wrote first next (seenLine domain log (recordPlace quota domain count)) second end
+    → Wrote first next (seenLine domain log (recordIndex quota domain count)) second end
     → Wrote buffer at (domainLines quota domain log (count + 1)) second end
 unfolding domainLines
 domain-written buffer log at quota domain count one two =
-    rw (add-one count) (wrote-both buffer at (domainLines quota domain log count) (seenLine domain log (recordPlace quota domain count)) one two)
+    rw (add-one count) (wrote-both buffer at (domainLines quota domain log count) (seenLine domain log (recordIndex quota domain count)) one two)
 
 -- the records of the first domains, and of one more
 pub domains-written :

@@ -7,8 +7,8 @@ use lib.Dec.{eqb}
 use lib.ListN.{getD, length}
 use Rattle.lists.specs.Ascii.{bytesOf}
 use Rattle.plan.specs.declared.Plan.{Plan}
-use Rattle.text.specs.Decimal.{decimalOf}
-use Rattle.records.specs.Records.{partRecords, recordPlace}
+use Rattle.lexer.specs.Decimal.{decimalOf}
+use Rattle.records.specs.Records.{partRecords, recordIndex}
 use Rattle.state.specs.declared.State.{State}
 use Rattle.state.specs.World.{recordsAt}
 use Rattle.refusal.specs.declared.Code.{Code}
@@ -56,7 +56,7 @@ seenLine domain log place =
 unfoldable pub domainLines : ℕ → ℕ → List ℕ → ℕ → List ℕ
 domainLines quota domain log zero = []
 domainLines quota domain log (suc count) =
-    domainLines quota domain log count ++ seenLine domain log (recordPlace quota domain count)
+    domainLines quota domain log count ++ seenLine domain log (recordIndex quota domain count)
 
 -- the records of the first domains, in domain order
 unfoldable pub seenLines : ℕ → State → List ℕ → ℕ → List ℕ
@@ -73,5 +73,5 @@ unfoldable pub runLines : Plan → State → List ℕ → List ℕ
 runLines plan state log = seenLines (partRecords plan (length log)) state log (plan .domains) ++ endLine state
 
 -- (refused NUMBER COMPANION)
-unfoldable pub refusedLine : Code → List ℕ
-refusedLine code = bytesOf "(refused " ++ decimalOf (code .number) ++ bytesOf " " ++ decimalOf (code .companion) ++ bytesOf ")\n"
+unfoldable pub refusalLine : Code → List ℕ
+refusalLine code = bytesOf "(refused " ++ decimalOf (code .number) ++ bytesOf " " ++ decimalOf (code .companion) ++ bytesOf ")\n"

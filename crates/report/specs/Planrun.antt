@@ -9,11 +9,11 @@ use Rattle.refusal.specs.declared.Verdict.{Verdict}
 use Rattle.refusal.specs.declared.Verdict.the-variants.{Accepted, Refused}
 use Rattle.refusal.specs.Code.{refusalCode}
 use Rattle.reader.specs.Draft.{noOps}
-use Rattle.reader.specs.Read.{Read, readOf}
+use Rattle.reader.specs.Read.{ReadOutcome, readOf}
 use Rattle.machine.specs.Fresh.{freshWorld}
 use Rattle.engine.specs.declared.Ending.the-variants.{Ended}
-use Rattle.engine.specs.Running.{Run, runCallOf}
-use Rattle.report.specs.Lines.{refusedLine, runLines}
+use Rattle.engine.specs.Running.{RunOutcome, runCallOf}
+use Rattle.report.specs.Lines.{refusalLine, runLines}
 
 -- it lends a log of 16,384 bytes
 abbrev pub lentLog : List ℕ
@@ -24,7 +24,7 @@ abbrev pub largestLimit : ℕ
 largestLimit = 18_446_744_073_709_551_615
 
 -- the program's run of a plan and its scripts, from a fresh start
-abbrev pub planrunRun : Plan → List ℕ → Run
+abbrev pub planrunRun : Plan → List ℕ → RunOutcome
 planrunRun plan scripts = runCallOf plan scripts (freshWorld lentLog) largestLimit
 
 -- that run comes to its end: it is not refused, and it answers *ended*
@@ -37,9 +37,9 @@ unfoldable pub ranLines : Plan → World → List ℕ
 ranLines plan world = runLines plan (world .state) (world .log)
 
 -- what is printed after a reading, by its verdict: the lines of the run, or the refusal's
-abbrev pub readLines : Verdict → Read → List ℕ
+abbrev pub readLines : Verdict → ReadOutcome → List ℕ
 readLines Accepted read = ranLines (read .plan) (planrunRun (read .plan) (read .scripts) .world)
-readLines (Refused refusal) read = refusedLine (refusalCode refusal)
+readLines (Refused refusal) read = refusalLine (refusalCode refusal)
 
 -- from a plan's text to the printed lines
 unfoldable pub planrunOf : List ℕ → List ℕ

@@ -15,15 +15,15 @@ ghost use mathlib.Core.Bool.{true};
 ghost use Prim.Native.Nat.{ℕ, _+_, _*_, _^_, _<_, _≤_};
 ghost use lib.ListN.{length};
 ghost use lib.Seq.{sets};
-ghost use Rattle.plan.specs.Possible.{planPossible};
-ghost use Rattle.records.specs.Records.{partRecords, recordPlace};
-ghost use Rattle.state.specs.Impossible.{statePossible};
+ghost use Rattle.plan.specs.Validity.{planValid};
+ghost use Rattle.records.specs.Records.{partRecords, recordIndex};
+ghost use Rattle.state.specs.StateValidity.{stateValid};
 ghost use Rattle.state.specs.World.{recordsAt};
-ghost use Rattle.report.specs.Lines.{domainLines, refusedLine, runLines, seenLines};
+ghost use Rattle.report.specs.Lines.{domainLines, refusalLine, runLines, seenLines};
 
 // Writes the lines of a domain's first records.
 fn write_domain(out: &mut [u8], at: usize, log: &[u8], quota: u64, domain: u64, count: u64) -> usize
-    requires { ⌜ (at + 80 * count < 2 ^ 64) × (recordPlace quota domain count ≤ length (now log)) ⌝ }
+    requires { ⌜ (at + 80 * count < 2 ^ 64) × (recordIndex quota domain count ≤ length (now log)) ⌝ }
     ensures { λ r.
         ⌜ (r ≡ at + length (domainLines quota domain (now (log .entry)) count))
         × (now (out .exit) ≡ sets (now (out .entry)) at (domainLines quota domain (now (log .entry)) count)) ⌝ }
@@ -41,7 +41,7 @@ fn write_domain(out: &mut [u8], at: usize, log: &[u8], quota: u64, domain: u64, 
 // Writes the lines of the records of every declared domain.
 fn write_domains(out: &mut [u8], log: &[u8], quota: u64, state: State, domains: usize) -> usize
     requires { ⌜ (domains ≤ 8)
-        × (recordPlace quota domains 0 ≤ length (now log))
+        × (recordIndex quota domains 0 ≤ length (now log))
         × (length (now log) ≤ 2 ^ 32)
         × ((domain : ℕ) → domain < domains → recordsAt state domain ≤ quota) ⌝ }
     ensures { λ r.
@@ -59,8 +59,8 @@ fn write_domains(out: &mut [u8], log: &[u8], quota: u64, state: State, domains: 
 
 // Writes the lines of a run.
 pub fn write_run(plan: Plan, state: State, log: &[u8], out: &mut [u8]) -> usize
-    requires { ⌜ (planPossible plan ≡ true)
-        × (statePossible plan (partRecords plan (length (now log))) state ≡ true)
+    requires { ⌜ (planValid plan ≡ true)
+        × (stateValid plan (partRecords plan (length (now log))) state ≡ true)
         × (length (now log) ≤ 2 ^ 32) ⌝ }
     ensures { λ r.
         ⌜ (r ≡ length (runLines plan state (now (log .entry))))
@@ -74,8 +74,8 @@ pub fn write_run(plan: Plan, state: State, log: &[u8], out: &mut [u8]) -> usize
 // Writes the line of a refusal.
 pub fn write_refusal(code: Code, out: &mut [u8]) -> usize
     ensures { λ r.
-        ⌜ (r ≡ length (refusedLine code))
-        × (now (out .exit) ≡ sets (now (out .entry)) 0 (refusedLine code)) ⌝ }
+        ⌜ (r ≡ length (refusalLine code))
+        × (now (out .exit) ≡ sets (now (out .entry)) 0 (refusalLine code)) ⌝ }
 {
     write_pair(
         out,

@@ -2,15 +2,15 @@
 use crate::fields::clock_at;
 use crate::fields::value_at;
 use state::State;
-use text::decimal::write_bytes;
-use text::decimal::write_decimal;
+use lexer::decimal::write_bytes;
+use lexer::decimal::write_decimal;
 ghost use mathlib.Core.Path.{_≡_};
 ghost use mathlib.Core.List.{_++_};
 ghost use Prim.Native.Nat.{_+_, _^_, _<_, _≤_};
 ghost use lib.ListN.{length};
 ghost use lib.Seq.{sets};
 ghost use Rattle.lists.specs.Ascii.{bytesOf};
-ghost use Rattle.text.specs.Decimal.{decimalOf};
+ghost use Rattle.lexer.specs.Decimal.{decimalOf};
 ghost use Rattle.report.specs.Lines.{endLine, kindWord, seenLine};
 
 // Writes a word and a number behind it.

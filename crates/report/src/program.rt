@@ -12,14 +12,14 @@ ghost use mathlib.Core.Path.{_≡_};
 ghost use mathlib.Core.Bool.{true};
 ghost use lib.ListN.{length};
 ghost use lib.Seq.{sets};
-ghost use Rattle.plan.specs.Possible.{planPossible};
+ghost use Rattle.plan.specs.Validity.{planValid};
 ghost use Rattle.machine.specs.Fresh.{freshWorld};
 ghost use Rattle.engine.specs.Running.{runCallOf};
 ghost use Rattle.report.specs.Planrun.{largestLimit, lentLog, planrunOf, ranLines};
 
 // The lines of an accepted plan, run from a fresh start to its end.
 fn run_lines(plan: Plan, scripts: &[u32], out: &mut [u8]) -> usize
-    requires { ⌜ planPossible plan ≡ true ⌝ }
+    requires { ⌜ planValid plan ≡ true ⌝ }
     ensures { λ r. ⌜ (r ≡ length (ranLines plan (runCallOf plan (now (scripts .entry)) (freshWorld lentLog) largestLimit .world)))
         × (now (out .exit) ≡ sets (now (out .entry)) 0 (ranLines plan (runCallOf plan (now (scripts .entry)) (freshWorld lentLog) largestLimit .world))) ⌝ }
 {

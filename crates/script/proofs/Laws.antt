@@ -7,10 +7,10 @@ use lib.Dec.{eqb, leb}
 use borrow.Author.Tests.{eqb-true, leb-true, le-leb}
 use Rattle.script.specs.declared.Op.{Op}
 use Rattle.script.specs.declared.Op.the-variants.{Read, Write, Send, Receive, Compute}
-use Rattle.script.specs.declared.Fetched.{Fetched}
-use Rattle.script.specs.declared.Fetched.the-variants.{Op as Fetch, End}
+use Rattle.script.specs.declared.ScriptItem.{ScriptItem}
+use Rattle.script.specs.declared.ScriptItem.the-variants.{Op as Fetch, End}
 use Rattle.script.specs.Stored.{packed, storedOf}
-use Rattle.script.specs.Limits.{Within}
+use Rattle.script.specs.Limits.{OpWithinLimits}
 use Rattle.script.specs.Fetch.{decodeOf, kindPart, opOf, otherPart, valuePart}
 
 -- a compute's ticks fit a byte
@@ -27,8 +27,8 @@ decode-packed kind other value small fits =
     rw (kinds, others, values)
 
 -- an op within its limits is read back from its stored number
-pub decode-stored : (op : Op) → Within op → decodeOf (storedOf op) ≡ Fetch op
-unfolding Within storedOf opOf
+pub decode-stored : (op : Op) → OpWithinLimits op → decodeOf (storedOf op) ≡ Fetch op
+unfolding OpWithinLimits storedOf opOf
 decode-stored (Read line) within = rw (decode-packed 1 0 line (omega arith) within)
 decode-stored (Write line) within = rw (decode-packed 2 0 line (omega arith) within)
 decode-stored (Send recipient word) within = rw (decode-packed 3 recipient word (omega arith) (within .1), le-leb recipient 7 (within .0))
@@ -38,7 +38,7 @@ decode-stored (Compute ticks) within =
 
 -- what is so of both outcomes of a test is so of the choice
 choice :
-    (P : Fetched → Type 0) (test : Bool) (first second : Fetched)
+    (P : ScriptItem → Type 0) (test : Bool) (first second : ScriptItem)
     → (test ≡ true → P first)
     → P second
     → P (cond test first second)
@@ -46,31 +46,31 @@ choice P true first second here rest = here refl
 choice P false first second here rest = rest
 
 -- a decoded op is stored as its number, and is within its limits
-unfoldable Gives : ℕ → Fetched → Type 0
-Gives number (Fetch op) = (storedOf op ≡ number) × Within op
+unfoldable Gives : ℕ → ScriptItem → Type 0
+Gives number (Fetch op) = (storedOf op ≡ number) × OpWithinLimits op
 Gives number End = Unit {0}
 
 module _ (kind other value : ℕ) (fits : value ≤ 65_535) where
   read-gives : eqb kind 1 && eqb other 0 ≡ true → Gives (packed kind other value) (Fetch (Read value))
-  unfolding Gives storedOf Within
+  unfolding Gives storedOf OpWithinLimits
   read-gives tests =
       let parts = and-eq-true-iff (eqb kind 1) (eqb other 0) .0 tests in
       (omega (arith, eqb-true kind 1 (parts .0), eqb-true other 0 (parts .1)), fits)
 
   write-gives : eqb kind 2 && eqb other 0 ≡ true → Gives (packed kind other value) (Fetch (Write value))
-  unfolding Gives storedOf Within
+  unfolding Gives storedOf OpWithinLimits
   write-gives tests =
       let parts = and-eq-true-iff (eqb kind 2) (eqb other 0) .0 tests in
       (omega (arith, eqb-true kind 2 (parts .0), eqb-true other 0 (parts .1)), fits)
 
   send-gives : eqb kind 3 && leb other 7 ≡ true → Gives (packed kind other value) (Fetch (Send other value))
-  unfolding Gives storedOf Within
+  unfolding Gives storedOf OpWithinLimits
   send-gives tests =
       let parts = and-eq-true-iff (eqb kind 3) (leb other 7) .0 tests in
       (omega (arith, eqb-true kind 3 (parts .0)), (leb-true other 7 (parts .1), fits))
 
   receive-gives : eqb kind 4 && leb other 7 && eqb value 0 ≡ true → Gives (packed kind other value) (Fetch (Receive other))
-  unfolding Gives storedOf Within
+  unfolding Gives storedOf OpWithinLimits
   receive-gives tests =
       let parts = and-eq-true-iff (eqb kind 4 && leb other 7) (eqb value 0) .0 tests in
       let fronts = and-eq-true-iff (eqb kind 4) (leb other 7) .0 (parts .0) in
@@ -79,7 +79,7 @@ module _ (kind other value : ℕ) (fits : value ≤ 65_535) where
   compute-gives :
       eqb kind 5 && eqb other 0 && leb 1 value && leb value 200 ≡ true
       → Gives (packed kind other value) (Fetch (Compute value))
-  unfolding Gives storedOf Within
+  unfolding Gives storedOf OpWithinLimits
   compute-gives tests =
       let parts = and-eq-true-iff (eqb kind 5 && eqb other 0 && leb 1 value) (leb value 200) .0 tests in
       let middles = and-eq-true-iff (eqb kind 5 && eqb other 0) (leb 1 value) .0 (parts .0) in
@@ -103,7 +103,7 @@ gives number =
     subst (λ (n : ℕ). Gives n (opOf (kindPart number) (otherPart number) (valuePart number))) whole
     (op-gives (kindPart number) (otherPart number) (valuePart number) (omega arith))
 
-decoded : (number : ℕ) (op : Op) → decodeOf number ≡ Fetch op → (storedOf op ≡ number) × Within op
+decoded : (number : ℕ) (op : Op) → decodeOf number ≡ Fetch op → (storedOf op ≡ number) × OpWithinLimits op
 unfolding Gives
 decoded number op is = subst (Gives number) is (gives number)
 
@@ -112,5 +112,5 @@ pub stored-decode : (number : ℕ) (op : Op) → decodeOf number ≡ Fetch op �
 stored-decode number op is = decoded number op is .0
 
 -- a decoded op is within its limits
-pub decode-within : (number : ℕ) (op : Op) → decodeOf number ≡ Fetch op → Within op
+pub decode-within : (number : ℕ) (op : Op) → decodeOf number ≡ Fetch op → OpWithinLimits op
 decode-within number op is = decoded number op is .1

@@ -5,8 +5,8 @@ use mathlib.Core.List.{List}
 use lib.Dec.{eqb, leb, ltb}
 use lib.ListN.{getD}
 use Rattle.script.specs.declared.Op.the-variants.{Read, Write, Send, Receive, Compute}
-use Rattle.script.specs.declared.Fetched.{Fetched}
-use Rattle.script.specs.declared.Fetched.the-variants.{Op as Fetch, End}
+use Rattle.script.specs.declared.ScriptItem.{ScriptItem}
+use Rattle.script.specs.declared.ScriptItem.the-variants.{Op as Fetch, End}
 use Rattle.script.specs.Limits.{lastDomain, leastTicks, mostOps, mostTicks}
 
 -- the kind that a stored number holds
@@ -23,7 +23,7 @@ valuePart stored = stored % 65_536
 
 -- the op that three parts give, each kind within its limits: a read or a write has no other domain, a receive no value, a compute no other domain.
 -- The value part is never over what a read, a write or a send may have. Every other number ends the script.
-unfoldable pub opOf : ℕ → ℕ → ℕ → Fetched
+unfoldable pub opOf : ℕ → ℕ → ℕ → ScriptItem
 opOf kind other value =
     cond (eqb kind 1 && eqb other 0) (Fetch (Read value))
     (cond (eqb kind 2 && eqb other 0) (Fetch (Write value))
@@ -32,9 +32,9 @@ opOf kind other value =
     (cond (eqb kind 5 && eqb other 0 && leb leastTicks value && leb value mostTicks) (Fetch (Compute value)) End))))
 
 -- what a stored number stands for
-unfoldable pub decodeOf : ℕ → Fetched
+unfoldable pub decodeOf : ℕ → ScriptItem
 decodeOf stored = opOf (kindPart stored) (otherPart stored) (valuePart stored)
 
 -- what stands at a position of a domain's script: the number at that place of its part of the store, and past the part the end
-unfoldable pub fetchOf : List ℕ → ℕ → ℕ → Fetched
+unfoldable pub fetchOf : List ℕ → ℕ → ℕ → ScriptItem
 fetchOf scripts domain position = cond (ltb position mostOps) (decodeOf (getD scripts (mostOps * domain + position) 0)) End

@@ -33,9 +33,9 @@ abbrev pub scriptsLength : ℕ
 scriptsLength = 2_048
 
 -- an op's numbers are within their limits
-unfoldable pub Within : Op → Type 0
-Within (Read line) = line ≤ mostNumber
-Within (Write line) = line ≤ mostNumber
-Within (Send recipient word) = (recipient ≤ lastDomain) × (word ≤ mostWord)
-Within (Receive sender) = sender ≤ lastDomain
-Within (Compute ticks) = (leastTicks ≤ ticks) × (ticks ≤ mostTicks)
+unfoldable pub OpWithinLimits : Op → Type 0
+OpWithinLimits (Read line) = line ≤ mostNumber
+OpWithinLimits (Write line) = line ≤ mostNumber
+OpWithinLimits (Send recipient word) = (recipient ≤ lastDomain) × (word ≤ mostWord)
+OpWithinLimits (Receive sender) = sender ≤ lastDomain
+OpWithinLimits (Compute ticks) = (leastTicks ≤ ticks) × (ticks ≤ mostTicks)

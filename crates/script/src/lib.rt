@@ -22,7 +22,7 @@ pub enum Op {
 }
 
 // What stands at a position of a script.
-pub enum Fetched {
+pub enum ScriptItem {
     Op(Op),
     End,
 }
@@ -56,44 +56,44 @@ pub fn stored(op: Op) -> u32
 }
 
 // The operation that three parts give, or the end of the script where they are outside an operation's limits.
-fn op_of(kind: u32, other: u8, value: u16) -> Fetched
+fn op_of(kind: u32, other: u8, value: u16) -> ScriptItem
     ensures { λ r. ⌜ r ≡ opOf kind other value ⌝ }
 {
     if kind == 1 {
         if other == 0 {
-            return Fetched::Op(Op::Read(value));
+            return ScriptItem::Op(Op::Read(value));
         }
-        return Fetched::End;
+        return ScriptItem::End;
     }
     if kind == 2 {
         if other == 0 {
-            return Fetched::Op(Op::Write(value));
+            return ScriptItem::Op(Op::Write(value));
         }
-        return Fetched::End;
+        return ScriptItem::End;
     }
     if kind == 3 {
         if other <= LAST_OTHER {
-            return Fetched::Op(Op::Send(other, value));
+            return ScriptItem::Op(Op::Send(other, value));
         }
-        return Fetched::End;
+        return ScriptItem::End;
     }
     if kind == 4 {
         if (other <= LAST_OTHER) & (value == 0) {
-            return Fetched::Op(Op::Receive(other));
+            return ScriptItem::Op(Op::Receive(other));
         }
-        return Fetched::End;
+        return ScriptItem::End;
     }
     if kind == 5 {
         if (other == 0) & (LEAST_VALUE <= value) & (value <= MOST_VALUE) {
-            return Fetched::Op(Op::Compute(value as u8));
+            return ScriptItem::Op(Op::Compute(value as u8));
         }
-        return Fetched::End;
+        return ScriptItem::End;
     }
-    Fetched::End
+    ScriptItem::End
 }
 
 // What a stored number stands for: its three parts are taken apart.
-fn decode(number: u32) -> Fetched
+fn decode(number: u32) -> ScriptItem
     ensures { λ r. ⌜ r ≡ decodeOf number ⌝ }
 {
     let other = number / 65_536 % 16;
@@ -102,7 +102,7 @@ fn decode(number: u32) -> Fetched
 }
 
 // What stands at a position of a domain's script. A script ends at position 256 at the latest.
-pub fn fetch(scripts: &[u32], domain: u32, position: u64) -> Fetched
+pub fn fetch(scripts: &[u32], domain: u32, position: u64) -> ScriptItem
     requires { ⌜ (length (now scripts) ≡ 2048) × (domain < 8) ⌝ }
     ensures { λ r. ⌜ r ≡ fetchOf (now (scripts .entry)) domain position ⌝ }
 {
@@ -110,6 +110,6 @@ pub fn fetch(scripts: &[u32], domain: u32, position: u64) -> Fetched
         let place = MOST_OPS * (domain as usize) + position as usize;
         decode(scripts[place])
     } else {
-        Fetched::End
+        ScriptItem::End
     }
 }

@@ -1,3 +1,3 @@
 -- The laws of the checks for 13 and 14 that their own proofs cite.
-pub mod Possibility
-pub mod Soundness
+pub mod StateLaws
+pub mod TableLaws

@@ -1,3 +1,3 @@
 pub mod World
-pub mod Damage
-pub mod Impossible
+pub mod TableValidity
+pub mod StateValidity

@@ -5,7 +5,7 @@ use mathlib.Core.List.{List}
 use lib.Dec.{leb}
 use lib.ListN.{getD, replicate}
 use Rattle.plan.specs.declared.Plan.{Plan}
-use Rattle.plan.specs.Windows.{ownerOf, windowsTotal}
+use Rattle.plan.specs.Windows.{windowOwner, windowsTotal}
 use Rattle.state.specs.declared.State.{State}
 
 -- the small state, the cache table, the boxes and the log
@@ -24,7 +24,7 @@ recordsAt state domain = getD (state .records) domain 0
 
 -- the running domain: whose window it is
 abbrev pub runningOf : Plan → State → ℕ
-runningOf plan state = ownerOf plan (state .windows)
+runningOf plan state = windowOwner plan (state .windows)
 
 -- ended: windows completed at or above the total
 unfoldable pub endedOf : Plan → State → Bool

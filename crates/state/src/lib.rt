@@ -1,6 +1,6 @@
 // The small state of a run, and the checks of what is lent beside a plan: a state that is possible (14), a cache table and boxes that are sound (13).
-pub mod states;
-pub mod tables;
+pub mod state_validity;
+pub mod table_validity;
 
 ghost use mathlib.Core.Path.{_≡_};
 ghost use Rattle.state.specs.World.{freshState};

@@ -6,8 +6,8 @@ use mathlib.Core.List.{List, [], _∷_}
 use lib.Dec.{ltb}
 use lib.ListN.{drop, getD, length}
 use Rattle.lists.specs.Part.{part}
-use Rattle.text.specs.Bytes.{isLineFeed, isSpace}
-use Rattle.text.specs.Scan.{scanOf}
+use Rattle.lexer.specs.Bytes.{isLineFeed, isSpace}
+use Rattle.lexer.specs.Scan.{scanOf}
 
 -- where the line ends that begins at a place: at its line feed, or at the input's end
 abbrev pub lineEnd : List ℕ → ℕ → ℕ

@@ -106,7 +106,7 @@ fn with_digit(value: u64, digit: u64) -> u64
 }
 
 // The number that some digits spell.
-fn value_of(digits: &[u8]) -> u64
+fn spelled_value(digits: &[u8]) -> u64
     ensures { λ r. ⌜ r ≡ spelledAfter 0 (now (digits .entry)) ⌝ }
 {
     let mut value: u64 = 0;
@@ -122,7 +122,7 @@ fn value_of(digits: &[u8]) -> u64
 pub fn number_in(line: &[u8], field: usize) -> u64
     ensures { λ r. ⌜ r ≡ numberIn (now (line .entry)) field ⌝ }
 {
-    value_of(field_of(line, field))
+    spelled_value(field_of(line, field))
 }
 
 // The same as a place or a length.

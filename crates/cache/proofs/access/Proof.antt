@@ -2,7 +2,7 @@
 use Prim.Native.Nat.{_+_, _-_}
 use native.Mathlib.Omega.{arith}
 use lib.ListN.{getD}
-use Rattle.cache.specs.Lines.{indexOf, isDirty, setOf, setPlace}
+use Rattle.cache.specs.Lines.{l1Index, isDirty, setOf, setIndex}
 use Rattle.cache.proofs.Outcome.{held-outcome, lacked-outcome}
 use Rattle.cache.proofs.Ticks.{l2-ticks}
 use borrow.Author.Needs.{needs}
@@ -95,7 +95,7 @@ add-t29 c =
     let known = c .before .before .before .before .before .before .use-entry .result in
     let search = c .before .choose-number in
     let late = c .choose-number2 in
-    let dirty = isDirty (getD (args .table .now) (indexOf (args .line)) 0) in
+    let dirty = isDirty (getD (args .table .now) (l1Index (args .line)) 0) in
     omega (arith, l2-ticks known dirty (search .result) (late .result) (search .ensures) (late .ensures))
 
 same-length-2 : tie.Need-same-length-2
@@ -104,7 +104,7 @@ same-length-2 c = search needs
 returns-2 : tie.Need-returns-2
 returns-2 c =
     let args = c .before .before .before .before .before .before .before .before .before .before .before .args in
-    let first = setPlace (setOf (args .line)) in
+    let first = setIndex (setOf (args .line)) in
     let set = c .before .before .before .before .before .before .use-entry in
     let found = c .before .before .found-in-set in
     let entry = c .before .before .before .choose-entry2 in

@@ -6,48 +6,48 @@ use mathlib.Core.List.{List}
 use mathlib.Core.Path.{_≡_, sym, ap, subst, _∙_}
 use lib.ListN.{length}
 use Rattle.plan.specs.declared.Plan.{Plan}
-use Rattle.plan.specs.Possible.{planPossible}
+use Rattle.plan.specs.Validity.{planValid}
 use Rattle.script.specs.Limits.{scriptsLength}
 use Rattle.records.specs.Records.{partRecords}
-use Rattle.state.specs.Impossible.{statePossible}
+use Rattle.state.specs.StateValidity.{stateValid}
 use Rattle.state.specs.World.{World}
-use Rattle.reached.proofs.Reached.{log-length, state-possible}
+use Rattle.reachable.proofs.Reached.{log-length, state-valid}
 use Rattle.refusal.specs.declared.Refusal.the-variants.{WrongDomain}
 use Rattle.refusal.specs.declared.Verdict.the-variants.{Accepted, Refused}
-use Rattle.engine.specs.Asking.{logRefusalOf}
+use Rattle.engine.specs.LogQuery.{logStatusOf}
 use Rattle.engine.specs.Checks.{runVerdict}
 use Rattle.machine.specs.Fresh.{freshWorld}
 use Rattle.engine.specs.Running.{stepCallOf}
 use Rattle.engine.proofs.FreshRuns.{reached-accepted}
-use Rattle.engine.proofs.Passing.{asking-passes}
-use Rattle.isolation.specs.Calls.{Admissible, AllOwn, Call, CallList, IsList, LogThings, RunThings, isRefused, leavesOf, logAnswer, logCall, logQuestion, pointOf, runAnswer, runCall, stepAnswer, stepCall, verdictAfter, verdictOf}
+use Rattle.engine.proofs.Passing.{log-query-passes}
+use Rattle.isolation.specs.Calls.{Admissible, AllOwn, Call, CallList, IsList, LogThings, RunThings, isRefused, leavesOf, logAnswer, logCall, logStatus, pointOf, runAnswer, runCall, stepAnswer, stepCall, verdictAfter, verdictOf}
 use Rattle.isolation.specs.Points.{FreshRun, worldAfter}
 use Rattle.isolation.specs.Statement.{runOfList}
 use Rattle.isolation.proofs.OneRun.Calls.{all-own, all-own-asked}
-use Rattle.isolation.proofs.OneRun.Leaves.{leaves, list-possible}
+use Rattle.isolation.proofs.OneRun.Leaves.{leaves, list-valid}
 use Rattle.isolation.proofs.OneRun.Verdicts.{run-verdict, wrong-domain, wrong-store}
 
 -- ---- a world of a run passes the checks
 
-module _ (run : FreshRun) (count : ℕ) (possible : planPossible (run .plan) ≡ true) where
-  state-passes : statePossible (run .plan) (partRecords (run .plan) (length (worldAfter run count .log))) (worldAfter run count .state) ≡ true
+module _ (run : FreshRun) (count : ℕ) (possible : planValid (run .plan) ≡ true) where
+  state-passes : stateValid (run .plan) (partRecords (run .plan) (length (worldAfter run count .log))) (worldAfter run count .state) ≡ true
   unfolding worldAfter freshWorld
   state-passes =
-      subst (λ long. statePossible (run .plan) (partRecords (run .plan) long) (worldAfter run count .state) ≡ true)
+      subst (λ long. stateValid (run .plan) (partRecords (run .plan) long) (worldAfter run count .state) ≡ true)
       (sym (log-length (run .plan) (run .scripts) (run .log) count possible))
-      (state-possible (run .plan) (run .scripts) (run .log) count possible)
+      (state-valid (run .plan) (run .scripts) (run .log) count possible)
 
   pub run-verdict-accepted : length (run .scripts) ≡ scriptsLength → runVerdict (run .plan) (run .scripts) (worldAfter run count) ≡ Accepted
   unfolding worldAfter
   run-verdict-accepted store = reached-accepted (run .plan) (run .scripts) (run .log) count possible store
 
-  pub asking-accepted : (domain : ℕ) → domain < run .plan .domains
-      → logRefusalOf (run .plan) (worldAfter run count .state) (worldAfter run count .log) domain ≡ Accepted
-  asking-accepted domain declared = asking-passes (run .plan) _ _ domain possible state-passes declared
+  pub log-query-accepted : (domain : ℕ) → domain < run .plan .domains
+      → logStatusOf (run .plan) (worldAfter run count .state) (worldAfter run count .log) domain ≡ Accepted
+  log-query-accepted domain declared = log-query-passes (run .plan) _ _ domain possible state-passes declared
 
-  asking-refused : (domain : ℕ) → (domain < run .plan .domains → ⊥)
-      → logRefusalOf (run .plan) (worldAfter run count .state) (worldAfter run count .log) domain ≡ Refused (WrongDomain 0)
-  asking-refused domain undeclared = wrong-domain (run .plan) _ _ domain possible state-passes undeclared
+  log-query-refused : (domain : ℕ) → (domain < run .plan .domains → ⊥)
+      → logStatusOf (run .plan) (worldAfter run count .state) (worldAfter run count .log) domain ≡ Refused (WrongDomain 0)
+  log-query-refused domain undeclared = wrong-domain (run .plan) _ _ domain possible state-passes undeclared
 
 -- ---- a call that is handed the list's own things
 
@@ -64,32 +64,32 @@ module _ (plan : Plan) (scripts : List ℕ) (world : World) where
   own-run things limit owned =
       ap (λ handed-things. verdictOf plan scripts (runCall handed-things limit) world) (all-own things owned) ∙ run-verdict plan scripts world limit
 
-  own-asking : (things : LogThings) (domain : ℕ) → AllOwn (logCall things domain)
-      → logAnswer plan scripts things domain world ≡ logRefusalOf plan (world .state) (world .log) domain
+  own-log-query : (things : LogThings) (domain : ℕ) → AllOwn (logCall things domain)
+      → logAnswer plan scripts things domain world ≡ logStatusOf plan (world .state) (world .log) domain
   unfolding logAnswer
-  own-asking things domain owned = ap (λ handed-things. logAnswer plan scripts handed-things domain world) (all-own-asked things owned)
+  own-log-query things domain owned = ap (λ handed-things. logAnswer plan scripts handed-things domain world) (all-own-asked things owned)
 
 -- ---- a call after a list
 
 module _ (list : CallList) (is : IsList list) where
   -- an asking for a declared domain's log is not refused after any list
   pub asked : (domain : ℕ) → domain < list .plan .domains
-      → logRefusalOf (list .plan) (leavesOf list .state) (leavesOf list .log) domain ≡ Accepted
+      → logStatusOf (list .plan) (leavesOf list .state) (leavesOf list .log) domain ≡ Accepted
   asked domain declared =
-      subst (λ world. logRefusalOf (list .plan) (world .state) (world .log) domain ≡ Accepted) (sym (leaves list is))
-      (asking-accepted (runOfList list) (pointOf list) (list-possible list is) domain declared)
+      subst (λ world. logStatusOf (list .plan) (world .state) (world .log) domain ≡ Accepted) (sym (leaves list is))
+      (log-query-accepted (runOfList list) (pointOf list) (list-valid list is) domain declared)
 
   own-verdict : length (list .scripts) ≡ scriptsLength → runVerdict (list .plan) (list .scripts) (leavesOf list) ≡ Accepted
   own-verdict store =
       subst (λ world. runVerdict (list .plan) (list .scripts) world ≡ Accepted) (sym (leaves list is))
-      (run-verdict-accepted (runOfList list) (pointOf list) (list-possible list is) store)
+      (run-verdict-accepted (runOfList list) (pointOf list) (list-valid list is) store)
 
   -- and for an undeclared one's it is
   not-asked : (domain : ℕ) → (domain < list .plan .domains → ⊥)
-      → logRefusalOf (list .plan) (leavesOf list .state) (leavesOf list .log) domain ≡ Refused (WrongDomain 0)
+      → logStatusOf (list .plan) (leavesOf list .state) (leavesOf list .log) domain ≡ Refused (WrongDomain 0)
   not-asked domain undeclared =
-      subst (λ world. logRefusalOf (list .plan) (world .state) (world .log) domain ≡ Refused (WrongDomain 0)) (sym (leaves list is))
-      (asking-refused (runOfList list) (pointOf list) (list-possible list is) domain undeclared)
+      subst (λ world. logStatusOf (list .plan) (world .state) (world .log) domain ≡ Refused (WrongDomain 0)) (sym (leaves list is))
+      (log-query-refused (runOfList list) (pointOf list) (list-valid list is) domain undeclared)
 
   -- an admissible call on the list's own things is not refused
   pub own-accepted : (call : Call) → AllOwn call → Admissible (list .plan) (list .scripts) call → verdictAfter list call ≡ Accepted
@@ -97,9 +97,9 @@ module _ (list : CallList) (is : IsList list) where
   own-accepted (stepCall things) owned store = own-step (list .plan) (list .scripts) (leavesOf list) things owned ∙ own-verdict store
   own-accepted (runCall things limit) owned store = own-run (list .plan) (list .scripts) (leavesOf list) things limit owned ∙ own-verdict store
   own-accepted (logCall things domain) owned declared =
-      own-asking (list .plan) (list .scripts) (leavesOf list) things domain owned ∙ asked domain declared
-  own-accepted (logQuestion things domain) owned declared =
-      own-asking (list .plan) (list .scripts) (leavesOf list) things domain owned ∙ asked domain declared
+      own-log-query (list .plan) (list .scripts) (leavesOf list) things domain owned ∙ asked domain declared
+  own-accepted (logStatus things domain) owned declared =
+      own-log-query (list .plan) (list .scripts) (leavesOf list) things domain owned ∙ asked domain declared
 
   -- and any other is
   pub own-refused : (call : Call) → AllOwn call → (Admissible (list .plan) (list .scripts) call → ⊥) → isRefused (verdictAfter list call) ≡ true
@@ -111,6 +111,6 @@ module _ (list : CallList) (is : IsList list) where
       ap isRefused
       (own-run (list .plan) (list .scripts) (leavesOf list) things limit owned ∙ wrong-store (list .plan) (list .scripts) (leavesOf list) differs)
   own-refused (logCall things domain) owned undeclared =
-      ap isRefused (own-asking (list .plan) (list .scripts) (leavesOf list) things domain owned ∙ not-asked domain undeclared)
-  own-refused (logQuestion things domain) owned undeclared =
-      ap isRefused (own-asking (list .plan) (list .scripts) (leavesOf list) things domain owned ∙ not-asked domain undeclared)
+      ap isRefused (own-log-query (list .plan) (list .scripts) (leavesOf list) things domain owned ∙ not-asked domain undeclared)
+  own-refused (logStatus things domain) owned undeclared =
+      ap isRefused (own-log-query (list .plan) (list .scripts) (leavesOf list) things domain owned ∙ not-asked domain undeclared)

@@ -10,7 +10,7 @@ use Rattle.records.specs.Records.{partRecords}
 use Rattle.state.specs.World.{World}
 use Rattle.machine.specs.Steps.{steps}
 use Rattle.engine.specs.Running.{stepCallOf}
-use Rattle.isolation.specs.Calls.{AllOwn, Call, Handed, IsOwn, LogThings, OwnAsked, OwnRun, RunThings, afterCall, foreign, handed, handedWorld, isRefused, leftIn, leftWorld, logCall, logQuestion, own, runAnswer, runCall, stepAnswer, stepCall, stepsAsked, stepsCounted, verdictOf}
+use Rattle.isolation.specs.Calls.{AllOwn, Call, Handed, IsOwn, LogThings, OwnQuery, OwnRun, RunThings, afterCall, foreign, handed, handedWorld, isRefused, leftIn, leftWorld, logCall, logStatus, own, runAnswer, runCall, stepAnswer, stepCall, stepsAsked, stepsCounted, verdictOf}
 use Rattle.isolation.proofs.OneRun.Verdicts.{run-accepted, run-refused}
 
 -- a thing that a call left as it was handed leaves the list's own as it was
@@ -40,7 +40,7 @@ all-own things owned =
 abbrev pub ownAsked : LogThings
 ownAsked = record { plan = own; state = own; log = own }
 
-pub all-own-asked : (things : LogThings) → OwnAsked things → things ≡ ownAsked
+pub all-own-asked : (things : LogThings) → OwnQuery things → things ≡ ownAsked
 all-own-asked things owned =
     let plan = is-own (things .plan) (owned .0) in
     let state = is-own (things .state) (owned .1) in
@@ -66,7 +66,7 @@ module _ (plan : Plan) (scripts : List ℕ) where
   refused-stays (stepCall things) world refused = left-handed things world _ (run-refused _ _ _ 1 refused)
   refused-stays (runCall things limit) world refused = left-handed things world _ (run-refused _ _ _ limit refused)
   refused-stays (logCall things domain) world refused = refl
-  refused-stays (logQuestion things domain) world refused = refl
+  refused-stays (logStatus things domain) world refused = refl
 
   -- ---- any other call leaves as many steps as it asks for
 
@@ -97,7 +97,7 @@ module _ (plan : Plan) (scripts : List ℕ) where
       → afterCall plan scripts (runCall handed-things limit) world ≡ steps plan scripts (quotaOf world) limit world)
       (sym (all-own things owned)) (own-run limit world) accepted
   accepted-steps (logCall things domain) world accepted owned = refl
-  accepted-steps (logQuestion things domain) world accepted owned = refl
+  accepted-steps (logStatus things domain) world accepted owned = refl
 
   -- a call leaves as many steps as it counts
   pub call-steps : (call : Call) (world : World)

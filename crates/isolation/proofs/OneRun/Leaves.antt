@@ -6,29 +6,29 @@ use mathlib.Core.Logic.{_⊎_}
 use mathlib.Core.Path.{_≡_, sym, ap, _∙_}
 use native.Mathlib.Nat.{add-assoc, add-zero, zero-add}
 use lib.ListN.{length}
-use Rattle.plan.specs.Possible.{planPossible}
+use Rattle.plan.specs.Validity.{planValid}
 use Rattle.records.specs.Records.{partRecords}
 use Rattle.state.specs.World.{World}
 use Rattle.machine.specs.Steps.{steps}
 use Rattle.machine.proofs.Runs.{steps-add}
-use Rattle.reached.proofs.Reached.{log-length}
+use Rattle.reachable.proofs.Reached.{log-length}
 use Rattle.machine.specs.Fresh.{freshWorld}
 use Rattle.isolation.specs.Calls.{AllOwn, Call, CallList, IsList, Proper, afterCall, afterCalls, isRefused, leavesOf, pointOf, startWorld, stepsCounted, stepsOfCalls, verdictOf}
 use Rattle.isolation.specs.Points.{FreshRun, worldAfter}
 use Rattle.isolation.specs.Statement.{runOfList}
 use Rattle.isolation.proofs.OneRun.Calls.{call-steps}
-use Rattle.isolation.proofs.OneRun.Verdicts.{fresh-possible, fresh-started}
+use Rattle.isolation.proofs.OneRun.Verdicts.{fresh-valid, fresh-started}
 
 -- the plan of a list is a possible one
-pub list-possible : (list : CallList) → IsList list → planPossible (list .plan) ≡ true
-list-possible list is = fresh-possible (list .plan) (list .oldState) (list .oldCache) (list .oldBoxes) (is .started)
+pub list-valid : (list : CallList) → IsList list → planValid (list .plan) ≡ true
+list-valid list is = fresh-valid (list .plan) (list .oldState) (list .oldCache) (list .oldBoxes) (is .started)
 
 -- its calls start from the machine's fresh world
 pub list-start : (list : CallList) → IsList list → startWorld list ≡ freshWorld (list .log)
 unfolding startWorld
 list-start list is = fresh-started (list .plan) (list .oldState) (list .oldCache) (list .oldBoxes) (list .log) (is .started)
 
-module _ (run : FreshRun) (possible : planPossible (run .plan) ≡ true) where
+module _ (run : FreshRun) (possible : planValid (run .plan) ≡ true) where
   -- the log keeps its length, and so do its parts
   pub quota-kept : (count : ℕ) → partRecords (run .plan) (length (worldAfter run count .log)) ≡ partRecords (run .plan) (length (run .log))
   unfolding worldAfter freshWorld
@@ -70,5 +70,5 @@ module _ (run : FreshRun) (possible : planPossible (run .plan) ≡ true) where
 pub leaves : (list : CallList) → IsList list → leavesOf list ≡ worldAfter (runOfList list) (pointOf list)
 unfolding worldAfter steps
 leaves list is =
-    calls-later (runOfList list) (list-possible list is) (list .calls) 0 (startWorld list) (list-start list is) (is .proper)
+    calls-later (runOfList list) (list-valid list is) (list .calls) 0 (startWorld list) (list-start list is) (is .proper)
     ∙ ap (worldAfter (runOfList list)) (zero-add (pointOf list))

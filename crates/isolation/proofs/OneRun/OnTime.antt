@@ -8,8 +8,8 @@ use native.Mathlib.Omega.{arith}
 use lib.Dec.{leb}
 use lib.ListN.{length}
 use borrow.Author.Tests.{leb-false, leb-true}
-use Rattle.plan.specs.Possible.{planPossible}
-use Rattle.plan.specs.Windows.{startOf}
+use Rattle.plan.specs.Validity.{planValid}
+use Rattle.plan.specs.Windows.{windowStart}
 use Rattle.plan.proofs.Sums.{last-or-earlier}
 use Rattle.records.specs.Records.{partRecords}
 use Rattle.state.specs.World.{freshState}
@@ -19,9 +19,9 @@ use Rattle.machine.specs.Fresh.{freshWorld}
 use Rattle.isolation.specs.Calls.{CallList, IsList, pointOf}
 use Rattle.isolation.specs.Points.{FreshRun, windowsAfter, worldAfter}
 use Rattle.isolation.specs.Statement.{StartedOnTime, WindowsOnTime, runOfList}
-use Rattle.isolation.proofs.OneRun.Leaves.{list-possible}
+use Rattle.isolation.proofs.OneRun.Leaves.{list-valid}
 
-module _ (run : FreshRun) (possible : planPossible (run .plan) ≡ true) where
+module _ (run : FreshRun) (possible : planValid (run .plan) ≡ true) where
   -- every world of a run is on schedule
   pub scheduled-after : (count : ℕ) → Scheduled (run .plan) (worldAfter run count)
   unfolding worldAfter freshWorld
@@ -51,14 +51,14 @@ module _ (run : FreshRun) (possible : planPossible (run .plan) ≡ true) where
 
   -- the first window starts with the run, at 0
   first-starts : (window : ℕ) → window ≤ windowsAfter run 0 → StartedOnTime run 0 window
-  unfolding worldAfter steps freshWorld freshState startOf
+  unfolding worldAfter steps freshWorld freshState windowStart
   first-starts window soFar =
       let none : window ≡ 0 = omega arith in
       record {
         at = 0;
         soFar = omega arith;
         starts = record { reached = sym none; first = λ earlier below. absurd (not-suc-le-zero below) };
-        onTime = ap (startOf (run .plan)) (sym none);
+        onTime = ap (windowStart (run .plan)) (sym none);
       }
 
   -- what started so far has started a step later
@@ -79,7 +79,7 @@ module _ (run : FreshRun) (possible : planPossible (run .plan) ≡ true) where
               reached = next .windows ∙ sym last;
               first = λ earlier below. omega (arith, windows-grow earlier count below);
             };
-        onTime = next .exact ∙ ap (startOf (run .plan)) (sym last);
+        onTime = next .exact ∙ ap (windowStart (run .plan)) (sym last);
       }
 
   started : (count window : ℕ) → window ≤ windowsAfter run count → StartedOnTime run count window
@@ -99,4 +99,4 @@ module _ (run : FreshRun) (possible : planPossible (run .plan) ≡ true) where
 
 -- (A): after a list, each window so far started on time
 pub on-time : (list : CallList) → IsList list → WindowsOnTime list
-on-time list is window soFar = started (runOfList list) (list-possible list is) (pointOf list) window soFar
+on-time list is window soFar = started (runOfList list) (list-valid list is) (pointOf list) window soFar

@@ -6,7 +6,7 @@ use mathlib.Core.Path.{_≡_, sym, ap, subst, _∙_}
 use native.Mathlib.Decide.{ℕ-discrete}
 use lib.ListN.{length}
 use Rattle.plan.specs.declared.Plan.{Plan}
-use Rattle.plan.specs.Possible.{planPossible}
+use Rattle.plan.specs.Validity.{planValid}
 use Rattle.script.specs.Limits.{scriptsLength}
 use Rattle.records.specs.Records.{partRecords}
 use Rattle.state.specs.World.{World}
@@ -16,16 +16,16 @@ use Rattle.refusal.specs.declared.Refusal.{Refusal}
 use Rattle.refusal.specs.declared.Verdict.{Verdict}
 use Rattle.refusal.specs.declared.Verdict.the-variants.{Accepted, Refused}
 use Rattle.engine.specs.Checks.{runVerdict}
-use Rattle.engine.specs.Running.{Run, ranFrom, runCallOf, runFrom}
+use Rattle.engine.specs.Running.{RunOutcome, ranFrom, runCallOf, runFrom}
 use Rattle.isolation.specs.Calls.{CallList, IsList, leavesOf, pointOf, runTwice}
 use Rattle.isolation.specs.Points.{FreshRun, worldAfter}
 use Rattle.isolation.specs.Statement.{runOfList}
 use Rattle.isolation.proofs.OneRun.Accepted.{run-verdict-accepted}
-use Rattle.isolation.proofs.OneRun.Leaves.{leaves, list-possible, quota-kept, steps-later}
+use Rattle.isolation.proofs.OneRun.Leaves.{leaves, list-valid, quota-kept, steps-later}
 use Rattle.isolation.proofs.OneRun.Verdicts.{wrong-store}
 
 -- an answer, with the steps that were done before it
-abbrev after : ℕ → Run → Run
+abbrev after : ℕ → RunOutcome → RunOutcome
 after done run = record { verdict = run .verdict; steps = done + run .steps; ending = run .ending; world = run .world }
 
 module _ (plan : Plan) (scripts : List ℕ) where
@@ -46,7 +46,7 @@ module _ (plan : Plan) (scripts : List ℕ) where
       let one = judged world first (Refused refusal) refused in
       let two = judged world second (Refused refusal) refused in
       judged world (first + second) (Refused refusal) refused
-      ∙ sym (ap (λ (r : Run). after (r .steps) (runCallOf plan scripts (r .world) second)) one ∙ ap (after 0) two)
+      ∙ sym (ap (λ (r : RunOutcome). after (r .steps) (runCallOf plan scripts (r .world) second)) one ∙ ap (after 0) two)
 
   -- one that is not refused, and leads to a world with parts as large on which the other is not refused either
   module _ (world : World) (first second quota : ℕ) (quotaIs : partRecords plan (length (world .log)) ≡ quota)
@@ -64,11 +64,11 @@ module _ (plan : Plan) (scripts : List ℕ) where
     accepted-twice two =
         ran (first + second)
         ∙ ap (ranFrom plan) (run-add plan scripts quota first second world)
-        ∙ sym (ap (λ (r : Run). after (r .steps) (runCallOf plan scripts (r .world) second)) (ran first) ∙ ap (after (runOf plan scripts quota first world .done)) two)
+        ∙ sym (ap (λ (r : RunOutcome). after (r .steps) (runCallOf plan scripts (r .world) second)) (ran first) ∙ ap (after (runOf plan scripts quota first world .done)) two)
 
 -- ---- after so many steps of a run, and after a list
 
-module _ (run : FreshRun) (possible : planPossible (run .plan) ≡ true) (count first second : ℕ) where
+module _ (run : FreshRun) (possible : planValid (run .plan) ≡ true) (count first second : ℕ) where
   abbrev here : World
   here = worldAfter run count
 
@@ -102,4 +102,4 @@ split list is first second =
     subst
     (λ (w : World). runCallOf (list .plan) (list .scripts) w (first + second) ≡ runTwice (list .plan) (list .scripts) w first second)
     (sym (leaves list is))
-    (split-after (runOfList list) (list-possible list is) (pointOf list) first second (ℕ-discrete (length (list .scripts)) scriptsLength))
+    (split-after (runOfList list) (list-valid list is) (pointOf list) first second (ℕ-discrete (length (list .scripts)) scriptsLength))

@@ -7,11 +7,11 @@ use native.Mathlib.Omega.{arith}
 use lib.ListN.{length}
 use borrow.Author.Tests.{le-ltb, ne-eqb}
 use Rattle.plan.specs.declared.Plan.{Plan}
-use Rattle.plan.specs.Possible.{planPossible}
+use Rattle.plan.specs.Validity.{planValid}
 use Rattle.script.specs.Limits.{scriptsLength}
 use Rattle.records.specs.Records.{partRecords}
 use Rattle.state.specs.declared.State.{State}
-use Rattle.state.specs.Impossible.{statePossible}
+use Rattle.state.specs.StateValidity.{stateValid}
 use Rattle.state.specs.World.{World}
 use Rattle.machine.specs.Steps.{steps}
 use Rattle.machine.proofs.Runs.{run-world}
@@ -21,10 +21,10 @@ use Rattle.refusal.specs.declared.Refusal.the-variants.{NoColour, SharesOverTho
 use Rattle.refusal.specs.declared.Refusal.the-variants.{WrongLength, ImpossiblePlan, DamagedTable, ImpossibleState}
 use Rattle.refusal.specs.declared.Verdict.{Verdict}
 use Rattle.refusal.specs.declared.Verdict.the-variants.{Accepted, Refused}
-use Rattle.engine.specs.Asking.{logRefusalOf}
+use Rattle.engine.specs.LogQuery.{logStatusOf}
 use Rattle.engine.specs.Checks.{freshVerdict, logVerdict, runVerdict, tablesFit, unless}
 use Rattle.machine.specs.Fresh.{freshWorld}
-use Rattle.engine.specs.FreshStart.{Fresh, freshFrom, freshStartOf}
+use Rattle.engine.specs.FreshStart.{FreshOutcome, freshFrom, freshStartOf}
 use Rattle.engine.specs.Running.{ranFrom, runCallOf, runFrom}
 use Rattle.engine.proofs.Passing.{state-passes}
 use Rattle.isolation.specs.Calls.{isRefused}
@@ -87,22 +87,22 @@ wrong-store plan scripts world differs = rw (ne-eqb (length scripts) scriptsLeng
 
 -- but an undeclared one's is not
 pub wrong-domain : (plan : Plan) (state : State) (log : List ℕ) (domain : ℕ)
-    → planPossible plan ≡ true
-    → statePossible plan (partRecords plan (length log)) state ≡ true
+    → planValid plan ≡ true
+    → stateValid plan (partRecords plan (length log)) state ≡ true
     → (domain < plan .domains → ⊥)
-    → logRefusalOf plan state log domain ≡ Refused (WrongDomain 0)
-unfolding logRefusalOf logVerdict
+    → logStatusOf plan state log domain ≡ Refused (WrongDomain 0)
+unfolding logStatusOf logVerdict
 wrong-domain plan state log domain possible passes undeclared =
     rw (possible, state-passes plan state (length log) passes, le-ltb domain (plan .domains) (omega arith), logVerdict)
 
 -- what a fresh start leaves, and a log, as a world
-abbrev beside : Fresh → List ℕ → World
+abbrev beside : FreshOutcome → List ℕ → World
 beside fresh log = record { state = fresh .state; cache = fresh .cache; boxes = fresh .boxes; log = log }
 
 -- a fresh start that is not refused was handed a possible plan
-pub fresh-possible : (plan : Plan) (state : State) (cache boxes : List ℕ) → isRefused (freshStartOf plan state cache boxes .verdict) ≡ false → planPossible plan ≡ true
+pub fresh-valid : (plan : Plan) (state : State) (cache boxes : List ℕ) → isRefused (freshStartOf plan state cache boxes .verdict) ≡ false → planValid plan ≡ true
 unfolding freshStartOf freshVerdict
-fresh-possible plan state cache boxes started = go (tablesFit cache boxes) (planPossible plan) started
+fresh-valid plan state cache boxes started = go (tablesFit cache boxes) (planValid plan) started
   where
     go : (fit possible : Bool) → isRefused (freshFrom (unless fit WrongLength (unless possible ImpossiblePlan Accepted)) state cache boxes .verdict) ≡ false → possible ≡ true
     go true true accepted = refl

@@ -6,7 +6,7 @@ use mathlib.Core.Path.{_≡_, refl, sym, ap, subst₂, _∙_}
 use native.Mathlib.Decide.{decLt}
 use native.Mathlib.Omega.{arith}
 use Rattle.plan.specs.declared.Plan.{Plan}
-use Rattle.plan.specs.Windows.{ownerOf, windowsTotal}
+use Rattle.plan.specs.Windows.{windowOwner, windowsTotal}
 use Rattle.isolation.specs.Points.{opsOf, windowsAfter, worldAfter}
 use Rattle.isolation.proofs.TwoRuns.Lockstep.{Comparing, LockedAt, lockstep, one, other}
 use Rattle.isolation.proofs.TwoRuns.OpCounts.{ops-in-all, ops-so-far}
@@ -17,7 +17,7 @@ use Rattle.isolation.proofs.TwoRuns.Windows.{Began, began, completed}
 module _ {plan : Plan} {Named Kept : ℕ → Type 0} {scripts scripts′ log log′ : List ℕ}
     (c : Comparing plan Named Kept scripts scripts′ log log′) (count count′ : ℕ) (given : Given c count count′) where
   -- each completed window of a named domain held as many ops
-  pub same-ops : (window : ℕ) → window < windowsAfter (one c) count → window < windowsAfter (other c) count′ → Named (ownerOf plan window)
+  pub same-ops : (window : ℕ) → window < windowsAfter (one c) count → window < windowsAfter (other c) count′ → Named (windowOwner plan window)
       → opsOf (one c) window count ≡ opsOf (other c) window count′
   same-ops window past past′ named =
       let b = began (one c) (c .watched .possible) count (given .onTime) (suc window) count (omega arith) past in
@@ -37,7 +37,7 @@ module _ {plan : Plan} {Named Kept : ℕ → Type 0} {scripts scripts′ log log
   -- the current window, from its start in both runs
   module _ (now : ℕ) (here : windowsAfter (one c) count ≡ now) (here′ : windowsAfter (other c) count′ ≡ now)
       (b : Began (one c) now count) (b′ : Began (other c) now count′)
-      (ops : now < windowsTotal plan → Named (ownerOf plan now) → opsOf (one c) now count ≡ opsOf (other c) now count′) where
+      (ops : now < windowsTotal plan → Named (windowOwner plan now) → opsOf (one c) now count ≡ opsOf (other c) now count′) where
     start : ReadyAt c (b .at) (b′ .at)
     start =
         ready c count count′ given now (b .at) (b′ .at) (b .starts) (omega (arith, b .point)) (b′ .starts) (omega (arith, b′ .point))
@@ -49,7 +49,7 @@ module _ {plan : Plan} {Named Kept : ℕ → Type 0} {scripts scripts′ log log
     within′ = rw (← (b′ .point)) here′
 
     -- a named domain's own: after as many ops
-    locked-now : now < windowsTotal plan → (named : Named (ownerOf plan now)) → LockedAt c (ownerOf plan now) count count′
+    locked-now : now < windowsTotal plan → (named : Named (windowOwner plan now)) → LockedAt c (windowOwner plan now) count count′
     locked-now room named =
         let kept =
         given .boxes now (b .at) (b′ .at) room named (b .starts) (omega (arith, b .point)) (b′ .starts) (omega (arith, b′ .point))
@@ -62,10 +62,10 @@ module _ {plan : Plan} {Named Kept : ℕ → Type 0} {scripts scripts′ log log
         ∙ ap (opsOf (other c) now) (b′ .point)
         ∙ ops-so-far (other c) (c .watched .possible) now (b′ .at) (b′ .starts) room (b′ .more) within′
         in
-        subst₂ (LockedAt c (ownerOf plan now)) (sym (b .point)) (ap (λ (more : ℕ). b′ .at + more) many ∙ sym (b′ .point))
+        subst₂ (LockedAt c (windowOwner plan now)) (sym (b .point)) (ap (λ (more : ℕ). b′ .at + more) many ∙ sym (b′ .point))
         (lockstep c now (b .at) (b′ .at) named (b .starts .reached) lock (b .more) within)
 
-    near-now : Dec (now < windowsTotal plan) → Dec (Named (ownerOf plan now)) → NearAt c count count′
+    near-now : Dec (now < windowsTotal plan) → Dec (Named (windowOwner plan now)) → NearAt c count count′
     near-now (yes room) (yes named) = locked-now room named .near
     near-now (yes room) (no unnamed) =
         subst₂ (NearAt c) (sym (b .point)) (sym (b′ .point))
@@ -76,7 +76,7 @@ module _ {plan : Plan} {Named Kept : ℕ → Type 0} {scripts scripts′ log log
         rw (stays, stays′) (start .near)
 
   module _ (windows : windowsAfter (one c) count ≡ windowsAfter (other c) count′)
-      (ops : windowsAfter (one c) count < windowsTotal plan → Named (ownerOf plan (windowsAfter (one c) count))
+      (ops : windowsAfter (one c) count < windowsTotal plan → Named (windowOwner plan (windowsAfter (one c) count))
       → opsOf (one c) (windowsAfter (one c) count) count ≡ opsOf (other c) (windowsAfter (one c) count) count′) where
     from : Began (one c) (windowsAfter (one c) count) count
     from = began (one c) (c .watched .possible) count (given .onTime) (windowsAfter (one c) count) count (omega arith) (omega arith)
@@ -88,9 +88,9 @@ module _ {plan : Plan} {Named Kept : ℕ → Type 0} {scripts scripts′ log log
     pub near-here : NearAt c count count′
     near-here =
         near-now (windowsAfter (one c) count) refl (sym windows) from from′ ops (decLt (windowsAfter (one c) count) (windowsTotal plan))
-        (c .watched .isNamed (ownerOf plan (windowsAfter (one c) count)))
+        (c .watched .isNamed (windowOwner plan (windowsAfter (one c) count)))
 
     -- and in a named domain's own window also inside
-    pub locked-here : windowsAfter (one c) count < windowsTotal plan → Named (ownerOf plan (windowsAfter (one c) count))
-        → LockedAt c (ownerOf plan (windowsAfter (one c) count)) count count′
+    pub locked-here : windowsAfter (one c) count < windowsTotal plan → Named (windowOwner plan (windowsAfter (one c) count))
+        → LockedAt c (windowOwner plan (windowsAfter (one c) count)) count count′
     locked-here = locked-now (windowsAfter (one c) count) refl (sym windows) from from′ ops

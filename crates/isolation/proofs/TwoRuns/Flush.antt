@@ -5,9 +5,9 @@ use mathlib.Core.Path.{_≡_, sym, _∙_}
 use native.Mathlib.Omega.{arith}
 use lib.ListN.{getD, length}
 use Rattle.cache.specs.Flush.{kernelFlushed, l1Flushed}
-use Rattle.cache.specs.Lines.{indexes, kernelPlace, tableLength}
+use Rattle.cache.specs.Lines.{l1Length, kernelIndex, tableLength}
 use Rattle.lists.proofs.Agree.{Agree}
-use Rattle.reached.proofs.Flushes.{flushed-kernel, flushed-l1, flushed-long, flushed-others}
+use Rattle.reachable.proofs.Flushes.{flushed-kernel, flushed-l1, flushed-long, flushed-others}
 use Rattle.isolation.proofs.TwoRuns.Places.{FlushedPlace, kernel, l1}
 
 -- the table after both flushes
@@ -16,7 +16,7 @@ flushedTable table = l1Flushed (kernelFlushed table)
 
 -- places between L1 and the kernel's sets
 pub flush-away : {Place : ℕ → Type 0} (table : List ℕ) → length table ≡ tableLength
-    → ((place : ℕ) → Place place → (indexes ≤ place) × (place < kernelPlace)) → Agree Place table (flushedTable table)
+    → ((place : ℕ) → Place place → (l1Length ≤ place) × (place < kernelIndex)) → Agree Place table (flushedTable table)
 flush-away table whole between =
     record {
       len = whole ∙ sym (flushed-long table whole);

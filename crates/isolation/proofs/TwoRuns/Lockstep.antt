@@ -8,7 +8,7 @@ use native.Mathlib.Nat.{add-suc, add-zero}
 use native.Mathlib.Omega.{arith}
 use lib.ListN.{length}
 use Rattle.plan.specs.declared.Plan.{Plan}
-use Rattle.plan.specs.Windows.{ownerOf}
+use Rattle.plan.specs.Windows.{windowOwner}
 use Rattle.records.specs.Records.{partRecords}
 use Rattle.state.specs.World.{World}
 use Rattle.machine.specs.Switch.{switchOf}
@@ -43,7 +43,7 @@ module _ {plan : Plan} {Named Kept : ℕ → Type 0} {scripts scripts′ log log
   quota-other = ap (partRecords plan) (sym (c .logs))
 
   -- both do an op, or both switch
-  both-next : (running count count′ : ℕ) → Named running → ownerOf plan (windowsAfter one count) ≡ running → LockedAt running count count′
+  both-next : (running count count′ : ℕ) → Named running → windowOwner plan (windowsAfter one count) ≡ running → LockedAt running count count′
       → Paired plan quota Named Kept running (worldAfter one count) (worldAfter other count′) (worldAfter one (suc count))
       (worldAfter other (suc count′))
   both-next running count count′ named runs lock =
@@ -58,7 +58,7 @@ module _ {plan : Plan} {Named Kept : ℕ → Type 0} {scripts scripts′ log log
   unfolding switchOf
   completes run count e = ap (λ (world : World). world .state .windows) e
 
-  same-next : (running count count′ : ℕ) → Named running → ownerOf plan (windowsAfter one count) ≡ running → LockedAt running count count′
+  same-next : (running count count′ : ℕ) → Named running → windowOwner plan (windowsAfter one count) ≡ running → LockedAt running count count′
       → windowsAfter one (suc count) ≡ windowsAfter other (suc count′)
   same-next running count count′ named runs lock = go (both-next running count count′ named runs lock)
     where
@@ -68,19 +68,19 @@ module _ {plan : Plan} {Named Kept : ℕ → Type 0} {scripts scripts′ log log
       go (worked l) = l .close .windows
       go (switched e e′) = omega (arith, completes one count e, completes other count′ e′, lock .close .windows)
 
-  module _ (window start start′ : ℕ) (named : Named (ownerOf plan window)) (here : windowsAfter one start ≡ window)
-      (lock : LockedAt (ownerOf plan window) start start′) where
-    pub lockstep : (more : ℕ) → windowsAfter one (start + more) ≡ window → LockedAt (ownerOf plan window) (start + more) (start′ + more)
+  module _ (window start start′ : ℕ) (named : Named (windowOwner plan window)) (here : windowsAfter one start ≡ window)
+      (lock : LockedAt (windowOwner plan window) start start′) where
+    pub lockstep : (more : ℕ) → windowsAfter one (start + more) ≡ window → LockedAt (windowOwner plan window) (start + more) (start′ + more)
     lockstep zero there = rw (add-zero start, add-zero start′) lock
     lockstep (suc more) there =
         let earlier = lasts one (c .watched .possible) window start more here there in
         rw (add-suc start more, add-suc start′ more)
-        (go earlier (both-next (ownerOf plan window) (start + more) (start′ + more) named (ap (ownerOf plan) earlier) (lockstep more earlier)))
+        (go earlier (both-next (windowOwner plan window) (start + more) (start′ + more) named (ap (windowOwner plan) earlier) (lockstep more earlier)))
       where
         go : windowsAfter one (start + more) ≡ window
-            → Paired plan quota Named Kept (ownerOf plan window) (worldAfter one (start + more)) (worldAfter other (start′ + more))
+            → Paired plan quota Named Kept (windowOwner plan window) (worldAfter one (start + more)) (worldAfter other (start′ + more))
             (worldAfter one (suc (start + more))) (worldAfter other (suc (start′ + more)))
-            → LockedAt (ownerOf plan window) (suc (start + more)) (suc (start′ + more))
+            → LockedAt (windowOwner plan window) (suc (start + more)) (suc (start′ + more))
         go earlier (worked l) = l
         go earlier (switched e e′) = absurd (omega (arith, completes one (start + more) e, rw add-suc at there))
 
@@ -93,11 +93,11 @@ module _ {plan : Plan} {Named Kept : ℕ → Type 0} {scripts scripts′ log log
         → last ≡ last′
     same-end last last′ in-one past-one in-other past-other = go (decLt last last′) (decLt last′ last)
       where
-        at-last : LockedAt (ownerOf plan window) (start + last) (start′ + last)
+        at-last : LockedAt (windowOwner plan window) (start + last) (start′ + last)
         at-last = lockstep last in-one
 
         past : windowsAfter other (suc (start′ + last)) ≡ suc window
-        past = sym (same-next (ownerOf plan window) (start + last) (start′ + last) named (ap (ownerOf plan) in-one) at-last) ∙ past-one
+        past = sym (same-next (windowOwner plan window) (start + last) (start′ + last) named (ap (windowOwner plan) in-one) at-last) ∙ past-one
 
         go : Dec (last < last′) → Dec (last′ < last) → last ≡ last′
         go (yes h) d =

@@ -1,4 +1,4 @@
--- A record stored in the log: in two logs that agree on a domain's records so far they then agree on one record more, and another domain's part
+-- A record recordStored in the log: in two logs that agree on a domain's records so far they then agree on one record more, and another domain's part
 -- stays as it is. Assumes nothing.
 use Prim.Native.Nat.{ℕ, _+_, _*_, _≤_, _<_}
 use mathlib.Core.List.{List}
@@ -8,9 +8,9 @@ use native.Mathlib.Nat.{mul-le-mul-left}
 use native.Mathlib.Omega.{arith}
 use lib.ListN.{getD, length, set}
 use lib.Seq.{getD-set-same, set-out}
-use Rattle.lists.proofs.Agree.{Agree, Beside, Inside, agree-fewer, part-alike, sets-alike, sets-away}
-use Rattle.records.specs.declared.Seen.{Seen}
-use Rattle.records.specs.Records.{logPart, recordBytes, recordPlace, recordSize, stored}
+use Rattle.lists.proofs.Agree.{Agree, Beside, FormBody, agree-fewer, part-alike, sets-alike, sets-away}
+use Rattle.records.specs.declared.Observation.{Observation}
+use Rattle.records.specs.Records.{logPart, recordBytes, recordIndex, recordSize, recordStored}
 use Rattle.isolation.proofs.TwoRuns.Relations.{LogPlace}
 
 -- a count raised by one in a list is at most one more there: a place past the list's end keeps what it had
@@ -22,34 +22,34 @@ raised counts domain = go (decLt domain (length counts))
     go (no h) = rw (set-out counts domain (getD counts domain 0 + 1) (omega arith)) (omega arith)
 
 -- the parts follow each other in domain order
-parts-follow : (quota lower higher : ℕ) → lower < higher → recordPlace quota lower quota ≤ recordPlace quota higher 0
+parts-follow : (quota lower higher : ℕ) → lower < higher → recordIndex quota lower quota ≤ recordIndex quota higher 0
 parts-follow quota lower higher h = omega (arith, mul-le-mul-left quota h)
 
 module _ (quota domain count : ℕ) where
-  -- the same record stored behind the records so far
-  pub stored-alike : (next : ℕ) (seen : Seen) (clock : ℕ) {one other : List ℕ} → next ≤ count + 1
+  -- the same record recordStored behind the records so far
+  pub stored-alike : (next : ℕ) (seen : Observation) (clock : ℕ) {one other : List ℕ} → next ≤ count + 1
       → Agree (LogPlace quota domain count) one other
-      → Agree (LogPlace quota domain next) (stored quota domain count seen clock one) (stored quota domain count seen clock other)
-  unfolding stored recordBytes
+      → Agree (LogPlace quota domain next) (recordStored quota domain count seen clock one) (recordStored quota domain count seen clock other)
+  unfolding recordStored recordBytes
   stored-alike next seen clock {one} {other} few a =
-      sets-alike (recordPlace quota domain count) (recordBytes seen clock) (agree-fewer before a)
+      sets-alike (recordIndex quota domain count) (recordBytes seen clock) (agree-fewer before a)
     where
-      before : (place : ℕ) → Beside (LogPlace quota domain next) (recordPlace quota domain count) recordSize place
+      before : (place : ℕ) → Beside (LogPlace quota domain next) (recordIndex quota domain count) recordSize place
           → LogPlace quota domain count place
-      before place p = go (decLt place (recordPlace quota domain count))
+      before place p = go (decLt place (recordIndex quota domain count))
         where
-          go : Dec (place < recordPlace quota domain count) → LogPlace quota domain count place
+          go : Dec (place < recordIndex quota domain count) → LogPlace quota domain count place
           go (yes h) = record { from = p .named .from; recorded = h; inPart = p .named .inPart }
           go (no h) = absurd (p .outside (omega arith))
 
   -- a record of another domain, whose part is not full
-  pub stored-away : (running number : ℕ) (seen : Seen) (clock : ℕ) (log : List ℕ) → number < quota → (domain ≡ running → ⊥)
-      → Agree (LogPlace quota domain count) log (stored quota running number seen clock log)
-  unfolding stored recordBytes
+  pub stored-away : (running number : ℕ) (seen : Observation) (clock : ℕ) (log : List ℕ) → number < quota → (domain ≡ running → ⊥)
+      → Agree (LogPlace quota domain count) log (recordStored quota running number seen clock log)
+  unfolding recordStored recordBytes
   stored-away running number seen clock log room other =
-      sets-away log (recordPlace quota running number) (recordBytes seen clock) (λ place h p. apart place h p (decLt domain running))
+      sets-away log (recordIndex quota running number) (recordBytes seen clock) (λ place h p. apart place h p (decLt domain running))
     where
-      apart : (place : ℕ) → Inside (recordPlace quota running number) recordSize place → LogPlace quota domain count place
+      apart : (place : ℕ) → FormBody (recordIndex quota running number) recordSize place → LogPlace quota domain count place
           → Dec (domain < running) → ⊥
       apart place h p (yes lower) = omega (arith, parts-follow quota domain running lower)
       apart place h p (no higher) = omega (arith, parts-follow quota running domain (omega arith))
@@ -58,4 +58,4 @@ module _ (quota domain count : ℕ) where
   pub part-of-log : {one other : List ℕ} → count ≤ quota → Agree (LogPlace quota domain count) one other
       → logPart quota domain count one ≡ logPart quota domain count other
   unfolding logPart
-  part-of-log few a = part-alike (recordPlace quota domain 0) (recordSize * count) (λ place h. omega arith) a
+  part-of-log few a = part-alike (recordIndex quota domain 0) (recordSize * count) (λ place h. omega arith) a

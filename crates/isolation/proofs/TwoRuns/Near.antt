@@ -6,9 +6,9 @@ use mathlib.Core.List.{List}
 use mathlib.Core.Path.{_≡_, sym, ap, subst, _∙_}
 use native.Mathlib.Decide.{ℕ-discrete}
 use Rattle.plan.specs.declared.Plan.{Plan}
-use Rattle.plan.specs.Possible.{planPossible}
-use Rattle.plan.specs.Windows.{ownerOf}
-use Rattle.ops.specs.Ops.{boxPlace}
+use Rattle.plan.specs.Validity.{planValid}
+use Rattle.plan.specs.Windows.{windowOwner}
+use Rattle.ops.specs.Ops.{boxIndex}
 use Rattle.state.specs.World.{World, runningOf}
 use Rattle.machine.specs.Steps.{stepOf}
 use Rattle.machine.specs.Switch.{switchOf}
@@ -44,7 +44,7 @@ module _ (plan : Plan) (quota : ℕ) (Named : ℕ → Type 0) where
       alike-trans plan quota domain (alike-sym plan quota domain (b domain named))
       (alike-trans plan quota domain (a domain named) (c domain named))
 
-  module _ (possible : planPossible plan ≡ true) (declared : (domain : ℕ) → Named domain → domain < plan .domains) where
+  module _ (possible : planValid plan ≡ true) (declared : (domain : ℕ) → Named domain → domain < plan .domains) where
     -- a step in the window of a domain that is not named
     pub near-step : (scripts : List ℕ) (world : World) → Whole world → (Named (runningOf plan (world .state)) → ⊥)
         → Near world (stepOf plan scripts quota world)
@@ -57,14 +57,14 @@ module _ (plan : Plan) (quota : ℕ) (Named : ℕ → Type 0) where
 
     -- a step in the window of a named domain
     module _ (scripts scripts′ : List ℕ) (same : ScriptsAgree Named scripts scripts′) {Kept : ℕ → Type 0}
-        (to : (domain : ℕ) → Named domain → (sender : ℕ) → sender < 8 → Kept (boxPlace sender domain)) where
+        (to : (domain : ℕ) → Named domain → (sender : ℕ) → sender < 8 → Kept (boxIndex sender domain)) where
       pub locked-step : (running : ℕ) (one other : World) → Named running → runningOf plan (one .state) ≡ running → Whole one → Whole other
           → Locked Kept running one other → Paired Kept running one other (stepOf plan scripts quota one) (stepOf plan scripts′ quota other)
       locked-step running one other named runs whole whole′ lock =
           go (step-alike plan quota running (to running named) (lock .close) runs scripts scripts′ (same running named) whole)
         where
           runs′ : runningOf plan (other .state) ≡ running
-          runs′ = ap (ownerOf plan) (sym (lock .close .windows)) ∙ runs
+          runs′ = ap (windowOwner plan) (sym (lock .close .windows)) ∙ runs
 
           -- the running domain by the step itself, every other one by keeping away
           all : Close plan quota running Kept (stepOf plan scripts quota one) (stepOf plan scripts′ quota other)

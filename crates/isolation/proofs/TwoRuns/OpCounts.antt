@@ -7,7 +7,7 @@ use native.Mathlib.Numerals.{add-one}
 use native.Mathlib.Omega.{arith}
 use borrow.Author.Tests.{eq-eqb, lt-ltb, ne-eqb}
 use lib.Dec.{eqb, ltb}
-use Rattle.plan.specs.Possible.{planPossible}
+use Rattle.plan.specs.Validity.{planValid}
 use Rattle.plan.specs.Windows.{windowsTotal}
 use Rattle.isolation.specs.Points.{FreshRun, Starts, opsOf, windowsAfter}
 use Rattle.isolation.proofs.TwoRuns.Progress.{lasts, no-fewer}
@@ -25,7 +25,7 @@ not-still false begun still e = refl
 all-three : (room begun still : Bool) → room ≡ true → begun ≡ true → still ≡ true → _≡_ {A = ℕ} (cond (room && begun && still) 1 0) 1
 all-three room begun still e f g = rw (e, f, g)
 
-module _ (run : FreshRun) (possible : planPossible (run .plan) ≡ true) (window : ℕ) where
+module _ (run : FreshRun) (possible : planValid (run .plan) ≡ true) (window : ℕ) where
   module _ (count : ℕ) where
     before-or-after : (windowsAfter run count ≡ window → ⊥) → opsOf run window (suc count) ≡ opsOf run window count
     unfolding opsOf

@@ -7,11 +7,11 @@ use mathlib.Core.Path.{_≡_, refl, sym, ap₂}
 use lib.ListN.{getD, length, set}
 use Rattle.lists.proofs.Agree.{Agree, agree-fewer, agree-refl, set-alike, set-away}
 use Rattle.plan.specs.declared.Plan.{Plan}
-use Rattle.plan.specs.Possible.{planPossible}
+use Rattle.plan.specs.Validity.{planValid}
 use Rattle.script.specs.declared.Op.{Op}
-use Rattle.script.specs.Limits.{Within}
+use Rattle.script.specs.Limits.{OpWithinLimits}
 use Rattle.cache.specs.Lines.{tableLength}
-use Rattle.ops.specs.Ops.{boxPlace}
+use Rattle.ops.specs.Ops.{boxIndex}
 use Rattle.state.specs.World.{World, recordsAt}
 use Rattle.machine.specs.Steps.{opStepOf}
 use Rattle.machine.specs.Switch.{switchOf}
@@ -44,8 +44,8 @@ raise-alike domain {one} {other} a =
 module _ (plan : Plan) (quota domain : ℕ) where
   -- ---- its own op
 
-  module _ {Kept : ℕ → Type 0} (to : (sender : ℕ) → sender < 8 → Kept (boxPlace sender domain)) where
-    pub op-alike : {one other : World} (op : Op) → Within op → Whole one → Close plan quota domain Kept one other
+  module _ {Kept : ℕ → Type 0} (to : (sender : ℕ) → sender < 8 → Kept (boxIndex sender domain)) where
+    pub op-alike : {one other : World} (op : Op) → OpWithinLimits op → Whole one → Close plan quota domain Kept one other
         → Close plan quota domain Kept (opStepOf plan quota domain op one) (opStepOf plan quota domain op other)
     unfolding opStepOf
     op-alike {one} {other} op good whole a =
@@ -69,7 +69,7 @@ module _ (plan : Plan) (quota domain : ℕ) where
 
   -- ---- another's op
 
-  module _ (possible : planPossible plan ≡ true) (declared : domain < plan .domains) where
+  module _ (possible : planValid plan ≡ true) (declared : domain < plan .domains) where
     pub op-away : (running : ℕ) (op : Op) (world : World) → running < plan .domains → (domain ≡ running → ⊥) → Whole world
         → recordsAt (world .state) running < quota → Alike plan quota domain world (opStepOf plan quota running op world)
     unfolding opStepOf

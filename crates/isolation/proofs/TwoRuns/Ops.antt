@@ -11,13 +11,13 @@ use Rattle.plan.specs.declared.Plan.{Plan}
 use Rattle.plan.specs.Rights.{maySend}
 use Rattle.script.specs.declared.Op.{Op}
 use Rattle.script.specs.declared.Op.the-variants.{Read, Write, Send, Receive, Compute}
-use Rattle.script.specs.Limits.{Within}
-use Rattle.cache.specs.declared.Found.{Found}
+use Rattle.script.specs.Limits.{OpWithinLimits}
+use Rattle.cache.specs.declared.AccessKind.{AccessKind}
 use Rattle.cache.specs.Access.{accessOf}
 use Rattle.cache.specs.Lines.{tableLength}
 use Rattle.cache.proofs.Laws.{access-length}
-use Rattle.records.specs.declared.Seen.{Seen}
-use Rattle.ops.specs.Ops.{Effect, boxLine, boxPlace, boxSeen, computeOf, deniedOf, effectOf, fullBox, gateLine, ownsLine, passedOf, receiveOf, seenOf, sendOf, touchOf}
+use Rattle.records.specs.declared.Observation.{Observation}
+use Rattle.ops.specs.Ops.{Effect, boxLine, boxIndex, boxObservation, computeOf, deniedOf, effectOf, fullBox, kernelEntryLine, ownsLine, passedOf, receiveOf, accessObservation, sendOf, touchOf}
 use Rattle.isolation.proofs.TwoRuns.Access.{AccessAlike, access-alike, access-away}
 use Rattle.isolation.proofs.TwoRuns.Places.{WorkPlace, box-line, gate-line, own-line}
 
@@ -31,8 +31,8 @@ module _ (plan : Plan) (domain : ℕ) where
     pub boxes : Agree Kept (one .boxes) (other .boxes)
 
   module _ {one other : List ℕ} (whole : length one ≡ tableLength) (tables : Agree (WorkPlace plan domain) one other) where
-    gate-alike : AccessAlike (WorkPlace plan domain) (accessOf false gateLine one) (accessOf false gateLine other)
-    gate-alike = access-alike false gateLine (gate-line plan domain) whole tables
+    gate-alike : AccessAlike (WorkPlace plan domain) (accessOf false kernelEntryLine one) (accessOf false kernelEntryLine other)
+    gate-alike = access-alike false kernelEntryLine (gate-line plan domain) whole tables
 
     module _ {Kept : ℕ → Type 0} where
       touch-alike : (writes : Bool) (line : ℕ) {boxes boxes′ : List ℕ} → Agree Kept boxes boxes′
@@ -47,27 +47,27 @@ module _ (plan : Plan) (domain : ℕ) where
               rw e
               (record {
                 ticks = access .ticks;
-                seen = ap (λ (found : Found). seenOf found line) (access .found);
+                seen = ap (λ (found : AccessKind). accessObservation found line) (access .found);
                 cache = access .table;
                 boxes = kept;
               })
           go false e = rw e (record { ticks = refl; seen = refl; cache = tables; boxes = kept })
 
       denied-alike : (asked : ℕ) {boxes boxes′ : List ℕ} → Agree Kept boxes boxes′
-          → EffectAlike Kept (deniedOf asked (accessOf false gateLine one) boxes) (deniedOf asked (accessOf false gateLine other) boxes′)
+          → EffectAlike Kept (deniedOf asked (accessOf false kernelEntryLine one) boxes) (deniedOf asked (accessOf false kernelEntryLine other) boxes′)
       unfolding deniedOf
       denied-alike asked kept =
           record { ticks = ap (λ (n : ℕ). 5 + n) (gate-alike .ticks); seen = refl; cache = gate-alike .table; boxes = kept }
 
-      passed-alike : {seen seen′ : Seen} (sender recipient : ℕ) {boxes boxes′ : List ℕ} → seen ≡ seen′ → Agree Kept boxes boxes′
+      passed-alike : {seen seen′ : Observation} (sender recipient : ℕ) {boxes boxes′ : List ℕ} → seen ≡ seen′ → Agree Kept boxes boxes′
           → EffectAlike Kept
-          (passedOf seen (boxLine sender recipient) (accessOf false gateLine one) boxes)
-          (passedOf seen′ (boxLine sender recipient) (accessOf false gateLine other) boxes′)
+          (passedOf seen (boxLine sender recipient) (accessOf false kernelEntryLine one) boxes)
+          (passedOf seen′ (boxLine sender recipient) (accessOf false kernelEntryLine other) boxes′)
       unfolding passedOf
       passed-alike sender recipient shown kept =
           let access =
           access-alike true (boxLine sender recipient) (box-line plan domain sender recipient)
-          (access-length false gateLine one ∙ whole) (gate-alike .table)
+          (access-length false kernelEntryLine one ∙ whole) (gate-alike .table)
           in
           record {
             ticks = ap₂ (λ (n m : ℕ). 5 + n + m) (gate-alike .ticks) (access .ticks);
@@ -86,10 +86,10 @@ module _ (plan : Plan) (domain : ℕ) where
           go true e =
               rw e
               (passed-alike domain recipient refl
-              (set-alike (boxPlace domain recipient) (fullBox word) (agree-fewer (λ place p. p .0) kept)))
+              (set-alike (boxIndex domain recipient) (fullBox word) (agree-fewer (λ place p. p .0) kept)))
           go false e = rw e (denied-alike recipient kept)
 
-      receive-alike : (sender : ℕ) {boxes boxes′ : List ℕ} → Kept (boxPlace sender domain) → Agree Kept boxes boxes′
+      receive-alike : (sender : ℕ) {boxes boxes′ : List ℕ} → Kept (boxIndex sender domain) → Agree Kept boxes boxes′
           → EffectAlike Kept (receiveOf plan domain sender one boxes) (receiveOf plan domain sender other boxes′)
       unfolding receiveOf
       receive-alike sender {boxes} {boxes′} here kept = go (maySend plan sender domain) refl
@@ -98,13 +98,13 @@ module _ (plan : Plan) (domain : ℕ) where
               → EffectAlike Kept (receiveOf plan domain sender one boxes) (receiveOf plan domain sender other boxes′)
           go true e =
               rw e
-              (passed-alike sender domain (ap (boxSeen sender) (kept .at _ here))
-              (set-alike (boxPlace sender domain) 0 (agree-fewer (λ place p. p .0) kept)))
+              (passed-alike sender domain (ap (boxObservation sender) (kept .at _ here))
+              (set-alike (boxIndex sender domain) 0 (agree-fewer (λ place p. p .0) kept)))
           go false e = rw e (denied-alike sender kept)
 
-      pub effect-alike : (op : Op) {boxes boxes′ : List ℕ} → Within op → ((sender : ℕ) → sender < 8 → Kept (boxPlace sender domain))
+      pub effect-alike : (op : Op) {boxes boxes′ : List ℕ} → OpWithinLimits op → ((sender : ℕ) → sender < 8 → Kept (boxIndex sender domain))
           → Agree Kept boxes boxes′ → EffectAlike Kept (effectOf plan domain op one boxes) (effectOf plan domain op other boxes′)
-      unfolding effectOf computeOf Within
+      unfolding effectOf computeOf OpWithinLimits
       effect-alike (Read line) good to kept = touch-alike false line kept
       effect-alike (Write line) good to kept = touch-alike true line kept
       effect-alike (Send recipient word) good to kept = send-alike recipient word kept
@@ -123,22 +123,22 @@ module _ (plan : Plan) (domain : ℕ) where
         go true e = rw e (access-away writes line table whole (λ place h p. untouched place p (own-line plan domain line place e h)))
         go false e = rw e (agree-refl Place table)
 
-    gate-away : Agree Place table (accessOf false gateLine table .table)
-    gate-away = access-away false gateLine table whole (λ place h p. untouched place p (gate-line plan domain place h))
+    gate-away : Agree Place table (accessOf false kernelEntryLine table .table)
+    gate-away = access-away false kernelEntryLine table whole (λ place h p. untouched place p (gate-line plan domain place h))
 
-    passed-away : (seen : Seen) (sender recipient : ℕ) (boxes : List ℕ)
-        → Agree Place table (passedOf seen (boxLine sender recipient) (accessOf false gateLine table) boxes .cache)
+    passed-away : (seen : Observation) (sender recipient : ℕ) (boxes : List ℕ)
+        → Agree Place table (passedOf seen (boxLine sender recipient) (accessOf false kernelEntryLine table) boxes .cache)
     unfolding passedOf
     passed-away seen sender recipient boxes =
         agree-trans gate-away
-        (access-away true (boxLine sender recipient) _ (access-length false gateLine table ∙ whole)
+        (access-away true (boxLine sender recipient) _ (access-length false kernelEntryLine table ∙ whole)
         (λ place h p. untouched place p (box-line plan domain sender recipient place h)))
 
     -- a send or a receive, whatever the rights say
-    mail-away : (may : Bool) (seen : Seen) (sender recipient asked : ℕ) (boxes boxes′ : List ℕ)
+    mail-away : (may : Bool) (seen : Observation) (sender recipient asked : ℕ) (boxes boxes′ : List ℕ)
         → Agree Place table
-        (cond may (passedOf seen (boxLine sender recipient) (accessOf false gateLine table) boxes)
-        (deniedOf asked (accessOf false gateLine table) boxes′) .cache)
+        (cond may (passedOf seen (boxLine sender recipient) (accessOf false kernelEntryLine table) boxes)
+        (deniedOf asked (accessOf false kernelEntryLine table) boxes′) .cache)
     unfolding deniedOf
     mail-away true seen sender recipient asked boxes boxes′ = passed-away seen sender recipient boxes
     mail-away false seen sender recipient asked boxes boxes′ = gate-away

@@ -7,24 +7,24 @@ use native.Mathlib.Omega.{arith}
 use lib.Dec.{ltb}
 use Rattle.plan.specs.declared.Plan.{Plan}
 use Rattle.plan.specs.Colours.{ownsColour}
-use Rattle.plan.specs.Possible.{planPossible}
+use Rattle.plan.specs.Validity.{planValid}
 use Rattle.plan.proofs.Masks.{masks-disjoint, owned-below}
-use Rattle.lists.proofs.Agree.{Inside}
-use Rattle.cache.specs.Lines.{colourOf, indexes, kernelColour, kernelNumbers, kernelPlace, setColour, setOf, setPlace, waysOfSet}
-use Rattle.ops.specs.Ops.{boxLine, gateLine, ownsLine}
-use Rattle.isolation.proofs.TwoRuns.Access.{Touched, atIndex, inSet}
+use Rattle.lists.proofs.Agree.{FormBody}
+use Rattle.cache.specs.Lines.{colourOf, l1Length, kernelColour, kernelEntries, kernelIndex, setColour, setOf, setIndex, waysPerSet}
+use Rattle.ops.specs.Ops.{boxLine, kernelEntryLine, ownsLine}
+use Rattle.isolation.proofs.TwoRuns.Access.{AccessResult, atIndex, inSet}
 
 -- the L2 sets of a domain's colours, number by number
 pub record OwnPlace (plan : Plan) (domain place : ℕ) : Type 0 where
-  pub inL2 : indexes ≤ place
-  pub owned : ownsColour plan domain (setColour ((place - indexes) / waysOfSet)) ≡ true
+  pub inL2 : l1Length ≤ place
+  pub owned : ownsColour plan domain (setColour ((place - l1Length) / waysPerSet)) ≡ true
 
 -- the kernel's sets are the table's last numbers, L1 is its first
 abbrev pub KernelPlace : ℕ → Type 0
-KernelPlace place = Inside kernelPlace kernelNumbers place
+KernelPlace place = FormBody kernelIndex kernelEntries place
 
 abbrev pub L1Place : ℕ → Type 0
-L1Place place = Inside 0 indexes place
+L1Place place = FormBody 0 l1Length place
 
 -- what a switch empties
 pub data FlushedPlace (place : ℕ) : Type 0 where
@@ -39,10 +39,10 @@ pub data WorkPlace (plan : Plan) (domain place : ℕ) : Type 0 where
 -- ---- a line's places
 
 -- a set of a domain's colour is its own
-pub own-set : (plan : Plan) (domain set way : ℕ) → way < waysOfSet → ownsColour plan domain (setColour set) ≡ true
-    → OwnPlace plan domain (setPlace set + way)
+pub own-set : (plan : Plan) (domain set way : ℕ) → way < waysPerSet → ownsColour plan domain (setColour set) ≡ true
+    → OwnPlace plan domain (setIndex set + way)
 own-set plan domain set way below owns =
-    let same : setColour ((setPlace set + way - indexes) / waysOfSet) ≡ setColour set = omega arith in
+    let same : setColour ((setIndex set + way - l1Length) / waysPerSet) ≡ setColour set = omega arith in
     record { inL2 = omega arith; owned = rw same owns }
 
 module _ (plan : Plan) (domain line place : ℕ) where
@@ -54,28 +54,28 @@ module _ (plan : Plan) (domain line place : ℕ) where
       go true e = cc
       go false e = e
 
-  pub own-line : ownsLine plan domain line ≡ true → Touched line place → WorkPlace plan domain place
+  pub own-line : ownsLine plan domain line ≡ true → AccessResult line place → WorkPlace plan domain place
   own-line owns (atIndex e) = flushed (l1 (omega arith))
   own-line owns (inSet h) =
-      let way = place - setPlace (setOf line) in
-      let there : setPlace (setOf line) + way ≡ place = omega arith in
+      let way = place - setIndex (setOf line) in
+      let there : setIndex (setOf line) + way ≡ place = omega arith in
       own (rw there at (own-set plan domain (setOf line) way (omega arith) (owned-colour owns)))
 
-  kernel-line : colourOf line ≡ kernelColour → Touched line place → WorkPlace plan domain place
+  kernel-line : colourOf line ≡ kernelColour → AccessResult line place → WorkPlace plan domain place
   kernel-line colour (atIndex e) = flushed (l1 (omega arith))
   kernel-line colour (inSet h) = flushed (kernel (omega arith))
 
-pub gate-line : (plan : Plan) (domain place : ℕ) → Touched gateLine place → WorkPlace plan domain place
-gate-line plan domain place = kernel-line plan domain gateLine place refl
+pub gate-line : (plan : Plan) (domain place : ℕ) → AccessResult kernelEntryLine place → WorkPlace plan domain place
+gate-line plan domain place = kernel-line plan domain kernelEntryLine place refl
 
-pub box-line : (plan : Plan) (domain sender recipient place : ℕ) → Touched (boxLine sender recipient) place → WorkPlace plan domain place
+pub box-line : (plan : Plan) (domain sender recipient place : ℕ) → AccessResult (boxLine sender recipient) place → WorkPlace plan domain place
 box-line plan domain sender recipient place = kernel-line plan domain (boxLine sender recipient) place (omega arith)
 
 -- ---- apart
 
-module _ (plan : Plan) (possible : planPossible plan ≡ true) (domain place : ℕ) (declared : domain < plan .domains) where
+module _ (plan : Plan) (possible : planValid plan ≡ true) (domain place : ℕ) (declared : domain < plan .domains) where
   -- a domain's part lies between L1 and the kernel's sets
-  pub own-between : OwnPlace plan domain place → (indexes ≤ place) × (place < kernelPlace)
+  pub own-between : OwnPlace plan domain place → (l1Length ≤ place) × (place < kernelIndex)
   own-between p = (p .inL2, omega (arith, owned-below plan domain _ possible declared (p .owned)))
 
   -- and is not touched in another's window

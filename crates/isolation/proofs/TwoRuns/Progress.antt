@@ -8,7 +8,7 @@ use native.Mathlib.Omega.{arith}
 use borrow.Author.Tests.{le-leb}
 use lib.ListN.{length}
 use Rattle.plan.specs.declared.Plan.{Plan}
-use Rattle.plan.specs.Possible.{planPossible}
+use Rattle.plan.specs.Validity.{planValid}
 use Rattle.plan.specs.Windows.{windowsTotal}
 use Rattle.records.specs.Records.{partRecords}
 use Rattle.state.specs.World.{World, endedOf, freshState}
@@ -82,7 +82,7 @@ module _ (run : FreshRun) where
           let in-window : windowsAfter run last ≡ window = omega (arith, s .reached) in
           record { last = last; follows = refl; within = in-window; room = rw (← in-window) room; switched = n }
 
-module _ (run : FreshRun) (possible : planPossible (run .plan) ≡ true) where
+module _ (run : FreshRun) (possible : planValid (run .plan) ≡ true) where
   -- windows are never undone
   pub no-fewer : (earlier later : ℕ) → earlier ≤ later → windowsAfter run earlier ≤ windowsAfter run later
   no-fewer earlier later h = windows-grow run possible earlier later (omega arith)

@@ -7,11 +7,11 @@ use native.Mathlib.Omega.{arith}
 use lib.ListN.{length}
 use Rattle.lists.proofs.Agree.{Agree, agree-refl}
 use Rattle.plan.specs.declared.Plan.{Plan}
-use Rattle.plan.specs.Windows.{ownerOf, windowsTotal}
+use Rattle.plan.specs.Windows.{windowOwner, windowsTotal}
 use Rattle.state.specs.World.{World, freshState}
 use Rattle.machine.specs.Steps.{steps}
 use Rattle.machine.specs.Switch.{switchOf}
-use Rattle.reached.proofs.Cells.{cell-zeros}
+use Rattle.reachable.proofs.Cells.{cell-zeros}
 use Rattle.machine.specs.Fresh.{freshWorld}
 use Rattle.isolation.specs.Points.{Starts, windowsAfter, worldAfter}
 use Rattle.isolation.proofs.TwoRuns.Lockstep.{Comparing, LockedAt, lockstep, one, other, quota, quota-other, same-end}
@@ -59,7 +59,7 @@ module _ {plan : Plan} {Named Kept : ℕ → Type 0} {scripts scripts′ log log
   BoxesKept count count′ =
       (window at at′ : ℕ)
       → window < windowsTotal plan
-      → Named (ownerOf plan window)
+      → Named (windowOwner plan window)
       → Starts (one c) window at
       → at ≤ count
       → Starts (other c) window at′
@@ -73,14 +73,14 @@ module _ {plan : Plan} {Named Kept : ℕ → Type 0} {scripts scripts′ log log
     pub boxes : BoxesKept count count′
 
   -- a named domain's window may begin
-  pub locked : (window at at′ : ℕ) → Named (ownerOf plan window) → Starts (one c) window at → Starts (other c) window at′ → ReadyAt at at′
-      → Agree Kept (worldAfter (one c) at .boxes) (worldAfter (other c) at′ .boxes) → LockedAt c (ownerOf plan window) at at′
+  pub locked : (window at at′ : ℕ) → Named (windowOwner plan window) → Starts (one c) window at → Starts (other c) window at′ → ReadyAt at at′
+      → Agree Kept (worldAfter (one c) at .boxes) (worldAfter (other c) at′ .boxes) → LockedAt c (windowOwner plan window) at at′
   locked window at at′ named s s′ ready kept =
       record {
         near = ready .near;
         close =
             record {
-              outside = ready .near (ownerOf plan window) named;
+              outside = ready .near (windowOwner plan window) named;
               windows = s .reached ∙ sym (s′ .reached);
               clock = ready .clock;
               flushed = ready .flushed;
@@ -89,7 +89,7 @@ module _ {plan : Plan} {Named Kept : ℕ → Type 0} {scripts scripts′ log log
       }
 
   -- a window of a domain that is not named
-  pub stays-near-both : (window at at′ more more′ : ℕ) → (Named (ownerOf plan window) → ⊥)
+  pub stays-near-both : (window at at′ more more′ : ℕ) → (Named (windowOwner plan window) → ⊥)
       → Starts (one c) window at
       → windowsAfter (one c) (at + more) ≡ window
       → Starts (other c) window at′
@@ -104,7 +104,7 @@ module _ {plan : Plan} {Named Kept : ℕ → Type 0} {scripts scripts′ log log
   -- a window that is completed in both: a named domain's after as many ops, and near at its switch
   module _ (window next next′ : ℕ) (p : Completed (one c) window next) (p′ : Completed (other c) window next′)
       (ready : ReadyAt (p .at) (p′ .at)) where
-    pub as-many : (named : Named (ownerOf plan window))
+    pub as-many : (named : Named (windowOwner plan window))
         → Agree Kept (worldAfter (one c) (p .at) .boxes) (worldAfter (other c) (p′ .at) .boxes)
         → p .more ≡ p′ .more
     as-many named kept =
@@ -112,8 +112,8 @@ module _ {plan : Plan} {Named Kept : ℕ → Type 0} {scripts scripts′ log log
         (locked window (p .at) (p′ .at) named (p .starts) (p′ .starts) ready kept) (p .more) (p′ .more) (p .within) (p .past) (p′ .within)
         (p′ .past)
 
-    near-switches : Dec (Named (ownerOf plan window))
-        → (Named (ownerOf plan window) → Agree Kept (worldAfter (one c) (p .at) .boxes) (worldAfter (other c) (p′ .at) .boxes))
+    near-switches : Dec (Named (windowOwner plan window))
+        → (Named (windowOwner plan window) → Agree Kept (worldAfter (one c) (p .at) .boxes) (worldAfter (other c) (p′ .at) .boxes))
         → NearAt (p .at + p .more) (p′ .at + p′ .more)
     near-switches (yes named) kept =
         let boxes = kept named in
@@ -155,7 +155,7 @@ module _ {plan : Plan} {Named Kept : ℕ → Type 0} {scripts scripts′ log log
       let soFar′ : p′ .at ≤ count′ = omega (arith, p′ .follows) in
       let start = ready count count′ given window (p .at) (p′ .at) (p .starts) soFar (p′ .starts) soFar′ in
       ready-next window at at′ p p′
-      (near-switches window at at′ p p′ start (c .watched .isNamed (ownerOf plan window))
+      (near-switches window at at′ p p′ start (c .watched .isNamed (windowOwner plan window))
       (λ named. given .boxes window (p .at) (p′ .at) (p .room) named (p .starts) soFar (p′ .starts) soFar′))
       (clock-at-start (one c) (c .watched .possible) count (given .onTime) (suc window) at h s
       ∙ sym (clock-at-start (other c) (c .watched .possible) count′ (given .onTime′) (suc window) at′ h′ s′))

@@ -3,7 +3,7 @@
 use Prim.Native.Nat.{ℕ, _≤_, _<_}
 use mathlib.Core.Path.{_≡_, refl}
 use Rattle.plan.specs.declared.Plan.{Plan}
-use Rattle.records.specs.Records.{recordPlace}
+use Rattle.records.specs.Records.{recordIndex}
 use Rattle.state.specs.World.{World, positionAt, recordsAt}
 use Rattle.lists.proofs.Agree.{Agree, agree-refl, agree-sym, agree-trans}
 use Rattle.isolation.specs.Statement.{Only}
@@ -11,9 +11,9 @@ use Rattle.isolation.proofs.TwoRuns.Places.{FlushedPlace, OwnPlace}
 
 -- the bytes of a domain's records so far, inside its part of the log
 pub record LogPlace (quota domain count place : ℕ) : Type 0 where
-  pub from : recordPlace quota domain 0 ≤ place
-  pub recorded : place < recordPlace quota domain count
-  pub inPart : place < recordPlace quota domain quota
+  pub from : recordIndex quota domain 0 ≤ place
+  pub recorded : place < recordIndex quota domain count
+  pub inPart : place < recordIndex quota domain quota
 
 module _ (plan : Plan) (quota domain : ℕ) where
   -- outside its windows

@@ -8,13 +8,13 @@ use borrow.Author.Tests.{ltb-true}
 use lib.Dec.{leb, ltb}
 use lib.ListN.{getD}
 use Rattle.plan.specs.declared.Plan.{Plan}
-use Rattle.plan.specs.Possible.{planPossible}
+use Rattle.plan.specs.Validity.{planValid}
 use Rattle.plan.proofs.Windows.{owner-declared}
-use Rattle.plan.specs.Windows.{endOf, ownerOf, windowsTotal}
-use Rattle.script.specs.declared.Fetched.{Fetched}
-use Rattle.script.specs.declared.Fetched.the-variants.{Op as Fetch, End}
+use Rattle.plan.specs.Windows.{windowEnd, windowOwner, windowsTotal}
+use Rattle.script.specs.declared.ScriptItem.{ScriptItem}
+use Rattle.script.specs.declared.ScriptItem.the-variants.{Op as Fetch, End}
 use Rattle.script.specs.Fetch.{decodeOf, fetchOf}
-use Rattle.ops.specs.Ops.{boxPlace}
+use Rattle.ops.specs.Ops.{boxIndex}
 use Rattle.state.specs.World.{World, endedOf, positionAt, runningOf}
 use Rattle.machine.specs.Steps.{activeStep, closedOf, nextOf, stepOf}
 use Rattle.machine.specs.Switch.{switchOf}
@@ -43,20 +43,20 @@ pub data Together (plan : Plan) (quota domain : ℕ) (Kept : ℕ → Type 0) (on
   still : Close plan quota domain Kept next next′ → Together plan quota domain Kept one other next next′
   both : next ≡ switchOf plan one → next′ ≡ switchOf plan other → Together plan quota domain Kept one other next next′
 
-module _ (plan : Plan) (quota domain : ℕ) {Kept : ℕ → Type 0} (to : (sender : ℕ) → sender < 8 → Kept (boxPlace sender domain))
+module _ (plan : Plan) (quota domain : ℕ) {Kept : ℕ → Type 0} (to : (sender : ℕ) → sender < 8 → Kept (boxIndex sender domain))
     {one other : World} (a : Close plan quota domain Kept one other) (running : runningOf plan (one .state) ≡ domain) where
   same-ended : endedOf plan (one .state) ≡ endedOf plan (other .state)
   unfolding endedOf
   same-ended = ap (λ (n : ℕ). leb (windowsTotal plan) n) (a .windows)
 
   same-running : runningOf plan (other .state) ≡ domain
-  same-running = ap (ownerOf plan) (sym (a .windows)) ∙ running
+  same-running = ap (windowOwner plan) (sym (a .windows)) ∙ running
 
   same-closed : closedOf plan quota (one .state) ≡ closedOf plan quota (other .state)
   unfolding closedOf
   same-closed =
       rw (running, same-running)
-      (λ i. leb (endOf plan (a .windows i)) (a .clock i) || leb quota (same-records plan quota domain (a .outside) i))
+      (λ i. leb (windowEnd plan (a .windows i)) (a .clock i) || leb quota (same-records plan quota domain (a .outside) i))
 
   same-next : (scripts scripts′ : List ℕ)
       → ((place : ℕ) → place < 256 → getD scripts (256 * domain + place) 0 ≡ getD scripts′ (256 * domain + place) 0)
@@ -83,7 +83,7 @@ module _ (plan : Plan) (quota domain : ℕ) {Kept : ℕ → Type 0} (to : (sende
       by-end true over active = rw (step-ended plan scripts quota one over, step-ended plan scripts′ quota other (sym same-ended ∙ over)) (still a)
       by-end false not-over active = active not-over
 
-      by-tests : (closed : Bool) → closedOf plan quota (one .state) ≡ closed → (next : Fetched) → nextOf plan scripts (one .state) ≡ next
+      by-tests : (closed : Bool) → closedOf plan quota (one .state) ≡ closed → (next : ScriptItem) → nextOf plan scripts (one .state) ≡ next
           → stepOf plan scripts quota one ≡ activeStep plan scripts quota one
           → stepOf plan scripts′ quota other ≡ activeStep plan scripts′ quota other
           → Goal
@@ -101,7 +101,7 @@ module _ (plan : Plan) (quota domain : ℕ) {Kept : ℕ → Type 0} (to : (sende
 
 -- ---- one world in another's window
 
-pub step-away : (plan : Plan) (scripts : List ℕ) (quota domain : ℕ) (world : World) → planPossible plan ≡ true → domain < plan .domains
+pub step-away : (plan : Plan) (scripts : List ℕ) (quota domain : ℕ) (world : World) → planValid plan ≡ true → domain < plan .domains
     → (domain ≡ runningOf plan (world .state) → ⊥) → Whole world
     → Alike plan quota domain world (stepOf plan scripts quota world)
 step-away plan scripts quota domain world possible declared other whole =

@@ -9,13 +9,13 @@ use native.Mathlib.Nat.{add-sub-of-le, add-suc, add-zero}
 use native.Mathlib.Omega.{arith}
 use lib.ListN.{length}
 use Rattle.plan.specs.declared.Plan.{Plan}
-use Rattle.plan.specs.Possible.{planPossible}
-use Rattle.plan.specs.Windows.{ownerOf, startOf, windowsTotal}
+use Rattle.plan.specs.Validity.{planValid}
+use Rattle.plan.specs.Windows.{windowOwner, windowStart, windowsTotal}
 use Rattle.records.specs.Records.{partRecords}
-use Rattle.ops.specs.Ops.{boxPlace}
+use Rattle.ops.specs.Ops.{boxIndex}
 use Rattle.machine.specs.Steps.{stepOf}
 use Rattle.machine.specs.Switch.{switchOf}
-use Rattle.reached.proofs.Reached.{cache-length}
+use Rattle.reachable.proofs.Reached.{cache-length}
 use Rattle.machine.specs.Fresh.{freshWorld}
 use Rattle.isolation.specs.Points.{FreshRun, Starts, windowsAfter, worldAfter}
 use Rattle.isolation.specs.Statement.{StartedOnTime}
@@ -29,10 +29,10 @@ runBy plan scripts log = record { plan = plan; scripts = scripts; log = log }
 
 -- a plan, and the domains and boxes that are watched: the boxes that a named domain may receive from are kept
 pub record Watched (plan : Plan) (Named Kept : ℕ → Type 0) : Type 0 where
-  pub possible : planPossible plan ≡ true
+  pub possible : planValid plan ≡ true
   pub isNamed : (domain : ℕ) → Dec (Named domain)
   pub declared : (domain : ℕ) → Named domain → domain < plan .domains
-  pub to : (domain : ℕ) → Named domain → (sender : ℕ) → sender < 8 → Kept (boxPlace sender domain)
+  pub to : (domain : ℕ) → Named domain → (sender : ℕ) → sender < 8 → Kept (boxIndex sender domain)
 
 -- ---- a window of one run
 
@@ -58,7 +58,7 @@ pub record Completed (run : FreshRun) (window next : ℕ) : Type 0 where
 abbrev pub OnTime : FreshRun → ℕ → Type 0
 OnTime run count = (window : ℕ) → window ≤ windowsAfter run count → StartedOnTime run count window
 
-module _ (run : FreshRun) (possible : planPossible (run .plan) ≡ true) (count : ℕ) (onTime : OnTime run count) where
+module _ (run : FreshRun) (possible : planValid (run .plan) ≡ true) (count : ℕ) (onTime : OnTime run count) where
   -- the start of a window that a point of the run has come to
   pub began : (window point : ℕ) → point ≤ count → window ≤ windowsAfter run point → Began run window point
   began window point soFar reached =
@@ -89,13 +89,13 @@ module _ (run : FreshRun) (possible : planPossible (run .plan) ≡ true) (count 
 
   -- the clock at a window's start
   pub clock-at-start : (window start : ℕ) → start ≤ count → Starts run window start
-      → worldAfter run start .state .clock ≡ startOf (run .plan) window
+      → worldAfter run start .state .clock ≡ windowStart (run .plan) window
   clock-at-start window start soFar s =
       let t = onTime window (omega (arith, s .reached, no-fewer run possible start count soFar)) in
       rw (one-start run window start (t .at) s (t .starts)) (t .onTime)
 
 -- the cache table keeps its length
-pub whole : (run : FreshRun) → planPossible (run .plan) ≡ true → (count : ℕ) → Whole (worldAfter run count)
+pub whole : (run : FreshRun) → planValid (run .plan) ≡ true → (count : ℕ) → Whole (worldAfter run count)
 unfolding worldAfter freshWorld
 whole run possible count = cache-length (run .plan) (run .scripts) (run .log) count possible
 
@@ -105,7 +105,7 @@ module _ {Named Kept : ℕ → Type 0} (run : FreshRun) (w : Watched (run .plan)
   next-world count = one-more run count ∙ ap (λ (q : ℕ). stepOf (run .plan) (run .scripts) q (worldAfter run count)) quotaIs
 
   -- another's window leaves what the named domains have
-  pub stays-near : (window start : ℕ) → (Named (ownerOf (run .plan) window) → ⊥) → windowsAfter run start ≡ window
+  pub stays-near : (window start : ℕ) → (Named (windowOwner (run .plan) window) → ⊥) → windowsAfter run start ≡ window
       → (more : ℕ) → windowsAfter run (start + more) ≡ window
       → Near (run .plan) quota Named (worldAfter run start) (worldAfter run (start + more))
   stays-near window start unnamed here zero there = rw add-zero (near-refl (run .plan) quota Named (worldAfter run start))

@@ -1,7 +1,7 @@
 -- `line::line_at` meets its contract. Assumes nothing.
 use native.Mathlib.Omega.{arith}
 use borrow.Author.Needs.{needs}
-use Rattle.text.proofs.Reached.{reached}
+use Rattle.lexer.proofs.Reached.{reached}
 use Rattle.line.proofs.OtherKinds.{kinds}
 use Rattle.line.specs.Lines.{lineAt, tokenLine}
 use Rattle.line.proofs.line_at.Statement.{statement}
@@ -20,31 +20,31 @@ returns c = simp (← (c .before .before .before .token-at .ensures), c .before 
 enum-known-token-2 : tie.Need-enum-known-token-2
 enum-known-token-2 c = search needs
 
-start-of-requires : tie.Need-start-of-requires
-start-of-requires c κs = tt
+token-start-requires : tie.Need-token-start-requires
+token-start-requires c κs = tt
 
 refused-line-requires : tie.Need-refused-line-requires
 refused-line-requires c κs = tt
 
 returns-2 : tie.Need-returns-2
 unfolding lineAt tokenLine
-returns-2 c = simp (← (c .before .before .before .before .token-at .ensures), c .before .before .before .match .keys2, kinds, c .before .before .match2 .keys2, kinds, ← (c .before .start-of .ensures), ← (c .refused-line .ensures))
+returns-2 c = simp (← (c .before .before .before .before .token-at .ensures), c .before .before .before .match .keys2, kinds, c .before .before .match2 .keys2, kinds, ← (c .before .token-start .ensures), ← (c .refused-line .ensures))
 
-add-head-at : tie.Need-add-head-at
-add-head-at c = omega (arith, reached _ _ (c .before .before .before .before .token-at .ensures) (c .before .token2 .given .1))
+add-form-keyword-at : tie.Need-add-form-keyword-at
+add-form-keyword-at c = omega (arith, reached _ _ (c .before .before .before .before .token-at .ensures) (c .before .token2 .given .1))
 
-head-at-requires : tie.Need-head-at-requires
-head-at-requires c κs = tt
+form-keyword-at-requires : tie.Need-form-keyword-at-requires
+form-keyword-at-requires c κs = tt
 
-inside-of-requires : tie.Need-inside-of-requires
-inside-of-requires c κs = tt
+body-of-requires : tie.Need-body-of-requires
+body-of-requires c κs = tt
 
-inside-line-requires : tie.Need-inside-line-requires
-inside-line-requires c κs = tt
+body-line-requires : tie.Need-body-line-requires
+body-line-requires c κs = tt
 
 returns-3 : tie.Need-returns-3
 unfolding lineAt tokenLine
-returns-3 c = simp (← (c .before .before .before .before .before .before .before .token-at .ensures), c .before .before .before .before .before .before .match .keys2, kinds, c .before .before .before .before .token2 .given .1, ← (c .before .before .head-at .ensures), ← (c .before .inside-of .ensures), ← (c .inside-line .ensures))
+returns-3 c = simp (← (c .before .before .before .before .before .before .before .token-at .ensures), c .before .before .before .before .before .before .match .keys2, kinds, c .before .before .before .before .token2 .given .1, ← (c .before .before .form-keyword-at .ensures), ← (c .before .body-of .ensures), ← (c .body-line .ensures))
 
 pub line-at-spec : {M : Type 1} → statement M
 line-at-spec =
@@ -54,11 +54,11 @@ line-at-spec =
     enum-known-token
     returns
     enum-known-token-2
-    start-of-requires
+    token-start-requires
     refused-line-requires
     returns-2
-    add-head-at
-    head-at-requires
-    inside-of-requires
-    inside-line-requires
+    add-form-keyword-at
+    form-keyword-at-requires
+    body-of-requires
+    body-line-requires
     returns-3)

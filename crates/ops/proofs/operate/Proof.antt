@@ -2,7 +2,7 @@
 use mathlib.Core.Path.{refl, subst}
 use borrow.Author.Needs.{needs}
 use Rattle.ops.specs.Ops.{computeOf, effectOf}
-use Rattle.script.specs.Limits.{Within}
+use Rattle.script.specs.Limits.{OpWithinLimits}
 use Rattle.ops.proofs.Operations.{receive-below, send-below}
 use Rattle.ops.proofs.operate.Statement.{statement}
 use Rattle.ops.proofs.operate.Tie as tie
@@ -25,7 +25,7 @@ enum-known-op-3 c = search needs
 send-requires : tie.Need-send-requires
 send-requires c κs =
     let start = c .before .before .before .before .before .before .before in
-    (start .pre .0, send-below _ _ (subst Within (c .before .before .before .op3 .given .1) (start .pre .1)), start .pre .2, start .pre .3)
+    (start .pre .0, send-below _ _ (subst OpWithinLimits (c .before .before .before .op3 .given .1) (start .pre .1)), start .pre .2, start .pre .3)
 
 enum-known-op-4 : tie.Need-enum-known-op-4
 enum-known-op-4 c = search needs
@@ -33,7 +33,7 @@ enum-known-op-4 c = search needs
 receive-requires : tie.Need-receive-requires
 receive-requires c κs =
     let start = c .before .before .before .before .before .before .before in
-    (start .pre .0, receive-below _ (subst Within (c .before .before .before .op4 .given .1) (start .pre .1)), start .pre .2, start .pre .3)
+    (start .pre .0, receive-below _ (subst OpWithinLimits (c .before .before .before .op4 .given .1) (start .pre .1)), start .pre .2, start .pre .3)
 
 enum-known-op-5 : tie.Need-enum-known-op-5
 enum-known-op-5 c = search needs

@@ -68,8 +68,8 @@ add-t29 c = omega (arith, answered-ticks false 60 _ _ (c .before .before .before
 add-t30 : tie.Need-add-t30
 add-t30 c = omega (arith, answered-ticks false 60 _ _ (c .before .before .before .before .before .before .before .before .before .before .before .before .access .ensures .1), answered-ticks true _ _ _ (c .before .before .before .before .before .access2 .ensures .1))
 
-box-seen-requires : tie.Need-box-seen-requires
-box-seen-requires c κs = search needs
+box-observation-requires : tie.Need-box-observation-requires
+box-observation-requires c κs = search needs
 
 same-length-2 : tie.Need-same-length-2
 same-length-2 c = search needs
@@ -86,7 +86,7 @@ returns-2 c =
     (c .before .before .before .before .before .before .before .before .before .before .before .before .before .access .ensures .2)
     (c .before .before .before .before .before .before .access2 .ensures .1)
     (c .before .before .before .before .before .before .access2 .ensures .2)
-    (c .box-seen .ensures)
+    (c .box-observation .ensures)
 
 pub receive-spec : {M : Type 1} → statement M
 receive-spec =
@@ -112,7 +112,7 @@ receive-spec =
     slice-write-boxes
     add-t29
     add-t30
-    box-seen-requires
+    box-observation-requires
     same-length-2
     same-length-3
     returns-2)

@@ -16,8 +16,8 @@ returns c = λ rights boxes. touch-barred _ _ _ _ _ boxes (sym (c .before .owns-
 access-requires : tie.Need-access-requires
 access-requires c κs = (c .before .before .before .before .pre .1, owns-a-line _ _ _ (sym (c .before .before .owns-line .ensures []) ∙ not-false _ (c .before .if1 .left)))
 
-seen-of-requires : tie.Need-seen-of-requires
-seen-of-requires c κs = search needs
+access-observation-requires : tie.Need-access-observation-requires
+access-observation-requires c κs = search needs
 
 same-length : tie.Need-same-length
 same-length c = search needs
@@ -29,10 +29,10 @@ returns-2 c =
     (sym (c .before .before .before .before .before .before .owns-line .ensures rights) ∙ not-false _ (c .before .before .before .before .before .if1 .left))
     (c .before .before .before .access .ensures .1)
     (c .before .before .before .access .ensures .0)
-    (c .seen-of .ensures)
+    (c .access-observation .ensures)
     (c .before .before .before .access .ensures .2)
 
 pub touch-spec : {M : Type 1} → statement M
 touch-spec =
     tie.close
-    (tie.spec owns-line-requires returns access-requires seen-of-requires same-length returns-2)
+    (tie.spec owns-line-requires returns access-requires access-observation-requires same-length returns-2)

@@ -1,6 +1,6 @@
 -- `records::store_record` meets its contract. Assumes nothing.
 use borrow.Author.Needs.{needs}
-use Rattle.records.specs.Records.{stored}
+use Rattle.records.specs.Records.{recordStored}
 use Rattle.records.proofs.store_record.Statement.{statement}
 use Rattle.records.proofs.store_record.Tie as tie
 
@@ -20,7 +20,7 @@ same-length : tie.Need-same-length
 same-length c = search needs
 
 returns : tie.Need-returns
-unfolding stored
+unfolding recordStored
 returns c = c .before .before .write-record .ensures
 
 pub store-record-spec : {M : Type 1} → statement M

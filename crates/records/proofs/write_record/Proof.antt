@@ -8,11 +8,11 @@ use Rattle.records.specs.Records.{recordBytes}
 use Rattle.records.proofs.write_record.Statement.{statement}
 use Rattle.records.proofs.write_record.Tie as tie
 
-value-of-requires : tie.Need-value-of-requires
-value-of-requires c κs = search needs
+record-value-requires : tie.Need-record-value-requires
+record-value-requires c κs = search needs
 
-kind-of-requires : tie.Need-kind-of-requires
-kind-of-requires c κs = search needs
+record-kind-requires : tie.Need-record-kind-requires
+record-kind-requires c κs = search needs
 
 slice-write-log : tie.Need-slice-write-log
 slice-write-log c = search needs
@@ -82,14 +82,14 @@ same-length c = simp length-set
 
 returns : tie.Need-returns
 unfolding recordBytes
-returns c = simp (towards-suc, div-one, c .kind-of .ensures, c .before .value-of .ensures)
+returns c = simp (towards-suc, div-one, c .record-kind .ensures, c .before .record-value .ensures)
 
 pub write-record-spec : {M : Type 1} → statement M
 write-record-spec =
     tie.close
     (tie.spec
-    value-of-requires
-    kind-of-requires
+    record-value-requires
+    record-kind-requires
     slice-write-log
     add-log
     slice-write-log-2

@@ -2,7 +2,7 @@
 use borrow.Author.Needs.{needs}
 use Rattle.lists.proofs.Stores.{wrote-first}
 use Rattle.lists.specs.Ascii.{bytesOf}
-use Rattle.report.specs.Lines.{refusedLine}
+use Rattle.report.specs.Lines.{refusalLine}
 use Rattle.report.proofs.write_refusal.Statement.{statement}
 use Rattle.report.proofs.write_refusal.Tie as tie
 
@@ -19,10 +19,10 @@ same-length : tie.Need-same-length
 same-length c = search needs
 
 returns : tie.Need-returns
-unfolding bytesOf refusedLine
+unfolding bytesOf refusalLine
 returns c =
     let args = c .before .before .before .before .before .before .before .args in
-    wrote-first (args .out .now) (refusedLine (args .code)) (c .before .before .write-pair .ensures)
+    wrote-first (args .out .now) (refusalLine (args .code)) (c .before .before .write-pair .ensures)
 
 pub write-refusal-spec : {M : Type 1} → statement M
 write-refusal-spec =

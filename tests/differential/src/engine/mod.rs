@@ -70,8 +70,9 @@ pub fn linked() -> Option<Box<dyn Engine>> {
     return None;
 }
 
-/// The engine to hold against the reference: the linked library, or without one
-/// the reference once more.
+/// The linked library, to be held against the reference. Without one a
+/// comparison would hold the reference against itself and always agree, so a
+/// test that asks for it fails.
 pub fn under_test() -> Box<dyn Engine> {
-    linked().unwrap_or_else(|| Box::new(Reference))
+    linked().expect("no library is linked: PIRKVEZO_LIB names the folder of libpirkvezo.a")
 }

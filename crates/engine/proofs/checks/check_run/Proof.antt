@@ -11,35 +11,35 @@ use Rattle.engine.proofs.checks.check_run.Tie as tie
 returns : tie.Need-returns
 returns c = run-wrong-length _ _ _ (not-true _ (c .if1 .taken))
 
-is-possible-requires : tie.Need-is-possible-requires
-is-possible-requires c κs = search needs
+is-valid-requires : tie.Need-is-valid-requires
+is-valid-requires c κs = search needs
 
 returns-2 : tie.Need-returns-2
-returns-2 c = run-impossible _ _ _ (not-false _ (c .before .before .if1 .left)) (sym (c .before .is-possible .ensures) ∙ not-true _ (c .if2 .taken))
+returns-2 c = run-impossible _ _ _ (not-false _ (c .before .before .if1 .left)) (sym (c .before .is-valid .ensures) ∙ not-true _ (c .if2 .taken))
 
-tables-sound-requires : tie.Need-tables-sound-requires
-tables-sound-requires c κs =
+tables-valid-requires : tie.Need-tables-valid-requires
+tables-valid-requires c κs =
     let args = c .before .before .before .before .before .before .before .args in
     let long = fit-lengths (args .plan) (now (args .scripts)) (worldWith (args .state) (now (args .cache)) (now (args .boxes)) (now (args .log))) (not-false _ (c .before .before .if1 .left)) in
-    ((sym (c .before .is-possible .ensures) ∙ not-false _ (c .if2 .left)), long .0, long .1)
+    ((sym (c .before .is-valid .ensures) ∙ not-false _ (c .if2 .left)), long .0, long .1)
 
 returns-3 : tie.Need-returns-3
-returns-3 c = run-damaged _ _ _ (not-false _ (c .before .before .before .before .if1 .left)) (sym (c .before .before .before .is-possible .ensures) ∙ not-false _ (c .before .before .if2 .left)) (sym (c .before .tables-sound .ensures) ∙ not-true _ (c .if3 .taken))
+returns-3 c = run-damaged _ _ _ (not-false _ (c .before .before .before .before .if1 .left)) (sym (c .before .before .before .is-valid .ensures) ∙ not-false _ (c .before .before .if2 .left)) (sym (c .before .tables-valid .ensures) ∙ not-true _ (c .if3 .taken))
 
 check-state-requires : tie.Need-check-state-requires
-check-state-requires c κs = (sym (c .before .before .before .is-possible .ensures) ∙ not-false _ (c .before .before .if2 .left))
+check-state-requires c κs = (sym (c .before .before .before .is-valid .ensures) ∙ not-false _ (c .before .before .if2 .left))
 
 returns-4 : tie.Need-returns-4
-returns-4 c = run-judged _ _ _ _ (not-false _ (c .before .before .before .before .before .if1 .left)) (sym (c .before .before .before .before .is-possible .ensures) ∙ not-false _ (c .before .before .before .if2 .left)) (sym (c .before .before .tables-sound .ensures) ∙ not-false _ (c .before .if3 .left)) (c .check-state .ensures)
+returns-4 c = run-judged _ _ _ _ (not-false _ (c .before .before .before .before .before .if1 .left)) (sym (c .before .before .before .before .is-valid .ensures) ∙ not-false _ (c .before .before .before .if2 .left)) (sym (c .before .before .tables-valid .ensures) ∙ not-false _ (c .before .if3 .left)) (c .check-state .ensures)
 
 pub check-run-spec : {M : Type 1} → statement M
 check-run-spec =
     tie.close
     (tie.spec
     returns
-    is-possible-requires
+    is-valid-requires
     returns-2
-    tables-sound-requires
+    tables-valid-requires
     returns-3
     check-state-requires
     returns-4)

@@ -3,9 +3,9 @@ use mathlib.Core.Path.{_∙_, ap, refl, sym}
 use Prim.Native.Nat.{ℕ}
 use borrow.Author.Needs.{needs}
 use Rattle.records.proofs.Parts.{parts-fit}
-use Rattle.state.specs.Impossible.{statePossible}
+use Rattle.state.specs.StateValidity.{stateValid}
 use Rattle.machine.specs.View.{worldWith}
-use Rattle.plan.proofs.Possible.{counts}
+use Rattle.plan.proofs.Validity.{counts}
 use Rattle.engine.proofs.Verdicts.{RunAccepted, ran, run-accepted, run-refused}
 use Rattle.engine.proofs.running.run.Statement.{statement}
 use denote.Ref.{now}
@@ -35,7 +35,7 @@ run-steps-requires c κs =
     let ok = lent (c .before .before .before .before) in
     let quota = c .before .before .before .part-records .ensures (c .before .before .before .before .before .before .before .before .before .before .before .before .before .before .args .plan) refl in (
       ok .possible,
-      ap (λ (n : ℕ). statePossible (c .before .before .before .before .before .before .before .before .before .before .before .before .before .before .args .plan) n (c .before .before .before .before .before .before .before .before .before .before .before .before .before .before .args .state)) quota ∙ ok .state-is,
+      ap (λ (n : ℕ). stateValid (c .before .before .before .before .before .before .before .before .before .before .before .before .before .before .args .plan) n (c .before .before .before .before .before .before .before .before .before .before .before .before .before .before .args .state)) quota ∙ ok .state-is,
       ok .scripts-long,
       ok .cache-long,
       ok .boxes-long,

@@ -4,15 +4,15 @@ use mathlib.Core.Path.{_∙_, refl, sym}
 use Prim.Native.Nat.{_+_, _-_, _<_}
 use native.Mathlib.Omega.{arith}
 use borrow.Author.Needs.{needs}
-use Rattle.plan.proofs.Possible.{counts}
+use Rattle.plan.proofs.Validity.{counts}
 use Rattle.plan.proofs.Windows.{owner-declared}
-use Rattle.plan.specs.Windows.{lengthOf, ownerOf, windowsTotal}
+use Rattle.plan.specs.Windows.{windowLength, windowOwner, windowsTotal}
 use Rattle.plan.specs.declared.Plan.{Plan}
 use Rattle.state.specs.declared.State.{State}
 use Rattle.state.specs.World.{World, positionAt, recordsAt}
 use Rattle.machine.specs.View.{InTurn, InWindow, worldWith}
 use Rattle.machine.proofs.Going.{Going, Small, going-ended, going-first, going-limit, going-switch, going-window, part-room, small, windows-small}
-use Rattle.machine.proofs.Schedule.{possible-scheduled}
+use Rattle.machine.proofs.Schedule.{valid-scheduled}
 use Rattle.machine.proofs.Turns.{switch-stepped}
 use Rattle.machine.proofs.stepping.run_steps.Statement.{statement}
 use Rattle.machine.proofs.stepping.run_steps.Tie as tie
@@ -49,13 +49,13 @@ smalls c =
 -- what the ops of the window are handed
 handed :
     (c : tie.Else1 Inv-loop μ-loop)
-    → InWindow (plan-at c) (c .before .before .loop .windows) (ownerOf (plan-at c) (c .before .before .loop .windows))
-    (c .before .before .loop .start + lengthOf (plan-at c) (c .before .before .loop .windows)) (plan-at c .rights) (plan-at c .masks)
+    → InWindow (plan-at c) (c .before .before .loop .windows) (windowOwner (plan-at c) (c .before .before .loop .windows))
+    (c .before .before .loop .start + windowLength (plan-at c) (c .before .before .loop .windows)) (plan-at c .rights) (plan-at c .masks)
 handed c = record { owner-is = refl; end-is = sym (smalls c .end-is); rights-are = refl; masks-are = refl }
 
 begins :
     (c : tie.Else1 Inv-loop μ-loop)
-    → let owner = ownerOf (plan-at c) (c .before .before .loop .windows) in
+    → let owner = windowOwner (plan-at c) (c .before .before .loop .windows) in
     InTurn (plan-at c) (state-at (c .before .before)) owner (c .before .before .loop .clock) (positionAt (state-at (c .before .before)) owner) (recordsAt (state-at (c .before .before)) owner)
 begins c =
     let inv = c .before .before .loop .inv in
@@ -74,15 +74,15 @@ cast-declared c = search needs
 windows-total-requires : tie.Need-windows-total-requires Inv-loop μ-loop
 windows-total-requires c κs = let count = counts _ (c .before .before .before .before .before .before .before .before .before .pre .0) in (count .run-most, count .windows-most)
 
-start-of-requires : tie.Need-start-of-requires Inv-loop μ-loop
-start-of-requires c κs =
+window-start-requires : tie.Need-window-start-requires Inv-loop μ-loop
+window-start-requires c κs =
     let pre = c .before .before .before .before .before .before .before .before .before .before .before .before .pre in
-    (pre .0, possible-scheduled _ _ (worldWith (c .before .before .before .before .before .before .before .before .before .before .before .before .args .state) [] [] []) (pre .0) (pre .1) .windows)
+    (pre .0, valid-scheduled _ _ (worldWith (c .before .before .before .before .before .before .before .before .before .before .before .before .args .state) [] [] []) (pre .0) (pre .1) .windows)
 
 loop-holds : tie.Need-loop-holds Inv-loop μ-loop
 loop-holds c =
     let pre = c .before .before .before .before .before .before .before .before .before .before .before .before .before .pre in
-    going-first _ _ _ _ _ (pre .0) _ (pre .1) (c .start-of .ensures) (search (needs, c .before .before .before .before .before .before .before .before .before .before .before .before .before .good .1 .1 .1 .1 .0)) (search (needs, c .before .before .before .before .before .before .before .before .before .before .before .before .before .good .1 .1 .1 .1 .0)) (pre .3) (pre .4)
+    going-first _ _ _ _ _ (pre .0) _ (pre .1) (c .window-start .ensures) (search (needs, c .before .before .before .before .before .before .before .before .before .before .before .before .before .good .1 .1 .1 .1 .0)) (search (needs, c .before .before .before .before .before .before .before .before .before .before .before .before .before .good .1 .1 .1 .1 .0)) (pre .3) (pre .4)
 
 rem-slot : tie.Need-rem-slot Inv-loop μ-loop
 rem-slot c = counts _ (c .before .before .before .before .before .before .before .before .before .before .before .before .before .before .before .before .pre .0) .windows-least
@@ -94,7 +94,7 @@ array-read-owner : tie.Need-array-read-owner Inv-loop μ-loop
 array-read-owner c = smalls c .slot-below
 
 cast-owner : tie.Need-cast-owner Inv-loop μ-loop
-unfolding ownerOf
+unfolding windowOwner
 cast-owner c = omega (arith, smalls c .owner-below)
 
 mul-end : tie.Need-mul-end Inv-loop μ-loop
@@ -104,37 +104,37 @@ array-read-end : tie.Need-array-read-end Inv-loop μ-loop
 array-read-end c = smalls c .slot-below
 
 cast-end : tie.Need-cast-end Inv-loop μ-loop
-unfolding lengthOf
+unfolding windowLength
 cast-end c = omega (arith, smalls c .length-most)
 
 add-end : tie.Need-add-end Inv-loop μ-loop
-unfolding lengthOf
+unfolding windowLength
 add-end c = omega (arith, smalls c .length-most, smalls c .start-most)
 
 cast-pad : tie.Need-cast-pad Inv-loop μ-loop
 cast-pad c = search needs
 
 mul-position : tie.Need-mul-position Inv-loop μ-loop
-unfolding ownerOf
+unfolding windowOwner
 mul-position c = omega (arith, smalls (c .before) .owner-below)
 
 array-read-position : tie.Need-array-read-position Inv-loop μ-loop
-unfolding ownerOf
+unfolding windowOwner
 array-read-position c = smalls (c .before) .owner-below
 
 mul-count : tie.Need-mul-count Inv-loop μ-loop
-unfolding ownerOf
+unfolding windowOwner
 mul-count c = omega (arith, smalls (c .before) .owner-below)
 
 array-read-count : tie.Need-array-read-count Inv-loop μ-loop
-unfolding ownerOf
+unfolding windowOwner
 array-read-count c = smalls (c .before) .owner-below
 
 sub-run-window : tie.Need-sub-run-window Inv-loop μ-loop
 sub-run-window c = omega (arith, c .before .before .before .before .loop-test)
 
 run-window-requires : tie.Need-run-window-requires Inv-loop μ-loop
-unfolding ownerOf lengthOf
+unfolding windowOwner windowLength
 run-window-requires c κs =
     let s = smalls (c .before .before .before .before .before .before) in
     let pre = c .before .before .before .before .before .before .before .before .before .before .before .before .before .before .before .before .before .before .before .before .before .before .pre in
@@ -149,32 +149,32 @@ run-window-requires c κs =
     )
 
 mul-positions : tie.Need-mul-positions Inv-loop μ-loop
-unfolding ownerOf
+unfolding windowOwner
 mul-positions c = omega (arith, smalls (c .before .before .before .before .before .before .before .before .before .before .before .before .before) .owner-below)
 
 array-write-positions : tie.Need-array-write-positions Inv-loop μ-loop
-unfolding ownerOf
+unfolding windowOwner
 array-write-positions c = smalls (c .before .before .before .before .before .before .before .before .before .before .before .before .before) .owner-below
 
 mul-records : tie.Need-mul-records Inv-loop μ-loop
-unfolding ownerOf
+unfolding windowOwner
 mul-records c = omega (arith, smalls (c .before .before .before .before .before .before .before .before .before .before .before .before .before) .owner-below)
 
 array-write-records : tie.Need-array-write-records Inv-loop μ-loop
-unfolding ownerOf
+unfolding windowOwner
 array-write-records c = smalls (c .before .before .before .before .before .before .before .before .before .before .before .before .before) .owner-below
 
 add-steps : tie.Need-add-steps Inv-loop μ-loop
 add-steps c = omega (arith, c .before .before .before .before .before .before .before .before .before .before .before .before .before .before .before .loop-test, c .before .before .before .before .before .before .before .run-window .ensures .0, c .before .before .before .before .before .before .before .before .before .before .before .before .before .before .before .before .before .before .before .before .before .before .before .before .before .before .before .before .before .before .fits .limit)
 
 switch-requires : tie.Need-switch-requires Inv-loop μ-loop
-unfolding ownerOf lengthOf
+unfolding windowOwner windowLength
 switch-requires c κs =
     let pre = c .before .before .before .before .before .before .before .before .before .before .before .before .before .before .before .before .before .before .before .before .before .before .before .before .before .before .before .before .before .before .before .before .pre in
     let loop = c .before .before .before .before .before .before .before .before .before .before .before .before .before .before .before .before .before .before .loop in
     let spent = c .before .before .before .before .before .before .before .before .before .run-window in
     let ran = spent .ensures .1 (plan-at (c .before .before .before .before .before .before .before .before .before .before .before .before .before .before .before .before)) (state-at (c .before .before .before .before .before .before .before .before .before .before .before .before .before .before .before .before .before .before)) (handed (c .before .before .before .before .before .before .before .before .before .before .before .before .before .before .before .before)) (begins (c .before .before .before .before .before .before .before .before .before .before .before .before .before .before .before .before)) in
-    let went = going-window _ _ _ _ _ (pre .0) (state-at (c .before .before .before .before .before .before .before .before .before .before .before .before .before .before .before .before .before .before)) (ownerOf (plan-at (c .before .before .before .before .before .before .before .before .before .before .before .before .before .before .before .before)) (loop .windows)) (spent .result .clock) (spent .result .position) (spent .result .records) _ _ _ _ _ _ _ _ _ (loop .inv) (spent .ensures .0) (ran .ran)
+    let went = going-window _ _ _ _ _ (pre .0) (state-at (c .before .before .before .before .before .before .before .before .before .before .before .before .before .before .before .before .before .before)) (windowOwner (plan-at (c .before .before .before .before .before .before .before .before .before .before .before .before .before .before .before .before)) (loop .windows)) (spent .result .clock) (spent .result .position) (spent .result .records) _ _ _ _ _ _ _ _ _ (loop .inv) (spent .ensures .0) (ran .ran)
     (spent .kept .1 .1 .1 .1 .1 .1 .1 .1 .1 .1 .0) (spent .kept .1 .1 .1 .1 .1 .1 .1 .1 .1 .1 .1 .0) (spent .kept .1 .1 .1 .1 .1 .1 .1 .1 .1 .1 .1 .1 .0) in
     let s = small _ _ _ (pre .0) (went .on-schedule) (went .starts) (inside (c .before .before .before .before .before .before .before .before .before .before .before .before .before .before .before .before)) in
     (went .cache-long, omega (arith, s), omega (arith, s), omega (arith, s))
@@ -183,7 +183,7 @@ add-windows : tie.Need-add-windows Inv-loop μ-loop
 add-windows c = omega (arith, windows-small _ _ (c .before .before .before .before .before .before .before .before .before .before .before .before .before .before .before .before .before .before .before .before .before .before .before .before .before .before .before .before .before .before .before .before .before .before .before .pre .0) (c .before .before .before .before .before .before .before .before .before .before .before .before .before .before .before .before .before .before .before .before .before .loop .inv .on-schedule .windows))
 
 add-start : tie.Need-add-start Inv-loop μ-loop
-unfolding lengthOf
+unfolding windowLength
 add-start c = omega (arith, smalls (c .before .before .before .before .before .before .before .before .before .before .before .before .before .before .before .before .before .before .before))
 
 add-steps-2 : tie.Need-add-steps-2 Inv-loop μ-loop
@@ -193,13 +193,13 @@ loop-less : tie.Need-loop-less Inv-loop μ-loop
 loop-less c = omega (arith, c .before .before .before .before .before .before .before .before .before .before .before .before .before .before .before .before .before .before .before .before .loop-test, c .before .before .before .before .if2, c .before .before .before .before .before .before .before .before .before .before .before .before .run-window .ensures .0)
 
 loop-again : tie.Need-loop-again Inv-loop μ-loop
-unfolding ownerOf lengthOf
+unfolding windowOwner windowLength
 loop-again c =
     let pre = c .before .before .before .before .before .before .before .before .before .before .before .before .before .before .before .before .before .before .before .before .before .before .before .before .before .before .before .before .before .before .before .before .before .before .before .pre in
     let loop = c .before .before .before .before .before .before .before .before .before .before .before .before .before .before .before .before .before .before .before .before .before .loop in
     let spent = c .before .before .before .before .before .before .before .before .before .before .before .before .run-window in
     let ran = spent .ensures .1 (plan-at (c .before .before .before .before .before .before .before .before .before .before .before .before .before .before .before .before .before .before .before)) (state-at (c .before .before .before .before .before .before .before .before .before .before .before .before .before .before .before .before .before .before .before .before .before)) (handed (c .before .before .before .before .before .before .before .before .before .before .before .before .before .before .before .before .before .before .before)) (begins (c .before .before .before .before .before .before .before .before .before .before .before .before .before .before .before .before .before .before .before)) in
-    let went = going-window _ _ _ _ _ (pre .0) (state-at (c .before .before .before .before .before .before .before .before .before .before .before .before .before .before .before .before .before .before .before .before .before)) (ownerOf (plan-at (c .before .before .before .before .before .before .before .before .before .before .before .before .before .before .before .before .before .before .before)) (loop .windows)) (spent .result .clock) (spent .result .position) (spent .result .records) _ _ _ _ _ _ _ _ _ (loop .inv) (spent .ensures .0) (ran .ran)
+    let went = going-window _ _ _ _ _ (pre .0) (state-at (c .before .before .before .before .before .before .before .before .before .before .before .before .before .before .before .before .before .before .before .before .before)) (windowOwner (plan-at (c .before .before .before .before .before .before .before .before .before .before .before .before .before .before .before .before .before .before .before)) (loop .windows)) (spent .result .clock) (spent .result .position) (spent .result .records) _ _ _ _ _ _ _ _ _ (loop .inv) (spent .ensures .0) (ran .ran)
     (spent .kept .1 .1 .1 .1 .1 .1 .1 .1 .1 .1 .0) (spent .kept .1 .1 .1 .1 .1 .1 .1 .1 .1 .1 .1 .0) (spent .kept .1 .1 .1 .1 .1 .1 .1 .1 .1 .1 .1 .1 .0) in
     let switched = c .before .before .switch in
     going-switch _ _ _ _ _ (pre .0) _ _ _ _ _ went (c .before .before .before .before .if2 .left) (inside (c .before .before .before .before .before .before .before .before .before .before .before .before .before .before .before .before .before .before .before)) (smalls (c .before .before .before .before .before .before .before .before .before .before .before .before .before .before .before .before .before .before .before) .end-is)
@@ -241,13 +241,13 @@ same-length-9 : tie.Need-same-length-9 Inv-loop μ-loop
 same-length-9 c = c .before .before .before .before .before .before .before .before .run-window .kept .1 .1 .1 .1 .1 .1 .1 .1 .1 .1 .1 .1 .0 ∙ c .before .before .before .before .before .before .before .before .before .before .before .before .before .before .before .before .before .loop .inv .log-long
 
 returns-3 : tie.Need-returns-3 Inv-loop μ-loop
-unfolding ownerOf lengthOf
+unfolding windowOwner windowLength
 returns-3 c =
     let pre = c .before .before .before .before .before .before .before .before .before .before .before .before .before .before .before .before .before .before .before .before .before .before .before .before .before .before .before .before .before .before .before .pre in
     let loop = c .before .before .before .before .before .before .before .before .before .before .before .before .before .before .before .before .before .loop in
     let spent = c .before .before .before .before .before .before .before .before .run-window in
     let ran = spent .ensures .1 (plan-at (c .before .before .before .before .before .before .before .before .before .before .before .before .before .before .before)) (state-at (c .before .before .before .before .before .before .before .before .before .before .before .before .before .before .before .before .before)) (handed (c .before .before .before .before .before .before .before .before .before .before .before .before .before .before .before)) (begins (c .before .before .before .before .before .before .before .before .before .before .before .before .before .before .before)) in
-    let went = going-window _ _ _ _ _ (pre .0) (state-at (c .before .before .before .before .before .before .before .before .before .before .before .before .before .before .before .before .before)) (ownerOf (plan-at (c .before .before .before .before .before .before .before .before .before .before .before .before .before .before .before)) (loop .windows)) (spent .result .clock) (spent .result .position) (spent .result .records) _ _ _ _ _ _ _ _ _ (loop .inv) (spent .ensures .0) (ran .ran)
+    let went = going-window _ _ _ _ _ (pre .0) (state-at (c .before .before .before .before .before .before .before .before .before .before .before .before .before .before .before .before .before)) (windowOwner (plan-at (c .before .before .before .before .before .before .before .before .before .before .before .before .before .before .before)) (loop .windows)) (spent .result .clock) (spent .result .position) (spent .result .records) _ _ _ _ _ _ _ _ _ (loop .inv) (spent .ensures .0) (ran .ran)
     (spent .kept .1 .1 .1 .1 .1 .1 .1 .1 .1 .1 .0) (spent .kept .1 .1 .1 .1 .1 .1 .1 .1 .1 .1 .1 .0) (spent .kept .1 .1 .1 .1 .1 .1 .1 .1 .1 .1 .1 .1 .0) in
     going-limit _ _ _ _ _ (pre .0) _ _ _ went (c .if2 .taken)
 
@@ -259,7 +259,7 @@ run-steps-spec =
     μ-loop
     cast-declared
     windows-total-requires
-    start-of-requires
+    window-start-requires
     loop-holds
     rem-slot
     mul-owner

@@ -5,7 +5,7 @@ use borrow.Author.Needs.{needs}
 use Rattle.lists.proofs.Stores.{wrote-both, wrote-three}
 use Rattle.lists.specs.Ascii.{bytesOf}
 use Rattle.report.specs.Lines.{kindWord}
-use Rattle.text.specs.Decimal.{decimalOf}
+use Rattle.lexer.specs.Decimal.{decimalOf}
 use Rattle.report.proofs.Limits.{numbered-limit, word-limit}
 use Rattle.report.proofs.lines.write_kind_and_value.Statement.{statement}
 use Rattle.report.proofs.lines.write_kind_and_value.Tie as tie

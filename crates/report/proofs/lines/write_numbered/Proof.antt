@@ -1,7 +1,7 @@
 -- `report::lines::write_numbered` meets its contract. Assumes nothing.
 use borrow.Author.Needs.{needs}
 use Rattle.lists.proofs.Stores.{wrote-both}
-use Rattle.text.specs.Decimal.{decimalOf}
+use Rattle.lexer.specs.Decimal.{decimalOf}
 use Rattle.report.proofs.lines.write_numbered.Statement.{statement}
 use Rattle.report.proofs.lines.write_numbered.Tie as tie
 

@@ -4,7 +4,7 @@ use native.Mathlib.Omega.{arith}
 use borrow.Author.Needs.{needs}
 use Rattle.lists.proofs.Stores.{wrote-both, wrote-three}
 use Rattle.lists.specs.Ascii.{bytesOf}
-use Rattle.text.specs.Decimal.{decimalOf}
+use Rattle.lexer.specs.Decimal.{decimalOf}
 use Rattle.report.proofs.Limits.{numbered-limit}
 use Rattle.report.proofs.lines.write_pair.Statement.{statement}
 use Rattle.report.proofs.lines.write_pair.Tie as tie

@@ -3,7 +3,7 @@ use mathlib.Core.Path.{_∙_, ap, sym}
 use lib.ListN.{length}
 use lib.Seq.{sets}
 use borrow.Author.Needs.{needs}
-use Rattle.reader.proofs.Accepted.{accepted-possible}
+use Rattle.reader.proofs.Accepted.{accepted-valid}
 use Rattle.reader.specs.Draft.{noOps}
 use Rattle.report.proofs.Planned.{planned-ran, planned-refused}
 use Rattle.report.proofs.program.plan_lines.Statement.{statement}
@@ -33,7 +33,7 @@ slice-aggregate-run-lines c = search needs
 run-lines-requires : tie.Need-run-lines-requires
 run-lines-requires c κs =
     let read = c .before .before .before .before .before .before .read-plan .ensures in
-    rw (read .1) (accepted-possible _ _ (sym (read .0) ∙ c .before .before .enum-told .given .1))
+    rw (read .1) (accepted-valid _ _ (sym (read .0) ∙ c .before .before .enum-told .given .1))
 
 same-length : tie.Need-same-length
 same-length c = search needs

@@ -6,9 +6,9 @@ use lib.ListN.{length, length-replicate}
 use lib.Seq.{sets}
 use borrow.Author.Needs.{needs}
 use Rattle.engine.proofs.FreshRuns.{Left, run-left, started-fresh}
-use Rattle.engine.specs.Running.{Run, runCallOf}
+use Rattle.engine.specs.Running.{RunOutcome, runCallOf}
 use Rattle.records.specs.Records.{partRecords}
-use Rattle.state.specs.Impossible.{statePossible}
+use Rattle.state.specs.StateValidity.{stateValid}
 use Rattle.state.specs.World.{World}
 use Rattle.machine.specs.View.{worldWith}
 use Rattle.report.specs.Planrun.{largestLimit, lentLog, planrunRun, ranLines}
@@ -24,7 +24,7 @@ world-is :
     ≡ planrunRun (start .args .plan) (now (start .args .scripts)) .world
 world-is c =
     let start = c .before .before .before .before .before .before .before .before .before .before .before .before .before in
-    ap (λ (r : Run). r .world) (c .run .ensures)
+    ap (λ (r : RunOutcome). r .world) (c .run .ensures)
     ∙ ap (λ (w : World). runCallOf (start .args .plan) (now (start .args .scripts)) w largestLimit .world)
     (started-fresh _ _ _ _ _ _ lentLog (start .pre) (c .before .before .before .before .before .before .before .fresh-start .ensures))
 
@@ -71,7 +71,7 @@ write-run-requires c κs =
     let ran = c .before .before .before .before .before .before in
     let left = left-by ran in (
       start .pre,
-      ap (λ (n : ℕ). statePossible (start .args .plan) (partRecords (start .args .plan) n) (ran .run .result .state)) (left .long) ∙ left .possible,
+      ap (λ (n : ℕ). stateValid (start .args .plan) (partRecords (start .args .plan) n) (ran .run .result .state)) (left .long) ∙ left .possible,
       rw (left .long) (rw length-replicate (omega arith)),
     )
 

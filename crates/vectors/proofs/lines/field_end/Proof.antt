@@ -5,9 +5,9 @@ use mathlib.Core.Path.{_≡_, refl, sym, _∙_}
 use lib.ListN.{length}
 use borrow.Author.Needs.{needs}
 use borrow.Author.Tests.{eq-eqb, ne-eqb}
-use Rattle.text.proofs.Scanning.{scan-here, scan-next, scan-end}
-use Rattle.text.specs.Bytes.{isSpace}
-use Rattle.text.specs.Scan.{scanOf}
+use Rattle.lexer.proofs.Scanning.{scan-here, scan-next, scan-end}
+use Rattle.lexer.specs.Bytes.{isSpace}
+use Rattle.lexer.specs.Scan.{scanOf}
 use Rattle.vectors.proofs.lines.field_end.Statement.{statement}
 use Rattle.vectors.proofs.lines.field_end.Tie as tie
 

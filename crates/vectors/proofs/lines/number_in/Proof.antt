@@ -8,12 +8,12 @@ use Rattle.vectors.proofs.lines.number_in.Tie as tie
 field-of-requires : tie.Need-field-of-requires
 field-of-requires c κs = search needs
 
-value-of-requires : tie.Need-value-of-requires
-value-of-requires c κs = search needs
+spelled-value-requires : tie.Need-spelled-value-requires
+spelled-value-requires c κs = search needs
 
 returns : tie.Need-returns
 unfolding numberIn
-returns c = c .value-of .ensures ∙ ap (spelledAfter 0) (c .before .field-of .ensures)
+returns c = c .spelled-value .ensures ∙ ap (spelledAfter 0) (c .before .field-of .ensures)
 
 pub number-in-spec : {M : Type 1} → statement M
-number-in-spec = tie.close (tie.spec field-of-requires value-of-requires returns)
+number-in-spec = tie.close (tie.spec field-of-requires spelled-value-requires returns)

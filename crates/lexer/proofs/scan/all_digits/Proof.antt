@@ -1,0 +1,57 @@
+-- `lexer::scan::all_digits` meets its contract: the bytes left decide the answer. Assumes nothing.
+use Prim.Native.Nat.{_-_}
+use mathlib.Core.Path.{_≡_, refl, sym, _∙_}
+use lib.ListN.{length}
+use borrow.Author.Needs.{needs}
+use borrow.Author.Tests.{not-true, not-false}
+use Rattle.lexer.specs.Bytes.{isDigit}
+use Rattle.lexer.specs.Scan.{allBytes}
+use Rattle.lexer.proofs.Scanning.{allFrom, all-fails, all-next, all-end}
+use Rattle.lexer.proofs.scan.all_digits.Statement.{statement}
+use Rattle.lexer.proofs.scan.all_digits.Tie as tie
+
+abbrev Inv-loop : tie.InvT-loop
+Inv-loop run i₀ i = allFrom isDigit run i ≡ allBytes isDigit run
+
+abbrev μ-loop : tie.MeasureT-loop
+μ-loop run i₀ i = length run - i
+
+loop-holds : tie.Need-loop-holds Inv-loop μ-loop
+unfolding allFrom
+loop-holds c = refl
+
+shared-slice-read-is-digit : tie.Need-shared-slice-read-is-digit Inv-loop μ-loop
+shared-slice-read-is-digit c = search needs
+
+is-digit-requires : tie.Need-is-digit-requires Inv-loop μ-loop
+is-digit-requires c κs = tt
+
+returns : tie.Need-returns Inv-loop μ-loop
+returns c = sym (all-fails isDigit _ _ (search needs) (sym (c .before .is-digit .ensures) ∙ not-true _ (c .if1 .taken))) ∙ c .before .before .before .before .loop .inv
+
+add-i : tie.Need-add-i Inv-loop μ-loop
+add-i c = search needs
+
+loop-less : tie.Need-loop-less Inv-loop μ-loop
+loop-less c = search needs
+
+loop-again : tie.Need-loop-again Inv-loop μ-loop
+loop-again c = all-next isDigit _ _ (search needs) (sym (c .before .is-digit .ensures) ∙ not-false _ (c .if1 .left)) ∙ c .before .before .before .before .loop .inv
+
+returns-2 : tie.Need-returns-2 Inv-loop μ-loop
+returns-2 c = sym (all-end isDigit _ _ (search needs)) ∙ c .before .loop .inv
+
+pub all-digits-spec : {M : Type 1} → statement M
+all-digits-spec =
+    tie.close
+    (tie.spec
+    Inv-loop
+    μ-loop
+    loop-holds
+    shared-slice-read-is-digit
+    is-digit-requires
+    returns
+    add-i
+    loop-less
+    loop-again
+    returns-2)

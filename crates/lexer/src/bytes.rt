@@ -1,0 +1,24 @@
+// The bytes of a plan text by their part in it.
+ghost use mathlib.Core.Path.{_≡_};
+ghost use Rattle.lexer.specs.Bytes.{endsRun, isDigit, isLetter};
+
+// A word is of a to z.
+pub fn is_letter(byte: u8) -> bool
+    ensures { λ r. ⌜ r ≡ isLetter byte ⌝ }
+{
+    (97 <= byte) & (byte <= 122)
+}
+
+// A number is of 0 to 9.
+pub fn is_digit(byte: u8) -> bool
+    ensures { λ r. ⌜ r ≡ isDigit byte ⌝ }
+{
+    (48 <= byte) & (byte <= 57)
+}
+
+// A bracket, a space or LF ends a run.
+pub fn ends_run(byte: u8) -> bool
+    ensures { λ r. ⌜ r ≡ endsRun byte ⌝ }
+{
+    (byte == 32) | (byte == 10) | (byte == 40) | (byte == 41)
+}

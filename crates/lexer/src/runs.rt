@@ -1,0 +1,64 @@
+// A longest run of bytes as a token: a word, a number or neither.
+use crate::Token;
+use crate::scan::all_digits;
+use crate::scan::all_letters;
+use crate::scan::run_end;
+ghost use mathlib.Core.Bool.{true};
+ghost use mathlib.Core.Path.{_≡_};
+ghost use Prim.Native.Nat.{_≤_};
+ghost use lib.ListN.{length};
+ghost use Rattle.lexer.specs.Bytes.{isDigit};
+ghost use Rattle.lexer.specs.Scan.{allBytes};
+ghost use Rattle.lexer.specs.Tokens.{digitsToken, longestRun, runToken, decimalValue};
+
+// The number that at most ten digits write.
+fn decimal_value(digits: &[u8]) -> u64
+    requires { ⌜ (length (now digits) ≤ 10) × (allBytes isDigit (now digits) ≡ true) ⌝ }
+    ensures { λ r. ⌜ r ≡ decimalValue (now (digits .entry)) ⌝ }
+{
+    let mut value: u64 = 0;
+    let mut i: usize = 0;
+    while i < digits.len() {
+        value = value * 10 + (digits[i] - 48) as u64;
+        i += 1;
+    }
+    value
+}
+
+// A run of digits: a number, or one of too many digits.
+fn digits_token(run: &[u8], start: usize, end: usize) -> Token
+    requires { ⌜ allBytes isDigit (now run) ≡ true ⌝ }
+    ensures { λ r. ⌜ r ≡ digitsToken (now (run .entry)) start end ⌝ }
+{
+    if run.len() <= 10 {
+        Token::Number {
+            start,
+            end,
+            value: decimal_value(run),
+        }
+    } else {
+        Token::LongNumber { start, end }
+    }
+}
+
+// A run of bytes as a token.
+fn run_token(run: &[u8], start: usize, end: usize) -> Token
+    ensures { λ r. ⌜ r ≡ runToken (now (run .entry)) start end ⌝ }
+{
+    if all_letters(run) {
+        return Token::Word { start, end };
+    }
+    if all_digits(run) {
+        return digits_token(run, start, end);
+    }
+    Token::Other { start, end }
+}
+
+// The token of the longest run from `start` on.
+pub fn longest_run(text: &[u8], start: usize) -> Token
+    requires { ⌜ start ≤ length (now text) ⌝ }
+    ensures { λ r. ⌜ r ≡ longestRun (now (text .entry)) start ⌝ }
+{
+    let end = run_end(text, start);
+    run_token(&text[start..end], start, end)
+}

@@ -1,0 +1,63 @@
+// Walks over the bytes of a text from an offset, and over the bytes of a run.
+use crate::bytes::ends_run;
+use crate::bytes::is_digit;
+use crate::bytes::is_letter;
+ghost use mathlib.Core.Path.{_≡_};
+ghost use Rattle.lexer.specs.Bytes.{endsRun, isDigit, isLetter, isNoSpace};
+ghost use Rattle.lexer.specs.Scan.{allBytes, scanOf};
+
+// The offset of the first byte from `at` on that is no space.
+pub fn skip_spaces(text: &[u8], at: usize) -> usize
+    ensures { λ r. ⌜ r ≡ scanOf isNoSpace (now (text .entry)) at ⌝ }
+{
+    let mut here = at;
+    while here < text.len() {
+        if text[here] != 32 {
+            return here;
+        }
+        here += 1;
+    }
+    here
+}
+
+// The offset of the first byte from `start` on that ends a run.
+pub fn run_end(text: &[u8], start: usize) -> usize
+    ensures { λ r. ⌜ r ≡ scanOf endsRun (now (text .entry)) start ⌝ }
+{
+    let mut here = start;
+    while here < text.len() {
+        if ends_run(text[here]) {
+            return here;
+        }
+        here += 1;
+    }
+    here
+}
+
+// Whether every byte of a run is a letter.
+pub fn all_letters(run: &[u8]) -> bool
+    ensures { λ r. ⌜ r ≡ allBytes isLetter (now (run .entry)) ⌝ }
+{
+    let mut i: usize = 0;
+    while i < run.len() {
+        if !is_letter(run[i]) {
+            return false;
+        }
+        i += 1;
+    }
+    true
+}
+
+// Whether every byte of a run is a digit.
+pub fn all_digits(run: &[u8]) -> bool
+    ensures { λ r. ⌜ r ≡ allBytes isDigit (now (run .entry)) ⌝ }
+{
+    let mut i: usize = 0;
+    while i < run.len() {
+        if !is_digit(run[i]) {
+            return false;
+        }
+        i += 1;
+    }
+    true
+}

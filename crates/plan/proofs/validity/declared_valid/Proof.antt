@@ -1,0 +1,64 @@
+-- `plan::validity::declared_valid` meets its contract. Assumes nothing.
+use mathlib.Core.Path.{_∙_, refl, sym}
+use native.Mathlib.Omega.{arith}
+use borrow.Author.Needs.{needs}
+use borrow.Author.Tests.{not-false, not-true}
+use Rattle.plan.specs.Validity.{declaredValid}
+use Rattle.plan.proofs.Bits.{one-shifted}
+use Rattle.plan.proofs.Validity.{limits}
+use Rattle.plan.proofs.validity.declared_valid.Statement.{statement}
+use Rattle.plan.proofs.validity.declared_valid.Tie as tie
+
+mul-share : tie.Need-mul-share
+mul-share c = search needs
+
+array-read-share : tie.Need-array-read-share
+array-read-share c = search needs
+
+mul-right : tie.Need-mul-right
+mul-right c = search needs
+
+array-read-right : tie.Need-array-read-right
+array-read-right c = search needs
+
+is-within-requires : tie.Need-is-within-requires
+is-within-requires c κs = search needs
+
+returns : tie.Need-returns
+unfolding declaredValid
+returns c = let outside = sym (c .before .is-within .ensures) ∙ not-true _ (c .if1 .taken) in rw outside refl
+
+colours-of-requires : tie.Need-colours-of-requires
+colours-of-requires c κs = limits 1 1_000 _ (sym (c .before .is-within .ensures) ∙ not-false _ (c .if1 .left)) .1
+
+cast-has-bit : tie.Need-cast-has-bit
+cast-has-bit c = search needs
+
+has-bit-requires : tie.Need-has-bit-requires
+has-bit-requires c κs = search needs
+
+shl-result : tie.Need-shl-result
+shl-result c = search needs
+
+returns-2 : tie.Need-returns-2
+unfolding declaredValid
+returns-2 c =
+    let start = c .before .before .before .before .before .before .before in
+    let within = sym (c .before .before .before .before .is-within .ensures) ∙ not-false _ (c .before .before .before .if1 .left) in
+    rw (within, c .before .before .colours-of .ensures, c .before .has-bit .ensures, one-shifted (start .args .plan .domains) (omega (arith, start .pre))) refl
+
+pub declared-valid-spec : {M : Type 1} → statement M
+declared-valid-spec =
+    tie.close
+    (tie.spec
+    mul-share
+    array-read-share
+    mul-right
+    array-read-right
+    is-within-requires
+    returns
+    colours-of-requires
+    cast-has-bit
+    has-bit-requires
+    shl-result
+    returns-2)

@@ -1,0 +1,114 @@
+-- `plan::validity::is_valid` meets its contract. Assumes nothing.
+use mathlib.Core.Bool.{true}
+use mathlib.Core.Path.{_∙_, _≡_, refl, sym}
+use Prim.Native.Nat.{_≤_}
+use borrow.Author.Needs.{needs}
+use borrow.Author.Tests.{le-leb, lt-leb, not-false, not-true}
+use Rattle.plan.specs.Colours.{sharesTotal}
+use Rattle.plan.specs.Validity.{countsValid, domainValid, maskValid, planValid, windowValid}
+use Rattle.plan.specs.Sums.{allBelow}
+use Rattle.plan.proofs.Validity.{counts-of, lengths-most, shares-most}
+use Rattle.plan.proofs.Shares.{colours-at-most}
+use Rattle.plan.proofs.validity.is_valid.Statement.{statement}
+use Rattle.plan.proofs.validity.is_valid.Tie as tie
+
+-- what each test that passed has shown
+counted : (c : tie.Else1) → countsValid (c .before .before .args .plan) ≡ true
+counted c = sym (c .before .counts-valid .ensures) ∙ not-false _ (c .if1 .left)
+
+placed : (c : tie.Else2) → allBelow (domainValid (c .before .before .before .before .args .plan)) 8 ≡ true
+placed c = sym (c .before .domains-valid .ensures) ∙ not-false _ (c .if2 .left)
+
+shared : (c : tie.Else3) → sharesTotal (c .before .before .before .before .before .before .args .plan) (c .before .before .before .before .before .before .args .plan .domains) ≤ 1_000
+shared c = rw (c .before .shares-total .ensures) at (c .if3 .left)
+
+masked : (c : tie.Else4) → allBelow (maskValid (c .before .before .before .before .before .before .before .before .args .plan)) 8 ≡ true
+masked c = sym (c .before .masks-valid .ensures) ∙ not-false _ (c .if4 .left)
+
+windowed : (c : tie.Else5) → allBelow (windowValid (c .before .before .before .before .before .before .before .before .before .before .args .plan)) 32 ≡ true
+windowed c = sym (c .before .windows-valid .ensures) ∙ not-false _ (c .if5 .left)
+
+counts-valid-requires : tie.Need-counts-valid-requires
+counts-valid-requires c κs = search needs
+
+returns : tie.Need-returns
+unfolding planValid
+returns c = rw (sym (c .before .counts-valid .ensures) ∙ not-true _ (c .if1 .taken)) refl
+
+domains-valid-requires : tie.Need-domains-valid-requires
+domains-valid-requires c κs = counts-of _ (counted c) .domains-most
+
+returns-2 : tie.Need-returns-2
+unfolding planValid
+returns-2 c = rw (counted (c .before .before), sym (c .before .domains-valid .ensures) ∙ not-true _ (c .if2 .taken)) refl
+
+shares-total-requires : tie.Need-shares-total-requires
+shares-total-requires c κs = (counts-of _ (counted (c .before .before)) .domains-most, shares-most _ (placed c))
+
+returns-3 : tie.Need-returns-3
+unfolding planValid
+returns-3 c =
+    let over = lt-leb _ _ (rw (c .before .shares-total .ensures) at (c .if3 .taken)) in
+    rw (counted (c .before .before .before .before), placed (c .before .before), over) refl
+
+masks-valid-requires : tie.Need-masks-valid-requires
+masks-valid-requires c κs = (
+  counts-of _ (counted (c .before .before .before .before)) .domains-most,
+  shares-most _ (placed (c .before .before)),
+  colours-at-most _ _ (shared c),
+)
+
+returns-4 : tie.Need-returns-4
+unfolding planValid
+returns-4 c =
+    rw (counted (c .before .before .before .before .before .before), placed (c .before .before .before .before), le-leb _ _ (shared (c .before .before)), sym (c .before .masks-valid .ensures) ∙ not-true _ (c .if4 .taken)) refl
+
+windows-valid-requires : tie.Need-windows-valid-requires
+windows-valid-requires c κs = search needs
+
+returns-5 : tie.Need-returns-5
+unfolding planValid
+returns-5 c =
+    rw (
+      counted (c .before .before .before .before .before .before .before .before),
+      placed (c .before .before .before .before .before .before),
+      le-leb _ _ (shared (c .before .before .before .before)),
+      masked (c .before .before),
+      sym (c .before .windows-valid .ensures) ∙ not-true _ (c .if5 .taken),
+    )
+    refl
+
+ticks-total-requires : tie.Need-ticks-total-requires
+ticks-total-requires c κs =
+    let count = counts-of _ (counted (c .before .before .before .before .before .before .before .before)) in
+    (count .run-most, count .windows-most, count .pad-most, lengths-most _ (windowed c))
+
+returns-6 : tie.Need-returns-6
+unfolding planValid
+returns-6 c =
+    rw (
+      counted (c .before .before .before .before .before .before .before .before .before),
+      placed (c .before .before .before .before .before .before .before),
+      le-leb _ _ (shared (c .before .before .before .before .before)),
+      masked (c .before .before .before),
+      windowed (c .before),
+      c .ticks-total .ensures,
+    )
+    refl
+
+pub is-valid-spec : {M : Type 1} → statement M
+is-valid-spec =
+    tie.close
+    (tie.spec
+    counts-valid-requires
+    returns
+    domains-valid-requires
+    returns-2
+    shares-total-requires
+    returns-3
+    masks-valid-requires
+    returns-4
+    windows-valid-requires
+    returns-5
+    ticks-total-requires
+    returns-6)

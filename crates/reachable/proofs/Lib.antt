@@ -1,0 +1,13 @@
+-- The laws of the worlds that a run reaches.
+pub mod Accesses
+pub mod Cells
+pub mod Counts
+pub mod Effects
+pub mod Ending
+pub mod Flushes
+pub mod Lines
+pub mod Parts
+pub mod StateReached
+pub mod Reached
+pub mod Tables
+pub mod Ways

@@ -1,0 +1,52 @@
+-- Every world that a run reaches from a fresh start under a possible plan, beside a log of any length: its tables have their lengths, and it passes
+-- the checks for 13 and 14. Assumes nothing.
+use mathlib.Core.Bool.{true}
+use mathlib.Core.List.{List}
+use mathlib.Core.Path.{_≡_, refl}
+use Prim.Native.Nat.{ℕ}
+use lib.ListN.{length}
+use Rattle.plan.specs.declared.Plan.{Plan}
+use Rattle.plan.specs.Validity.{planValid}
+use Rattle.cache.specs.Lines.{tableLength}
+use Rattle.records.specs.Records.{partRecords}
+use Rattle.ops.specs.Ops.{boxesLength}
+use Rattle.state.specs.TableValidity.{tablesValid}
+use Rattle.state.specs.StateValidity.{stateValid}
+use Rattle.state.specs.World.{World}
+use Rattle.machine.specs.Fresh.{freshWorld}
+use Rattle.machine.specs.Steps.{steps}
+use Rattle.machine.proofs.Schedule.{scheduled}
+use Rattle.reachable.proofs.Counts.{counted}
+use Rattle.reachable.proofs.StateReached.{passes-state}
+use Rattle.reachable.proofs.Tables.{Sound, passes-tables, sound}
+
+-- the world after so many steps from a fresh start beside a log, which is divided into the domains' parts
+abbrev pub reachedWorld : Plan → List ℕ → List ℕ → ℕ → World
+reachedWorld plan scripts log count = steps plan scripts (partRecords plan (length log)) count (freshWorld log)
+
+module _ (plan : Plan) (scripts log : List ℕ) (count : ℕ) (possible : planValid plan ≡ true) where
+  reached-valid : Sound plan (length log) (reachedWorld plan scripts log count)
+  reached-valid = sound plan scripts (partRecords plan (length log)) (length log) possible count log refl
+
+  -- the tables have their lengths
+  pub cache-length : length (reachedWorld plan scripts log count .cache) ≡ tableLength
+  cache-length = reached-valid .cache .long
+
+  pub boxes-length : length (reachedWorld plan scripts log count .boxes) ≡ boxesLength
+  boxes-length = reached-valid .boxes .long
+
+  pub log-length : length (reachedWorld plan scripts log count .log) ≡ length log
+  log-length = reached-valid .log
+
+  -- the checks for 13 and 14 pass
+  pub tables-valid :
+      tablesValid plan (reachedWorld plan scripts log count .state) (reachedWorld plan scripts log count .cache)
+      (reachedWorld plan scripts log count .boxes)
+      ≡ true
+  tables-valid = passes-tables plan (length log) (reachedWorld plan scripts log count) reached-valid
+
+  pub state-valid : stateValid plan (partRecords plan (length log)) (reachedWorld plan scripts log count .state) ≡ true
+  state-valid =
+      passes-state plan (partRecords plan (length log)) (reachedWorld plan scripts log count) possible
+      (scheduled plan scripts (partRecords plan (length log)) count log possible)
+      (counted plan scripts (partRecords plan (length log)) possible count log)

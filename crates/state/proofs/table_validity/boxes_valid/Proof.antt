@@ -1,0 +1,65 @@
+-- `state::table_validity::boxes_valid` meets its contract. The loop's invariant: the boxes passed are sound. Assumes nothing.
+use mathlib.Core.Bool.{true}
+use mathlib.Core.Path.{_∙_, _≡_, ap, refl, sym}
+use Prim.Native.Nat.{_-_, _≤_}
+use native.Mathlib.Omega.{arith}
+use borrow.Author.Tests.{not-false, not-true}
+use Rattle.state.specs.TableValidity.{boxValid}
+use Rattle.plan.proofs.Sums.{all-below-fails, all-below-more}
+use Rattle.plan.specs.Sums.{allBelow}
+use Rattle.plan.specs.declared.Plan.{Plan}
+use Rattle.state.proofs.table_validity.boxes_valid.Statement.{statement}
+use Rattle.state.proofs.table_validity.boxes_valid.Tie as tie
+
+abbrev Inv-loop : tie.InvT-loop
+Inv-loop rights boxes place₀ place = (place ≤ 64) × ((plan : Plan) → plan .rights ≡ rights → allBelow (boxValid plan boxes) place ≡ true)
+
+abbrev μ-loop : tie.MeasureT-loop
+μ-loop rights boxes place₀ place = 64 - place
+
+loop-holds : tie.Need-loop-holds Inv-loop μ-loop
+unfolding allBelow
+loop-holds c = (omega arith, λ plan rights. refl)
+
+box-valid-requires : tie.Need-box-valid-requires Inv-loop μ-loop
+box-valid-requires c κs = (c .before .before .before .pre, c .loop-test .taken)
+
+returns : tie.Need-returns Inv-loop μ-loop
+returns c =
+    λ plan rights.
+    let fails = sym (c .before .box-valid .ensures plan rights) ∙ not-true _ (c .if1 .taken) in
+    all-below-fails _ 64 (c .before .before .before .loop .place) (c .before .before .loop-test .taken) fails
+
+add-place : tie.Need-add-place Inv-loop μ-loop
+add-place c = omega arith
+
+loop-less : tie.Need-loop-less Inv-loop μ-loop
+loop-less c = omega arith
+
+loop-again : tie.Need-loop-again Inv-loop μ-loop
+loop-again c =
+    let loop = c .before .before .before .loop in (
+      omega (arith, c .before .before .loop-test),
+      λ plan rights.
+          let passes = sym (c .before .box-valid .ensures plan rights) ∙ not-false _ (c .if1 .left) in
+          all-below-more _ (loop .place) (loop .inv .1 plan rights) passes,
+    )
+
+returns-2 : tie.Need-returns-2 Inv-loop μ-loop
+returns-2 c =
+    let ended : c .before .loop .place ≡ 64 = omega arith in
+    λ plan rights. sym (c .before .loop .inv .1 plan rights) ∙ ap (allBelow _) ended
+
+pub boxes-valid-spec : {M : Type 1} → statement M
+boxes-valid-spec =
+    tie.close
+    (tie.spec
+    Inv-loop
+    μ-loop
+    loop-holds
+    box-valid-requires
+    returns
+    add-place
+    loop-less
+    loop-again
+    returns-2)

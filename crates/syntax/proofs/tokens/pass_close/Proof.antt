@@ -1,0 +1,33 @@
+-- `syntax::tokens::pass_close` meets its contract. Assumes nothing.
+use native.Mathlib.Omega.{arith}
+use borrow.Author.Needs.{needs}
+use Rattle.syntax.proofs.OtherKinds.{kinds}
+use Rattle.lexer.proofs.Reached.{reached}
+use Rattle.syntax.specs.Tokens.{passClose}
+use Rattle.syntax.proofs.tokens.pass_close.Statement.{statement}
+use Rattle.syntax.proofs.tokens.pass_close.Tie as tie
+
+token-at-requires : tie.Need-token-at-requires
+token-at-requires c κs = tt
+
+enum-known-token : tie.Need-enum-known-token
+enum-known-token c = search needs
+
+token-start-requires : tie.Need-token-start-requires
+token-start-requires c κs = tt
+
+returns : tie.Need-returns
+unfolding passClose
+returns c = simp (← (c .before .before .token-at .ensures), c .before .match .keys2, kinds, ← (c .token-start .ensures))
+
+add-t7 : tie.Need-add-t7
+add-t7 c = omega (arith, reached _ _ (c .before .before .before .token-at .ensures) (c .before .token .given .1))
+
+returns-2 : tie.Need-returns-2
+unfolding passClose
+returns-2 c = simp (← (c .before .before .before .token-at .ensures), c .before .token .given .1)
+
+pub pass-close-spec : {M : Type 1} → statement M
+pass-close-spec =
+    tie.close
+    (tie.spec token-at-requires enum-known-token token-start-requires returns add-t7 returns-2)
