@@ -40,7 +40,11 @@ fn choose_number(test: bool, first: u64, second: u64) -> u64
 fn found_in_set(known: bool) -> AccessKind
     ensures { λ r. ⌜ r ≡ cond known Hit2 Miss ⌝ }
 {
-    if known { AccessKind::Hit2 } else { AccessKind::Miss }
+    if known {
+        AccessKind::Hit2
+    } else {
+        AccessKind::Miss
+    }
 }
 
 // An access of a line. The four numbers of its set are lent on to be rewritten, and only where L1 lacks the line.

@@ -1,7 +1,7 @@
 // The entry points of a run: each looks at what it was lent, refuses or does its work, and answers every input.
-pub mod log_query;
 pub mod checks;
 pub mod lending;
+pub mod log_query;
 pub mod running;
 pub mod starting;
 

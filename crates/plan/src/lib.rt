@@ -1,8 +1,8 @@
 // A plan: what the reader hands on to the machine.
-pub mod validity;
 pub mod limits;
 pub mod sharing;
 pub mod timing;
+pub mod validity;
 
 ghost use mathlib.Core.Path.{_≡_};
 ghost use Rattle.plan.specs.Zeros.{noPlan};

@@ -1,6 +1,6 @@
 // What a good line adds to the plan and the scripts; at a line's end 5 and 10.
-use crate::DraftResult;
 use crate::Draft;
+use crate::DraftResult;
 use forms::DomainLine;
 use forms::Form;
 use forms::OpLine;

@@ -70,7 +70,14 @@ fn write_record(log: &mut [u8], at: usize, seen: Observation, clock: u64)
 }
 
 // Stores a domain's record, by its number in the domain's part.
-pub fn store_record(log: &mut [u8], quota: u64, domain: u64, number: u64, seen: Observation, clock: u64)
+pub fn store_record(
+    log: &mut [u8],
+    quota: u64,
+    domain: u64,
+    number: u64,
+    seen: Observation,
+    clock: u64,
+)
     requires { ⌜ 8 * (quota * domain + number) + 8 ≤ length (now log) ⌝ }
     ensures { λ _. ⌜ now (log .exit) ≡ recordStored quota domain number seen clock (now (log .entry)) ⌝ }
 {

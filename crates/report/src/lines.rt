@@ -1,9 +1,9 @@
 // The lines, each written into a lent buffer from a place on. Each answers the place past what it wrote.
 use crate::fields::clock_at;
 use crate::fields::value_at;
-use state::State;
 use lexer::decimal::write_bytes;
 use lexer::decimal::write_decimal;
+use state::State;
 ghost use mathlib.Core.Path.{_≡_};
 ghost use mathlib.Core.List.{_++_};
 ghost use Prim.Native.Nat.{_+_, _^_, _<_, _≤_};

@@ -1,9 +1,9 @@
 // The check for 14: whether a lent state is possible.
 use crate::State;
 use plan::Plan;
+use plan::timing::ticks_total;
 use plan::timing::window_length;
 use plan::timing::window_start;
-use plan::timing::ticks_total;
 use plan::timing::windows_total;
 ghost use mathlib.Core.Path.{_≡_};
 ghost use mathlib.Core.Bool.{true};

@@ -1,13 +1,13 @@
 // A list of recipients, none or more: 3 outside the domain numbers, 8 for the domain's own number or a repeat.
-use crate::TokenParse;
-use crate::RecipientParse;
 use crate::RecipientList;
+use crate::RecipientParse;
+use crate::TokenParse;
+use lexer::Token;
+use lexer::token_at;
+use lexer::token_start;
 use plan::sharing::has_bit;
 use refusal::Refusal;
 use script::limits::LAST_DOMAIN;
-use lexer::Token;
-use lexer::token_start;
-use lexer::token_at;
 ghost use mathlib.Core.Path.{_≡_};
 ghost use Prim.Native.Nat.{_+_, _<_, _^_};
 ghost use Rattle.syntax.specs.Recipients.{mention, recipientAt, recipientFor, recipientsAt};

@@ -1,9 +1,12 @@
 // An op: one of five words and the numbers that it asks for.
+use crate::NumberParse;
 use crate::OpKeyword;
 use crate::OpParse;
-use crate::NumberParse;
 use crate::tokens::is_word;
 use crate::tokens::take_number;
+use lexer::Token;
+use lexer::token_at;
+use lexer::token_start;
 use refusal::Refusal;
 use script::Op;
 use script::limits::LAST_DOMAIN;
@@ -11,9 +14,6 @@ use script::limits::LEAST_TICKS;
 use script::limits::MOST_NUMBER;
 use script::limits::MOST_TICKS;
 use script::limits::MOST_WORD;
-use lexer::Token;
-use lexer::token_start;
-use lexer::token_at;
 ghost use mathlib.Core.Path.{_≡_};
 ghost use Rattle.syntax.specs.Ops.{opKeywordAt, opNumbers};
 

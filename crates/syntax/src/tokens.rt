@@ -1,10 +1,10 @@
 // What is due is taken from the next token, or the line is refused.
-use crate::TokenParse;
 use crate::NumberParse;
-use refusal::Refusal;
+use crate::TokenParse;
 use lexer::Token;
-use lexer::token_start;
 use lexer::token_at;
+use lexer::token_start;
+use refusal::Refusal;
 ghost use mathlib.Core.Path.{_≡_};
 ghost use Prim.Native.Nat.{_≤_};
 ghost use lib.ListN.{length};
