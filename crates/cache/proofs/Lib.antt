@@ -3,6 +3,6 @@ pub mod Counts
 pub mod Emptied
 pub mod Laws
 pub mod Outcome
-mod NumberParse
+mod Taken
 pub mod Ticks
 pub mod Ways

@@ -14,7 +14,7 @@ use Rattle.plan.specs.Validity.{planValid}
 use Rattle.script.specs.Limits.{scriptsLength}
 use Rattle.state.specs.declared.State.{State}
 use Rattle.state.specs.TableValidity.{tablesValid}
-use Rattle.plan.proofs.Validity.{counts}
+use Rattle.plan.proofs.ValidPlans.{counts}
 use Rattle.plan.proofs.Sums.{all-below}
 use Rattle.records.proofs.Parts.{parts-fit}
 use Rattle.records.specs.Records.{logPart, partRecords}

@@ -15,14 +15,14 @@ pub record Agree (Place : ℕ → Type 0) (one other : List ℕ) : Type 0 where
   pub at : (place : ℕ) → Place place → getD one place 0 ≡ getD other place 0
 
 -- a place among the `count` places from `first` on
-pub record FormBody (first count place : ℕ) : Type 0 where
+pub record InRange (first count place : ℕ) : Type 0 where
   pub from : first ≤ place
   pub below : place < first + count
 
 -- a named place that is none of those
 pub record Beside (Place : ℕ → Type 0) (first count place : ℕ) : Type 0 where
   pub named : Place place
-  pub outside : FormBody first count place → ⊥
+  pub outside : InRange first count place → ⊥
 
 -- ---- agreement is an equivalence, and goes over to fewer places
 
@@ -80,7 +80,7 @@ sets-alike first (value ∷ values) a =
     (agree-fewer (λ place p. record { named = p .0 .named; outside = λ h. p .0 .outside (omega arith) }) a))
 
 pub sets-away : {Place : ℕ → Type 0} (list : List ℕ) (first : ℕ) (values : List ℕ)
-    → ((place : ℕ) → FormBody first (length values) place → Place place → ⊥) → Agree Place list (sets list first values)
+    → ((place : ℕ) → InRange first (length values) place → Place place → ⊥) → Agree Place list (sets list first values)
 sets-away {Place} list first [] unnamed = agree-refl Place list
 sets-away {Place} list first (value ∷ values) unnamed =
     agree-trans
@@ -101,7 +101,7 @@ splice-sets first count fresh table full fits =
 
 -- a part whose places are all named is equal in both
 pub part-alike : {Place : ℕ → Type 0} {one other : List ℕ} (first count : ℕ)
-    → ((place : ℕ) → FormBody first count place → Place place) → Agree Place one other → part first count one ≡ part first count other
+    → ((place : ℕ) → InRange first count place → Place place) → Agree Place one other → part first count one ≡ part first count other
 unfolding part
 part-alike {Place} {one} {other} first count named a =
     ext-getD 0 (take count (drop first one)) (take count (drop first other))

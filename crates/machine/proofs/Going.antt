@@ -11,7 +11,7 @@ use borrow.Author.Tests.{le-leb, lt-leb}
 use Rattle.plan.specs.declared.Plan.{Plan}
 use Rattle.plan.specs.Validity.{planValid}
 use Rattle.plan.specs.Windows.{windowEnd, windowLength, windowOwner, slotOf, windowStart, windowsTotal}
-use Rattle.plan.proofs.Validity.{counts}
+use Rattle.plan.proofs.ValidPlans.{counts}
 use Rattle.plan.proofs.Windows.{length-most as lengths, owner-declared, slot-below as slots, start-fits}
 use Rattle.state.specs.declared.State.{State}
 use Rattle.state.specs.StateValidity.{stateValid}

@@ -2,6 +2,6 @@ pub mod Sums
 pub mod Shares
 pub mod Bits
 pub mod MaskLists
-pub mod Validity
+pub mod ValidPlans
 pub mod Masks
 pub mod Windows

@@ -13,7 +13,7 @@ use Rattle.plan.specs.Validity.{planValid}
 use Rattle.plan.specs.Rights.{maySend, rightsAt}
 use Rattle.plan.specs.Sums.{sumTo}
 use Rattle.plan.proofs.Bits.{mask-bits, mask-fits, mask-ones, no-high-bit, zero-no-bit}
-use Rattle.plan.proofs.Validity.{declared, parts, undeclared}
+use Rattle.plan.proofs.ValidPlans.{declared, parts, undeclared}
 use Rattle.plan.proofs.Shares.{colours-at-most}
 use Rattle.plan.proofs.Sums.{sum-mono}
 

@@ -9,7 +9,7 @@ use Rattle.plan.specs.declared.Plan.{Plan}
 use Rattle.plan.specs.Validity.{planValid}
 use Rattle.plan.specs.Sums.{sumTo}
 use Rattle.plan.specs.Windows.{windowLength, windowOwner, paddedLength, slotOf, windowStart, ticksTotal, windowsTotal}
-use Rattle.plan.proofs.Validity.{counts, declared-window, parts}
+use Rattle.plan.proofs.ValidPlans.{counts, declared-window, parts}
 use Rattle.plan.proofs.Sums.{sum-most}
 
 pub pad-least : (plan : Plan) → planValid plan ≡ true → 276 ≤ plan .pad

@@ -13,7 +13,7 @@ use Rattle.plan.specs.declared.Plan.{Plan}
 use Rattle.plan.specs.Colours.{shareOf}
 use Rattle.plan.specs.Validity.{planValid}
 use Rattle.plan.specs.Rights.{rightsAt}
-use Rattle.plan.proofs.Validity.{counts, declared, declared-window}
+use Rattle.plan.proofs.ValidPlans.{counts, declared, declared-window}
 use Rattle.reader.specs.Draft.{DraftOutcome, kept, noOps, planWithDomain, planWithPad, planWithRun, planWithWindow, takeDomain, takeForm, takePad, takeRun, takeWindow}
 use Rattle.roundtrip.specs.Lines.{domainLine, linesFrom, padLine, planLines, runLine, windowLine}
 use Rattle.roundtrip.proofs.Domains.{domain-reads}

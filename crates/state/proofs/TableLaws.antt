@@ -13,7 +13,7 @@ use Rattle.lists.specs.Part.{part}
 use Rattle.lists.proofs.Parts.{part-next}
 use Rattle.plan.specs.declared.Plan.{Plan}
 use Rattle.plan.specs.Colours.{hasBit, maskAt}
-use Rattle.plan.proofs.Validity.{both}
+use Rattle.plan.proofs.ValidPlans.{both}
 use Rattle.cache.specs.Lines.{colourOf, l1Index, kernelColour, setIndex}
 use Rattle.state.specs.declared.State.{State}
 use Rattle.state.specs.TableValidity.{allEmpty, l1EntryValid, lineAllowed, entryLine, setValid, standsForLine, unmarked, waysValid}

@@ -6,7 +6,7 @@ use mathlib.Core.List.{List}
 use mathlib.Core.Path.{_≡_, sym, subst, _∙_}
 use lib.Dec.{leb}
 use lib.ListN.{length}
-use Rattle.plan.proofs.Validity.{limits}
+use Rattle.plan.proofs.ValidPlans.{limits}
 use Rattle.refusal.specs.declared.Refusal.{Refusal}
 use Rattle.refusal.specs.declared.Refusal.the-variants.{BrokenShape, NumberOutOfLimits}
 use Rattle.lexer.proofs.Reached.{Reached, cond-holds, token-reached}

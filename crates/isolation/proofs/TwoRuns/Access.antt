@@ -8,7 +8,7 @@ use native.Mathlib.Omega.{arith}
 use lib.ListN.{length, set}
 use lib.Seq.{sets}
 use Rattle.lists.proofs.Parts.{part-length}
-use Rattle.lists.proofs.Agree.{Agree, FormBody, agree-fewer, agree-trans, part-alike, set-alike, set-away, sets-alike, sets-away, splice-sets}
+use Rattle.lists.proofs.Agree.{Agree, InRange, agree-fewer, agree-trans, part-alike, set-alike, set-away, sets-alike, sets-away, splice-sets}
 use Rattle.cache.specs.Access.{AccessOutcome, Lookup, accessOf, lookupAt, lookupL1, lookupL2, lookupOf}
 use Rattle.cache.specs.Lines.{holdsLine, l1Index, setOf, setIndex, tableLength, waysPerSet}
 use Rattle.cache.proofs.Ways.{used-length}
@@ -16,7 +16,7 @@ use Rattle.cache.proofs.Ways.{used-length}
 -- the places that an access of a line may touch: the line's L1 index and the ways of its set
 pub data AccessResult (line place : ℕ) : Type 0 where
   atIndex : place ≡ l1Index line → AccessResult line place
-  inSet : FormBody (setIndex (setOf line)) waysPerSet place → AccessResult line place
+  inSet : InRange (setIndex (setOf line)) waysPerSet place → AccessResult line place
 
 -- ---- the ways that a look leaves are as many as it found
 
@@ -82,5 +82,5 @@ access-away {Place} writes line table whole untouched =
     rw (stores writes line table whole)
     (agree-trans
     (sets-away table first ways
-    (λ place h. untouched place (inSet (subst (λ (n : ℕ). FormBody first n place) (left-ways writes line table whole) h))))
+    (λ place h. untouched place (inSet (subst (λ (n : ℕ). InRange first n place) (left-ways writes line table whole) h))))
     (set-away (sets table first ways) (l1Index line) _ (untouched (l1Index line) (atIndex refl))))

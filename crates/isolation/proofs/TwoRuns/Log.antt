@@ -8,7 +8,7 @@ use native.Mathlib.Nat.{mul-le-mul-left}
 use native.Mathlib.Omega.{arith}
 use lib.ListN.{getD, length, set}
 use lib.Seq.{getD-set-same, set-out}
-use Rattle.lists.proofs.Agree.{Agree, Beside, FormBody, agree-fewer, part-alike, sets-alike, sets-away}
+use Rattle.lists.proofs.Agree.{Agree, Beside, InRange, agree-fewer, part-alike, sets-alike, sets-away}
 use Rattle.records.specs.declared.Observation.{Observation}
 use Rattle.records.specs.Records.{logPart, recordBytes, recordIndex, recordSize, recordStored}
 use Rattle.isolation.proofs.TwoRuns.Relations.{LogPlace}
@@ -49,7 +49,7 @@ module _ (quota domain count : ℕ) where
   stored-away running number seen clock log room other =
       sets-away log (recordIndex quota running number) (recordBytes seen clock) (λ place h p. apart place h p (decLt domain running))
     where
-      apart : (place : ℕ) → FormBody (recordIndex quota running number) recordSize place → LogPlace quota domain count place
+      apart : (place : ℕ) → InRange (recordIndex quota running number) recordSize place → LogPlace quota domain count place
           → Dec (domain < running) → ⊥
       apart place h p (yes lower) = omega (arith, parts-follow quota domain running lower)
       apart place h p (no higher) = omega (arith, parts-follow quota running domain (omega arith))

@@ -9,7 +9,7 @@ use Rattle.plan.specs.declared.Plan.{Plan}
 use Rattle.plan.specs.Colours.{ownsColour}
 use Rattle.plan.specs.Validity.{planValid}
 use Rattle.plan.proofs.Masks.{masks-disjoint, owned-below}
-use Rattle.lists.proofs.Agree.{FormBody}
+use Rattle.lists.proofs.Agree.{InRange}
 use Rattle.cache.specs.Lines.{colourOf, l1Length, kernelColour, kernelEntries, kernelIndex, setColour, setOf, setIndex, waysPerSet}
 use Rattle.ops.specs.Ops.{boxLine, kernelEntryLine, ownsLine}
 use Rattle.isolation.proofs.TwoRuns.Access.{AccessResult, atIndex, inSet}
@@ -21,10 +21,10 @@ pub record OwnPlace (plan : Plan) (domain place : ℕ) : Type 0 where
 
 -- the kernel's sets are the table's last numbers, L1 is its first
 abbrev pub KernelPlace : ℕ → Type 0
-KernelPlace place = FormBody kernelIndex kernelEntries place
+KernelPlace place = InRange kernelIndex kernelEntries place
 
 abbrev pub L1Place : ℕ → Type 0
-L1Place place = FormBody 0 l1Length place
+L1Place place = InRange 0 l1Length place
 
 -- what a switch empties
 pub data FlushedPlace (place : ℕ) : Type 0 where

@@ -3,7 +3,7 @@ use mathlib.Core.Path.{refl}
 use native.Mathlib.Omega.{arith}
 use lib.ListN.{length}
 use borrow.Author.Needs.{needs}
-use Rattle.plan.proofs.Validity.{counts}
+use Rattle.plan.proofs.ValidPlans.{counts}
 use Rattle.report.proofs.Limits.{domains-limit}
 use Rattle.report.proofs.Places.{parts-within, records-within}
 use Rattle.report.proofs.Written.{run-written}

@@ -24,7 +24,7 @@ abbrev below : ℕ → In 1 kinds.ps
 below t = and 1 kinds.ps (falls 1 kinds.ps _<_ μ t) reads.Pre
 
 abbrev claims : ℕ → lts.Claims
-claims t = (choose-number-reads.LogAnswer, choose-number-reads.Learnt, below t, reads.Post)
+claims t = (choose-number-reads.Asked, choose-number-reads.Learnt, below t, reads.Post)
 
 mul-choose-number : (t : ℕ) → lts.Need-mul-choose-number (claims t) (at t) reads.Post
 mul-choose-number t c = omega arith

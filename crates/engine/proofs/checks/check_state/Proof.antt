@@ -4,7 +4,7 @@ use Prim.Native.Nat.{ℕ}
 use borrow.Author.Needs.{needs}
 use Rattle.engine.specs.Checks.{stateVerdict}
 use Rattle.state.specs.StateValidity.{stateValid}
-use Rattle.plan.proofs.Validity.{counts}
+use Rattle.plan.proofs.ValidPlans.{counts}
 use Rattle.engine.proofs.checks.check_state.Statement.{statement}
 use Rattle.engine.proofs.checks.check_state.Tie as tie
 

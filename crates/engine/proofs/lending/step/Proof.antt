@@ -20,7 +20,7 @@ use contract.Lifetimes.{Lfts, Shares}
 use contract.Monad.{Fun, fact}
 use contract.Running.{givenOf, tables, tablesOf}
 use types.Kit.{Given, Item, ‵, raw, some, later, _⊛_, ⋆, _$_, _∵_, !, qed, by, move, keep, drop, use1, use2, use3, split, join, pick, rewrite, fsplit, fjoin, fpick, fpack, feqL, suffices, frame, await, done}
-use types.RunOutcome.{look, init, forget, stop, hop, fld, from, load, addr, of-opd, and-then, no-more, assigns, land, returns, enter, alloc1, alloc0, params1, pass1, pass0, free1, free0}
+use types.Run.{look, init, forget, stop, hop, fld, from, load, addr, of-opd, and-then, no-more, assigns, land, returns, enter, alloc1, alloc0, params1, pass1, pass0, free1, free0}
 use types.Part.{agg, whole, sub, look-in}
 use types.SemTy.{Body}
 use types.Tokens.{lft-new, lft-end}
@@ -195,11 +195,11 @@ module _ {M : Type 1} (𝓤 : URA M) (H : Heap 𝓤) (A : Atoms 𝓤) (W : Given
     call = (((ν ∷ [], κs), (fullShare, qs), tt, callee-args, callee-vals), tt)
 
     -- the callee asks for nothing but what its types own
-    abbrev LogAnswer : List (Item 𝓤)
-    LogAnswer = (‵ (flft (ν ∷ []) fullShare) ⊛ Tokens) ∷ ‵ (owns (Lent ∷ Plan.the-row ∷ Scripts κs ∷ Cache κs ∷ Boxes κs ∷ Log κs ∷ []) callee-args callee-vals) ∷ []
+    abbrev Asked : List (Item 𝓤)
+    Asked = (‵ (flft (ν ∷ []) fullShare) ⊛ Tokens) ∷ ‵ (owns (Lent ∷ Plan.the-row ∷ Scripts κs ∷ Cache κs ∷ Boxes κs ∷ Log κs ∷ []) callee-args callee-vals) ∷ []
 
-    asked : ent 𝓤 (⋆ 𝓤 H A LogAnswer) (Callee 𝓤 H A at-mem run .pre call)
-    asked = qed W LogAnswer ∵ join ! $ frame ! $ done !
+    asked : ent 𝓤 (⋆ 𝓤 H A Asked) (Callee 𝓤 H A at-mem run .pre call)
+    asked = qed W Asked ∵ join ! $ frame ! $ done !
 
   -- what is left at exit: the tokens, and each slice's last list
   abbrev Left : List ℕ → List ℕ → List ℕ → List (Item 𝓤)

@@ -20,7 +20,7 @@ use contract.Lifetimes.{Lfts, Shares}
 use contract.Monad.{Fun, fact}
 use contract.Running.{givenOf, tables, tablesOf}
 use types.Kit.{Given, Item, ‵, raw, some, later, _⊛_, ⋆, _$_, _∵_, !, qed, by, move, keep, drop, use1, use2, split, join, pick, rewrite, fsplit, fsplit3, fjoin, fjoin3, feqL, feqI, suffices, frame, await, done}
-use types.RunOutcome.{look, look-raw, init, store-raw, forget, stop, hop, fld, from, load, addr, of-opd, and-then, no-more, assigns, land, returns, enter, alloc1, alloc0, params1, pass1, pass0, free1, free0}
+use types.Run.{look, look-raw, init, store-raw, forget, stop, hop, fld, from, load, addr, of-opd, and-then, no-more, assigns, land, returns, enter, alloc1, alloc0, params1, pass1, pass0, free1, free0}
 use types.Part.{agg, whole, sub, look-in}
 use types.SemTy.{Body}
 use sound.WpLaws.{FmC, fmOf, WpFn-mono}
@@ -167,11 +167,11 @@ module _ {M : Type 1} (𝓤 : URA M) (H : Heap 𝓤) (A : Atoms 𝓤) (W : Given
       stepWith (stepped .answer) (stepped .state) cache-end boxes-end log-end ≡ stepCallOf plan (scripts .now) (worldWith old (cache .now) (boxes .now) (log .now))
 
   -- the callee asks for nothing but what its types own
-  abbrev LogAnswer : List (Item 𝓤)
-  LogAnswer = Tokens ∷ ‵ (owns (Plan.the-row ∷ Scripts κs ∷ State.the-row ∷ Cache κs ∷ Boxes κs ∷ Log κs ∷ []) callee-args callee-vals) ∷ []
+  abbrev Asked : List (Item 𝓤)
+  Asked = Tokens ∷ ‵ (owns (Plan.the-row ∷ Scripts κs ∷ State.the-row ∷ Cache κs ∷ Boxes κs ∷ Log κs ∷ []) callee-args callee-vals) ∷ []
 
-  asked : ent 𝓤 (⋆ 𝓤 H A LogAnswer) (Callee 𝓤 H A at-mem run .pre call)
-  asked = qed W LogAnswer ∵ join ! $ frame ! $ done !
+  asked : ent 𝓤 (⋆ 𝓤 H A Asked) (Callee 𝓤 H A at-mem run .pre call)
+  asked = qed W Asked ∵ join ! $ frame ! $ done !
 
   -- that is made of what is passed beside the state: the copy of the state owns nothing, and of the scripts a copy is kept
   abbrev Beside : List (Item 𝓤)

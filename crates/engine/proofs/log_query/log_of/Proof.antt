@@ -4,7 +4,7 @@ use Prim.Native.Nat.{_*_, _+_, _≤_}
 use native.Mathlib.Omega.{arith}
 use lib.ListN.{getD, length}
 use borrow.Author.Needs.{needs}
-use Rattle.plan.proofs.Validity.{counts}
+use Rattle.plan.proofs.ValidPlans.{counts}
 use Rattle.engine.proofs.Verdicts.{LogAccepted, log-accepted, log-handed, log-refused, log-within}
 use Rattle.engine.proofs.log_query.log_of.Statement.{statement}
 use denote.Ref.{now}

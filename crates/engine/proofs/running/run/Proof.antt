@@ -5,7 +5,7 @@ use borrow.Author.Needs.{needs}
 use Rattle.records.proofs.Parts.{parts-fit}
 use Rattle.state.specs.StateValidity.{stateValid}
 use Rattle.machine.specs.View.{worldWith}
-use Rattle.plan.proofs.Validity.{counts}
+use Rattle.plan.proofs.ValidPlans.{counts}
 use Rattle.engine.proofs.Verdicts.{RunAccepted, ran, run-accepted, run-refused}
 use Rattle.engine.proofs.running.run.Statement.{statement}
 use denote.Ref.{now}

@@ -44,7 +44,7 @@ listed-body-requires c κs = tt
 
 returns-2 : tie.Need-returns-2
 unfolding mayBody bytesOf
-returns-2 c = simp (← (c .before .before .before .before .before .before .before .before .before .pass-open .ensures), c .before .before .before .before .before .before .before .opening .given .1, ← (c .before .before .before .before .pass-word .ensures), c .before .before .wording .given .1, ← (c .refused-inside2 .ensures))
+returns-2 c = simp (← (c .before .before .before .before .before .before .before .before .before .pass-open .ensures), c .before .before .before .before .before .before .before .opening .given .1, ← (c .before .before .before .before .pass-word .ensures), c .before .before .wording .given .1, ← (c .refused-body2 .ensures))
 
 returns-3 : tie.Need-returns-3
 unfolding mayBody bytesOf

@@ -52,11 +52,11 @@ body-with-requires c κs = tt
 
 returns-2 : tie.Need-returns-2
 unfolding scriptBody
-returns-2 c = simp (← (c .before .before .before .before .before .before .before .before .before .pass-open .ensures), c .before .before .before .before .before .before .before .opening .given .1, ← (c .before .before .before .before .before .op-keyword-at .ensures), ← (c .before .before .before .before .op-numbers .ensures), c .before .before .taken .given .1, ← (c .refused-inside2 .ensures))
+returns-2 c = simp (← (c .before .before .before .before .before .before .before .before .before .pass-open .ensures), c .before .before .before .before .before .before .before .opening .given .1, ← (c .before .before .before .before .before .op-keyword-at .ensures), ← (c .before .before .before .before .op-numbers .ensures), c .before .before .taken .given .1, ← (c .refused-body2 .ensures))
 
 returns-3 : tie.Need-returns-3
 unfolding scriptBody
-returns-3 c = simp (← (c .before .before .before .before .before .before .before .before .before .before .before .before .before .pass-open .ensures), c .before .before .before .before .before .before .before .before .before .before .before .opening .given .1, ← (c .before .before .before .before .before .before .before .before .before .op-keyword-at .ensures), ← (c .before .before .before .before .before .before .before .before .op-numbers .ensures), c .before .before .before .before .before .before .taken2 .given .1, ← (c .before .before .before .before .pass-close .ensures), c .before .before .closing .given .1, ← (c .refused-inside3 .ensures))
+returns-3 c = simp (← (c .before .before .before .before .before .before .before .before .before .before .before .before .before .pass-open .ensures), c .before .before .before .before .before .before .before .before .before .before .before .opening .given .1, ← (c .before .before .before .before .before .before .before .before .before .op-keyword-at .ensures), ← (c .before .before .before .before .before .before .before .before .op-numbers .ensures), c .before .before .before .before .before .before .taken2 .given .1, ← (c .before .before .before .before .pass-close .ensures), c .before .before .closing .given .1, ← (c .refused-body3 .ensures))
 
 returns-4 : tie.Need-returns-4
 unfolding scriptBody

@@ -38,7 +38,7 @@ refused-body-requires-2 c κs = tt
 
 returns-2 : tie.Need-returns-2
 unfolding lengthBody bytesOf
-returns-2 c = simp (← (c .before .before .before .before .before .before .before .before .before .pass-open .ensures), c .before .before .before .before .before .before .before .opening .given .1, ← (c .before .before .before .before .pass-word .ensures), c .before .before .wording2 .given .1, ← (c .refused-inside2 .ensures))
+returns-2 c = simp (← (c .before .before .before .before .before .before .before .before .before .pass-open .ensures), c .before .before .before .before .before .before .before .opening .given .1, ← (c .before .before .before .before .pass-word .ensures), c .before .before .wording2 .given .1, ← (c .refused-body2 .ensures))
 
 take-number-requires : tie.Need-take-number-requires
 take-number-requires c κs = tt
@@ -69,11 +69,11 @@ body-with-requires c κs = tt
 
 returns-3 : tie.Need-returns-3
 unfolding lengthBody bytesOf
-returns-3 c = simp (← (c .before .before .before .before .before .before .before .before .before .before .before .before .before .pass-open .ensures), c .before .before .before .before .before .before .before .before .before .before .before .opening .given .1, ← (c .before .before .before .before .before .before .before .before .pass-word .ensures), c .before .before .before .before .before .before .wording .given .1, ← (c .before .before .before .before .take-number .ensures), c .before .before .taken .given .1, ← (c .refused-inside3 .ensures))
+returns-3 c = simp (← (c .before .before .before .before .before .before .before .before .before .before .before .before .before .pass-open .ensures), c .before .before .before .before .before .before .before .before .before .before .before .opening .given .1, ← (c .before .before .before .before .before .before .before .before .pass-word .ensures), c .before .before .before .before .before .before .wording .given .1, ← (c .before .before .before .before .take-number .ensures), c .before .before .taken .given .1, ← (c .refused-body3 .ensures))
 
 returns-4 : tie.Need-returns-4
 unfolding lengthBody bytesOf
-returns-4 c = simp (← (c .before .before .before .before .before .before .before .before .before .before .before .before .before .before .before .before .before .pass-open .ensures), c .before .before .before .before .before .before .before .before .before .before .before .before .before .before .before .opening .given .1, ← (c .before .before .before .before .before .before .before .before .before .before .before .before .pass-word .ensures), c .before .before .before .before .before .before .before .before .before .before .wording .given .1, ← (c .before .before .before .before .before .before .before .before .take-number .ensures), c .before .before .before .before .before .before .taken2 .given .1, ← (c .before .before .before .before .pass-close .ensures), c .before .before .closing .given .1, ← (c .refused-inside4 .ensures))
+returns-4 c = simp (← (c .before .before .before .before .before .before .before .before .before .before .before .before .before .before .before .before .before .pass-open .ensures), c .before .before .before .before .before .before .before .before .before .before .before .before .before .before .before .opening .given .1, ← (c .before .before .before .before .before .before .before .before .before .before .before .before .pass-word .ensures), c .before .before .before .before .before .before .before .before .before .before .wording .given .1, ← (c .before .before .before .before .before .before .before .before .take-number .ensures), c .before .before .before .before .before .before .taken2 .given .1, ← (c .before .before .before .before .pass-close .ensures), c .before .before .closing .given .1, ← (c .refused-body4 .ensures))
 
 returns-5 : tie.Need-returns-5
 unfolding lengthBody bytesOf

@@ -33,7 +33,7 @@ returns-2 c = simp (← (c .before .before .before .before .before .take-number 
 
 returns-3 : tie.Need-returns-3
 unfolding windowBody
-returns-3 c = simp (← (c .before .before .before .before .before .take-number .ensures), c .before .before .before .taken2 .given .1, le-ltb _ _ (c .before .if1 .left), ← (c .refused-inside2 .ensures))
+returns-3 c = simp (← (c .before .before .before .before .before .take-number .ensures), c .before .before .before .taken2 .given .1, le-ltb _ _ (c .before .if1 .left), ← (c .refused-body2 .ensures))
 
 pub window-body-spec : {M : Type 1} → statement M
 window-body-spec =

@@ -4,7 +4,7 @@ use mathlib.Core.Path.{_∙_, refl, sym}
 use Prim.Native.Nat.{_+_, _-_, _<_}
 use native.Mathlib.Omega.{arith}
 use borrow.Author.Needs.{needs}
-use Rattle.plan.proofs.Validity.{counts}
+use Rattle.plan.proofs.ValidPlans.{counts}
 use Rattle.plan.proofs.Windows.{owner-declared}
 use Rattle.plan.specs.Windows.{windowLength, windowOwner, windowsTotal}
 use Rattle.plan.specs.declared.Plan.{Plan}

@@ -5,7 +5,7 @@ use native.Mathlib.Omega.{arith}
 use lib.ListN.{length}
 use borrow.Author.Needs.{needs}
 use denote.Ref.{now}
-use Rattle.plan.proofs.Validity.{counts}
+use Rattle.plan.proofs.ValidPlans.{counts}
 use Rattle.refusal.specs.declared.Verdict.the-variants.{Accepted}
 use Rattle.engine.specs.LogQuery.{logStatusOf}
 use Rattle.engine.specs.Checks.{logVerdict}

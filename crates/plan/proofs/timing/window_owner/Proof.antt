@@ -3,7 +3,7 @@ use mathlib.Core.Path.{refl}
 use native.Mathlib.Omega.{arith}
 use borrow.Author.Needs.{needs}
 use Rattle.plan.specs.Windows.{windowOwner}
-use Rattle.plan.proofs.Validity.{counts}
+use Rattle.plan.proofs.ValidPlans.{counts}
 use Rattle.plan.proofs.Windows.{slot-below}
 use Rattle.plan.proofs.timing.window_owner.Statement.{statement}
 use Rattle.plan.proofs.timing.window_owner.Tie as tie

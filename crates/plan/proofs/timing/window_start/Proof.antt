@@ -3,7 +3,7 @@ use mathlib.Core.Path.{_∙_, ap₂}
 use Prim.Native.Nat.{_*_, _+_, _/_, ℕ}
 use native.Mathlib.Omega.{arith}
 use borrow.Author.Needs.{needs}
-use Rattle.plan.proofs.Validity.{counts, declared-window}
+use Rattle.plan.proofs.ValidPlans.{counts, declared-window}
 use Rattle.plan.proofs.Windows.{slot-below, start-fits, start-repeats}
 use Rattle.plan.proofs.timing.window_start.Statement.{statement}
 use Rattle.plan.proofs.timing.window_start.Tie as tie

@@ -5,7 +5,7 @@ use borrow.Author.Needs.{needs}
 use borrow.Author.Tests.{not-false, not-true}
 use Rattle.plan.specs.Validity.{declaredValid}
 use Rattle.plan.proofs.Bits.{one-shifted}
-use Rattle.plan.proofs.Validity.{limits}
+use Rattle.plan.proofs.ValidPlans.{limits}
 use Rattle.plan.proofs.validity.declared_valid.Statement.{statement}
 use Rattle.plan.proofs.validity.declared_valid.Tie as tie
 

@@ -7,7 +7,7 @@ use borrow.Author.Tests.{le-leb, lt-leb, not-false, not-true}
 use Rattle.plan.specs.Colours.{sharesTotal}
 use Rattle.plan.specs.Validity.{countsValid, domainValid, maskValid, planValid, windowValid}
 use Rattle.plan.specs.Sums.{allBelow}
-use Rattle.plan.proofs.Validity.{counts-of, lengths-most, shares-most}
+use Rattle.plan.proofs.ValidPlans.{counts-of, lengths-most, shares-most}
 use Rattle.plan.proofs.Shares.{colours-at-most}
 use Rattle.plan.proofs.validity.is_valid.Statement.{statement}
 use Rattle.plan.proofs.validity.is_valid.Tie as tie

@@ -1,7 +1,7 @@
 -- `state::state_validity::clock_valid` meets its contract. Assumes nothing.
 use native.Mathlib.Omega.{arith}
 use borrow.Author.Needs.{needs}
-use Rattle.plan.proofs.Validity.{counts, lengths-most, parts}
+use Rattle.plan.proofs.ValidPlans.{counts, lengths-most, parts}
 use Rattle.plan.proofs.Windows.{start-fits}
 use Rattle.state.proofs.StateLaws.{clock-after-last, clock-in-window}
 use Rattle.state.proofs.state_validity.clock_valid.Statement.{statement}

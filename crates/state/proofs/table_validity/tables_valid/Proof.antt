@@ -6,7 +6,7 @@ use lib.Dec.{leb}
 use borrow.Author.Needs.{needs}
 use Rattle.state.specs.TableValidity.{tablesValid}
 use Rattle.state.specs.World.{endedOf}
-use Rattle.plan.proofs.Validity.{counts}
+use Rattle.plan.proofs.ValidPlans.{counts}
 use Rattle.plan.proofs.Windows.{domains-most, owner-declared}
 use Rattle.plan.specs.Colours.{maskAt}
 use Rattle.state.proofs.table_validity.tables_valid.Statement.{statement}

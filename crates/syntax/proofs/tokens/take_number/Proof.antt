@@ -2,7 +2,7 @@
 use native.Mathlib.Omega.{arith}
 use borrow.Author.Needs.{needs}
 use Rattle.syntax.proofs.OtherKinds.{kinds}
-use Rattle.plan.proofs.Validity.{limits}
+use Rattle.plan.proofs.ValidPlans.{limits}
 use Rattle.syntax.specs.Tokens.{takeNumber}
 use Rattle.syntax.proofs.tokens.take_number.Statement.{statement}
 use Rattle.syntax.proofs.tokens.take_number.Tie as tie
