@@ -13,7 +13,7 @@ use Rattle.machine.specs.View.{worldWith}
 use Rattle.refusal.specs.declared.Verdict.{Verdict}
 use Rattle.reader.specs.Read.{readOf}
 use Rattle.engine.specs.declared.Ending.{Ending}
-use Rattle.engine.specs.Answers.{answered, hostFreshWith as engineFresh}
+use Rattle.engine.specs.Answers.{answered, freshWith as engineFresh}
 use Rattle.engine.specs.FreshStart.{FreshOutcome, freshStartOf}
 use Rattle.engine.specs.Running.{RunOutcome, endingNumber, runCallOf}
 use Rattle.pirkvezo.specs.declared.LogAnswer.{LogAnswer}
