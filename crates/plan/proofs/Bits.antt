@@ -10,6 +10,7 @@ use lib.Dec.{ltb}
 use lib.Pow.{ones-lt, pow-add, pow-mono, pow-pos, shl-exact, shl-lt, shl-shr}
 use borrow.Author.Tests.{eqb-true, ltb-false, ltb-true}
 use Rattle.plan.specs.Colours.{hasBit, maskFrom}
+use Rattle.plan.specs.Limits.{domainColours}
 
 -- a number has no bit at or past its width
 pub no-high-bit : (number width place : ℕ) → number < 2 ^ width → width ≤ place → hasBit number place ≡ true → ⊥
@@ -65,15 +66,15 @@ mask-ones first count =
     ∙ add-zero count
 
 -- a mask of at most 15 colours, as it is computed at 32 bits
-pub one-shifted : (count : ℕ) → count ≤ 15 → 1 * 2 ^ count % 2 ^ 32 ≡ 2 ^ count
+pub one-shifted : (count : ℕ) → count ≤ domainColours → 1 * 2 ^ count % 2 ^ 32 ≡ 2 ^ count
 one-shifted count small = shl-exact 1 count 32 (omega arith) (omega arith) ∙ one-mul (2 ^ count)
 
-pub mask-shifted : (first count : ℕ) → first + count ≤ 15 → (1 * 2 ^ count % 2 ^ 32 - 1) * 2 ^ first % 2 ^ 32 ≡ maskFrom first count
+pub mask-shifted : (first count : ℕ) → first + count ≤ domainColours → (1 * 2 ^ count % 2 ^ 32 - 1) * 2 ^ first % 2 ^ 32 ≡ maskFrom first count
 unfolding maskFrom
 mask-shifted first count small =
     ap (λ (n : ℕ). (n - 1) * 2 ^ first % 2 ^ 32) (one-shifted count (omega arith))
     ∙ shl-exact count first 32 (ones-lt count) (omega arith)
 
-pub mask-fits : (first count : ℕ) → first + count ≤ 15 → maskFrom first count < 2 ^ 16
+pub mask-fits : (first count : ℕ) → first + count ≤ domainColours → maskFrom first count < 2 ^ 16
 unfolding maskFrom
 mask-fits first count small = lt-of-lt-of-le (shl-lt count first (ones-lt count)) (pow-mono {i = count + first} {j = 16} (omega arith))

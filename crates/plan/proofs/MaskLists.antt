@@ -9,6 +9,7 @@ use lib.Seq.{ext-getD}
 use Rattle.plan.specs.declared.Plan.{Plan}
 use Rattle.plan.specs.Colours.{coloursOf, firstColour, maskFor, maskFrom, maskOf, masksFrom}
 use Rattle.plan.specs.Sums.{sumTo}
+use Rattle.plan.specs.Limits.{mostDomains}
 
 pub masks-length : (plan : Plan) (left domain : ℕ) → length (masksFrom plan left domain) ≡ left
 unfolding masksFrom
@@ -24,18 +25,18 @@ mask-past plan (suc left) domain (suc place) below =
     mask-past plan left (domain + 1) place (omega arith)
     ∙ ap (λ (n : ℕ). maskFor plan n) (let e : domain + 1 + place ≡ domain + suc place = omega arith in e)
 
-pub mask-due : (plan : Plan) (domain : ℕ) → domain < 8 → getD (masksFrom plan 8 0) domain 0 ≡ maskFor plan domain
-mask-due plan domain below = mask-past plan 8 0 domain below ∙ ap (λ (n : ℕ). maskFor plan n) (zero-add domain)
+pub mask-due : (plan : Plan) (domain : ℕ) → domain < mostDomains → getD (masksFrom plan mostDomains 0) domain 0 ≡ maskFor plan domain
+mask-due plan domain below = mask-past plan mostDomains 0 domain below ∙ ap (λ (n : ℕ). maskFor plan n) (zero-add domain)
 
 -- eight numbers, each the mask due at its place, are the list
 pub masks-are :
     (plan : Plan) (masks : List ℕ)
-    → length masks ≡ 8
-    → ((place : ℕ) → place < 8 → getD masks place 0 ≡ maskFor plan place)
-    → masks ≡ masksFrom plan 8 0
+    → length masks ≡ mostDomains
+    → ((place : ℕ) → place < mostDomains → getD masks place 0 ≡ maskFor plan place)
+    → masks ≡ masksFrom plan mostDomains 0
 masks-are plan masks eight each =
-    ext-getD 0 masks (masksFrom plan 8 0) (eight ∙ sym (masks-length plan 8 0)) (λ place below.
-    let small : place < 8 = omega arith in
+    ext-getD 0 masks (masksFrom plan mostDomains 0) (eight ∙ sym (masks-length plan mostDomains 0)) (λ place below.
+    let small : place < mostDomains = omega arith in
     each place small ∙ sym (mask-due plan place small))
 
 -- the mask that a share gives hangs on the shares alone

@@ -6,14 +6,15 @@ use Prim.Native.Nat.{ℕ, suc, _≤_, _<_}
 use native.Mathlib.Omega.{arith}
 use lib.Count.{ones}
 use lib.Dec.{ltb}
-use borrow.Author.Tests.{ltb-true, ltb-false}
+use borrow.Author.Tests.{lt-ltb, ltb-true, ltb-false}
 use Rattle.plan.specs.declared.Plan.{Plan}
 use Rattle.plan.specs.Colours.{coloursAt, firstColour, holdingOf, maskAt, maskOf, ownsColour}
 use Rattle.plan.specs.Validity.{planValid}
 use Rattle.plan.specs.Rights.{maySend, rightsAt}
 use Rattle.plan.specs.Sums.{sumTo}
+use Rattle.plan.specs.Limits.{domainColours, mostDomains}
 use Rattle.plan.proofs.Bits.{mask-bits, mask-fits, mask-ones, no-high-bit, zero-no-bit}
-use Rattle.plan.proofs.ValidPlans.{declared, parts, undeclared}
+use Rattle.plan.proofs.ValidPlans.{counts, declared, parts, undeclared}
 use Rattle.plan.proofs.Shares.{colours-at-most}
 use Rattle.plan.proofs.Sums.{sum-mono}
 
@@ -37,11 +38,11 @@ first-mono plan one other within = sum-mono (coloursAt plan) one other within
 
 -- no colour is given past 14
 pub owned-below :
-    (plan : Plan) (domain colour : ℕ) → planValid plan ≡ true → domain < plan .domains → ownsColour plan domain colour ≡ true → colour < 15
+    (plan : Plan) (domain colour : ℕ) → planValid plan ≡ true → domain < plan .domains → ownsColour plan domain colour ≡ true → colour < domainColours
 owned-below plan domain colour possible below owns =
     let range = owned-range plan domain colour possible below owns in
     let rising : firstColour plan (suc domain) ≤ firstColour plan (plan .domains) = first-mono plan (suc domain) (plan .domains) below in
-    let total : firstColour plan (plan .domains) ≤ 15 = colours-at-most plan (plan .domains) (parts plan possible .shares) in
+    let total : firstColour plan (plan .domains) ≤ domainColours = colours-at-most plan (plan .domains) (parts plan possible .shares) in
     omega arith
 
 -- a lower domain's colours end before a higher one's begin
@@ -78,7 +79,7 @@ masks-disjoint plan one other colour possible below below′ differ owns owns′
         apart plan other one colour possible (omega arith) below owns′ owns
 
 -- a possible plan's masks have at most 16 bits
-pub mask-most : (plan : Plan) (domain : ℕ) → planValid plan ≡ true → domain < 8 → maskAt plan domain ≤ 65_535
+pub mask-most : (plan : Plan) (domain : ℕ) → planValid plan ≡ true → domain < mostDomains → maskAt plan domain ≤ 65_535
 unfolding maskOf firstColour sumTo
 mask-most plan domain possible below = go (ltb domain (plan .domains)) refl
   where
@@ -86,7 +87,7 @@ mask-most plan domain possible below = go (ltb domain (plan .domains)) refl
     go true e =
         let within = ltb-true domain (plan .domains) e in
         let rising : firstColour plan (suc domain) ≤ firstColour plan (plan .domains) = first-mono plan (suc domain) (plan .domains) within in
-        let total : firstColour plan (plan .domains) ≤ 15 = colours-at-most plan (plan .domains) (parts plan possible .shares) in
+        let total : firstColour plan (plan .domains) ≤ domainColours = colours-at-most plan (plan .domains) (parts plan possible .shares) in
         let fits = mask-fits (firstColour plan domain) (coloursAt plan domain) (omega arith) in
         omega (arith, declared plan domain possible within .mask)
     go false e = omega (arith, undeclared plan domain possible (ltb-false domain (plan .domains) e) below .mask)
@@ -96,14 +97,16 @@ pub holding-is-colours :
     (plan : Plan) (domain : ℕ) → planValid plan ≡ true → domain < plan .domains → holdingOf plan domain ≡ coloursAt plan domain
 unfolding holdingOf maskOf
 holding-is-colours plan domain possible below =
-    ap ones (declared plan domain possible below .mask) ∙ mask-ones (firstColour plan domain) (coloursAt plan domain)
+    let small : domain < mostDomains = omega (arith, counts plan possible .domains-most) in
+    rw (lt-ltb domain mostDomains small)
+    (ap ones (declared plan domain possible below .mask) ∙ mask-ones (firstColour plan domain) (coloursAt plan domain))
 
 -- a right to send is a declared domain's, to a declared domain
 pub right-declared :
     (plan : Plan) (sender recipient : ℕ)
     → planValid plan ≡ true
     → maySend plan sender recipient ≡ true
-    → sender < 8
+    → sender < mostDomains
     → (sender < plan .domains) × (recipient < plan .domains)
 right-declared plan sender recipient possible may below = (is-declared, to-declared (ltb recipient (plan .domains)) refl)
   where

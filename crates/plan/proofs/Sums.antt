@@ -11,6 +11,7 @@ use lib.ListN.{getD, getD-replicate, length, replicate, set}
 use lib.Seq.{getD-set-other, getD-set-same}
 use borrow.Author.Tests.{eqb-true, eqb-false, le-ltb, lt-ltb, ltb-false, ltb-true}
 use Rattle.plan.specs.Sums.{sumTo, allBelow}
+use Rattle.plan.specs.Limits.{mostDomains}
 
 -- a place below count + 1 is the last one or an earlier one
 pub last-or-earlier {ℓ} : (P : ℕ → Type ℓ) (count place : ℕ) → P count → (place < count → P place) → place < suc count → P place
@@ -74,17 +75,17 @@ unfolding sumTo
 sum-more f total count so-far = rw (so-far, add-one)
 
 -- an array of eight zeros is filled by any rule up to place 0
-pub filled-none : (rule : ℕ → ℕ) (place : ℕ) → place < 8 → getD (replicate 8 0) place 0 ≡ cond (ltb place 0) (rule place) 0
-filled-none rule place below = getD-replicate 8 place 0 0 below ∙ sym (ap (λ (b : Bool). cond b (rule place) 0) (leb·suc-zero place))
+pub filled-none : (rule : ℕ → ℕ) (place : ℕ) → place < mostDomains → getD (replicate mostDomains 0) place 0 ≡ cond (ltb place 0) (rule place) 0
+filled-none rule place below = getD-replicate mostDomains place 0 0 below ∙ sym (ap (λ (b : Bool). cond b (rule place) 0) (leb·suc-zero place))
 
 -- an array of eight, filled by a rule up to a place, filled one place further
 pub filled-more :
     (rule : ℕ → ℕ) (array : List ℕ) (count : ℕ)
-    → length array ≡ 8
-    → count < 8
-    → ((place : ℕ) → place < 8 → getD array place 0 ≡ cond (ltb place count) (rule place) 0)
+    → length array ≡ mostDomains
+    → count < mostDomains
+    → ((place : ℕ) → place < mostDomains → getD array place 0 ≡ cond (ltb place count) (rule place) 0)
     → (place : ℕ)
-    → place < 8
+    → place < mostDomains
     → getD (set array count (rule count)) place 0 ≡ cond (ltb place (count + 1)) (rule place) 0
 filled-more rule array count long below filled place within = go (eqb place count) refl
   where

@@ -12,6 +12,8 @@ use Rattle.plan.specs.Validity.{countsValid, declaredValid, domainValid,
 use Rattle.plan.specs.Rights.{maySend, rightsAt}
 use Rattle.plan.specs.Sums.{allBelow}
 use Rattle.plan.specs.Windows.{ticksTotal}
+use Rattle.plan.specs.Limits.{leastLength, leastPad, mostDomains, mostLength, mostPad}
+use Rattle.plan.specs.Limits.{mostRun, mostRunTicks, mostShare, mostShares, mostWindows}
 use Rattle.plan.proofs.Sums.{all-below}
 
 -- both halves of a test that passes
@@ -25,11 +27,11 @@ limits low high number h = let parts = both (leb low number) (leb number high) h
 -- the six parts of the check
 pub record Possible (plan : Plan) : Type 0 where
   pub counts : countsValid plan ≡ true
-  pub domains : allBelow (domainValid plan) 8 ≡ true
-  pub shares : sharesTotal plan (plan .domains) ≤ 1_000
-  pub masks : allBelow (maskValid plan) 8 ≡ true
-  pub windows : allBelow (windowValid plan) 32 ≡ true
-  pub ticks : ticksTotal plan ≤ 4_294_967_295
+  pub domains : allBelow (domainValid plan) mostDomains ≡ true
+  pub shares : sharesTotal plan (plan .domains) ≤ mostShares
+  pub masks : allBelow (maskValid plan) mostDomains ≡ true
+  pub windows : allBelow (windowValid plan) mostWindows ≡ true
+  pub ticks : ticksTotal plan ≤ mostRunTicks
 
 pub parts : (plan : Plan) → planValid plan ≡ true → Possible plan
 unfolding planValid
@@ -50,14 +52,14 @@ parts plan possible =
 
 -- the four counts
 pub record Counts (plan : Plan) : Type 0 where
-  pub pad-least : 276 ≤ plan .pad
-  pub pad-most : plan .pad ≤ 1_000_000
+  pub pad-least : leastPad ≤ plan .pad
+  pub pad-most : plan .pad ≤ mostPad
   pub run-least : 1 ≤ plan .run
-  pub run-most : plan .run ≤ 1_000
+  pub run-most : plan .run ≤ mostRun
   pub domains-least : 1 ≤ plan .domains
-  pub domains-most : plan .domains ≤ 8
+  pub domains-most : plan .domains ≤ mostDomains
   pub windows-least : 1 ≤ plan .windows
-  pub windows-most : plan .windows ≤ 32
+  pub windows-most : plan .windows ≤ mostWindows
 
 pub counts-of : (plan : Plan) → countsValid plan ≡ true → Counts plan
 unfolding countsValid
@@ -86,7 +88,7 @@ counts plan possible = counts-of plan (parts plan possible .counts)
 -- a declared domain
 pub record Declared (plan : Plan) (domain : ℕ) : Type 0 where
   pub share-least : 1 ≤ shareOf plan domain
-  pub share-most : shareOf plan domain ≤ 1_000
+  pub share-most : shareOf plan domain ≤ mostShare
   pub colour : 1 ≤ coloursAt plan domain
   pub rights-most : rightsAt plan domain < 2 ^ plan .domains
   pub not-own : maySend plan domain domain ≡ false
@@ -94,15 +96,15 @@ pub record Declared (plan : Plan) (domain : ℕ) : Type 0 where
 
 -- the mask at a place
 mask-at :
-    (plan : Plan) (domain : ℕ) → planValid plan ≡ true → domain < 8 → maskAt plan domain ≡ maskFor plan domain
+    (plan : Plan) (domain : ℕ) → planValid plan ≡ true → domain < mostDomains → maskAt plan domain ≡ maskFor plan domain
 unfolding maskValid
-mask-at plan domain possible below = eqb-true _ _ (all-below (maskValid plan) 8 domain (parts plan possible .masks) below)
+mask-at plan domain possible below = eqb-true _ _ (all-below (maskValid plan) mostDomains domain (parts plan possible .masks) below)
 
 pub declared : (plan : Plan) (domain : ℕ) → planValid plan ≡ true → domain < plan .domains → Declared plan domain
 unfolding domainValid declaredValid
 declared plan domain possible below =
-    let most : plan .domains ≤ 8 = counts plan possible .domains-most in
-    let whole : domainValid plan domain ≡ true = all-below (domainValid plan) 8 domain (parts plan possible .domains) (omega arith) in
+    let most : plan .domains ≤ mostDomains = counts plan possible .domains-most in
+    let whole : domainValid plan domain ≡ true = all-below (domainValid plan) mostDomains domain (parts plan possible .domains) (omega arith) in
     let own : declaredValid plan domain ≡ true = rw (lt-ltb domain (plan .domains) below) at whole in
     let fourth = both _ _ own in
     let third = both _ _ (fourth .0) in
@@ -123,10 +125,10 @@ pub record Undeclared (plan : Plan) (domain : ℕ) : Type 0 where
   pub rights : rightsAt plan domain ≡ 0
   pub mask : maskAt plan domain ≡ 0
 
-pub undeclared : (plan : Plan) (domain : ℕ) → planValid plan ≡ true → plan .domains ≤ domain → domain < 8 → Undeclared plan domain
+pub undeclared : (plan : Plan) (domain : ℕ) → planValid plan ≡ true → plan .domains ≤ domain → domain < mostDomains → Undeclared plan domain
 unfolding domainValid undeclaredValid
 undeclared plan domain possible past below =
-    let whole : domainValid plan domain ≡ true = all-below (domainValid plan) 8 domain (parts plan possible .domains) below in
+    let whole : domainValid plan domain ≡ true = all-below (domainValid plan) mostDomains domain (parts plan possible .domains) below in
     let none : undeclaredValid plan domain ≡ true = rw (le-ltb domain (plan .domains) past) at whole in
     let second = both _ _ none in
     record {
@@ -139,13 +141,13 @@ undeclared plan domain possible past below =
 pub record DeclaredWindow (plan : Plan) (slot : ℕ) : Type 0 where
   pub owner : getD (plan .owners) slot 0 < plan .domains
   pub length-least : 1 ≤ getD (plan .lengths) slot 0
-  pub length-most : getD (plan .lengths) slot 0 ≤ 1_000_000
+  pub length-most : getD (plan .lengths) slot 0 ≤ mostLength
 
 pub declared-window : (plan : Plan) (slot : ℕ) → planValid plan ≡ true → slot < plan .windows → DeclaredWindow plan slot
 unfolding windowValid
 declared-window plan slot possible below =
-    let most : plan .windows ≤ 32 = counts plan possible .windows-most in
-    let whole : windowValid plan slot ≡ true = all-below (windowValid plan) 32 slot (parts plan possible .windows) (omega arith) in
+    let most : plan .windows ≤ mostWindows = counts plan possible .windows-most in
+    let whole : windowValid plan slot ≡ true = all-below (windowValid plan) mostWindows slot (parts plan possible .windows) (omega arith) in
     let own = rw (lt-ltb slot (plan .windows) below) at whole in
     let second = both _ _ own in
     let length = limits _ _ _ (second .1) in
@@ -153,29 +155,29 @@ declared-window plan slot possible below =
 
 -- where every place for a domain is possible, no share is over 1,000
 pub shares-most :
-    (plan : Plan) → allBelow (domainValid plan) 8 ≡ true → (domain : ℕ) → domain < 8 → getD (plan .shares) domain 0 ≤ 1_000
+    (plan : Plan) → allBelow (domainValid plan) mostDomains ≡ true → (domain : ℕ) → domain < mostDomains → getD (plan .shares) domain 0 ≤ mostShare
 unfolding domainValid declaredValid undeclaredValid
-shares-most plan all domain below = go (ltb domain (plan .domains)) (all-below (domainValid plan) 8 domain all below)
+shares-most plan all domain below = go (ltb domain (plan .domains)) (all-below (domainValid plan) mostDomains domain all below)
   where
-    go : (b : Bool) → cond b (declaredValid plan domain) (undeclaredValid plan domain) ≡ true → shareOf plan domain ≤ 1_000
+    go : (b : Bool) → cond b (declaredValid plan domain) (undeclaredValid plan domain) ≡ true → shareOf plan domain ≤ mostShare
     go true own = limits _ _ _ (both _ _ (both _ _ (both _ _ own .0) .0) .0) .1
     go false none = let zero : shareOf plan domain ≡ 0 = eqb-true _ _ (both _ _ none .0) in omega arith
 
 -- where every place for a window is possible, no length is over 1,000,000
 pub lengths-most :
-    (plan : Plan) → allBelow (windowValid plan) 32 ≡ true → (slot : ℕ) → slot < 32 → getD (plan .lengths) slot 0 ≤ 1_000_000
+    (plan : Plan) → allBelow (windowValid plan) mostWindows ≡ true → (slot : ℕ) → slot < mostWindows → getD (plan .lengths) slot 0 ≤ mostLength
 unfolding windowValid
-lengths-most plan all slot below = go (ltb slot (plan .windows)) (all-below (windowValid plan) 32 slot all below)
+lengths-most plan all slot below = go (ltb slot (plan .windows)) (all-below (windowValid plan) mostWindows slot all below)
   where
     go :
         (b : Bool)
-        → cond b (ltb (getD (plan .owners) slot 0) (plan .domains) && within 1 1_000_000 (getD (plan .lengths) slot 0))
+        → cond b (ltb (getD (plan .owners) slot 0) (plan .domains) && within leastLength mostLength (getD (plan .lengths) slot 0))
         (eqb (getD (plan .owners) slot 0) 0 && eqb (getD (plan .lengths) slot 0) 0)
         ≡ true
-        → getD (plan .lengths) slot 0 ≤ 1_000_000
+        → getD (plan .lengths) slot 0 ≤ mostLength
     go true own =
-        limits 1 1_000_000 _
-        (both (ltb (getD (plan .owners) slot 0) (plan .domains)) (within 1 1_000_000 (getD (plan .lengths) slot 0)) own .1) .1
+        limits leastLength mostLength _
+        (both (ltb (getD (plan .owners) slot 0) (plan .domains)) (within leastLength mostLength (getD (plan .lengths) slot 0)) own .1) .1
     go false none =
         let zero : getD (plan .lengths) slot 0 ≡ 0 =
         eqb-true _ _ (both (eqb (getD (plan .owners) slot 0) 0) (eqb (getD (plan .lengths) slot 0) 0) none .1) in

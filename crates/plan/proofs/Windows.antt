@@ -9,16 +9,17 @@ use Rattle.plan.specs.declared.Plan.{Plan}
 use Rattle.plan.specs.Validity.{planValid}
 use Rattle.plan.specs.Sums.{sumTo}
 use Rattle.plan.specs.Windows.{windowLength, windowOwner, paddedLength, slotOf, windowStart, ticksTotal, windowsTotal}
+use Rattle.plan.specs.Limits.{leastPad, mostDomains, mostLength, mostPad, mostRunTicks}
 use Rattle.plan.proofs.ValidPlans.{counts, declared-window, parts}
 use Rattle.plan.proofs.Sums.{sum-most}
 
-pub pad-least : (plan : Plan) → planValid plan ≡ true → 276 ≤ plan .pad
+pub pad-least : (plan : Plan) → planValid plan ≡ true → leastPad ≤ plan .pad
 pad-least plan possible = counts plan possible .pad-least
 
 pub domains-positive : (plan : Plan) → planValid plan ≡ true → 0 < plan .domains
 domains-positive plan possible = counts plan possible .domains-least
 
-pub domains-most : (plan : Plan) → planValid plan ≡ true → plan .domains ≤ 8
+pub domains-most : (plan : Plan) → planValid plan ≡ true → plan .domains ≤ mostDomains
 domains-most plan possible = counts plan possible .domains-most
 
 -- a window's slot is a declared one
@@ -34,7 +35,7 @@ pub length-least : (plan : Plan) (window : ℕ) → planValid plan ≡ true → 
 unfolding windowLength
 length-least plan window possible = declared-window plan (slotOf plan window) possible (slot-below plan window possible) .length-least
 
-pub length-most : (plan : Plan) (window : ℕ) → planValid plan ≡ true → windowLength plan window ≤ 1_000_000
+pub length-most : (plan : Plan) (window : ℕ) → planValid plan ≡ true → windowLength plan window ≤ mostLength
 unfolding windowLength
 length-most plan window possible = declared-window plan (slotOf plan window) possible (slot-below plan window possible) .length-most
 
@@ -102,8 +103,8 @@ start-most plan window possible within =
 -- the first declared windows with their pads, each of at most 2,000,000 ticks
 pub padded-most :
     (plan : Plan) (count : ℕ)
-    → plan .pad ≤ 1_000_000
-    → ((slot : ℕ) → slot < count → getD (plan .lengths) slot 0 ≤ 1_000_000)
+    → plan .pad ≤ mostPad
+    → ((slot : ℕ) → slot < count → getD (plan .lengths) slot 0 ≤ mostLength)
     → sumTo (paddedLength plan) count ≤ 2_000_000 * count
 padded-most plan count pad lengths = sum-most (paddedLength plan) 2_000_000 count (λ slot below. omega (arith, lengths slot below))
 
@@ -117,7 +118,7 @@ start-repeats plan window possible = sym (start-closed plan window (counts plan 
 
 -- no start of a run is over the largest total
 pub start-fits :
-    (plan : Plan) (window : ℕ) → planValid plan ≡ true → window ≤ windowsTotal plan → windowStart plan window ≤ 4_294_967_295
+    (plan : Plan) (window : ℕ) → planValid plan ≡ true → window ≤ windowsTotal plan → windowStart plan window ≤ mostRunTicks
 start-fits plan window possible within =
     let most : windowStart plan window ≤ ticksTotal plan = start-most plan window possible within in
     omega (arith, parts plan possible .ticks)

@@ -6,8 +6,9 @@ use limits::LEAST_TICKS;
 use limits::MOST_OPS;
 use limits::MOST_TICKS;
 ghost use mathlib.Core.Path.{_≡_};
-ghost use Prim.Native.Nat.{_<_, _≤_};
+ghost use Prim.Native.Nat.{_≤_};
 ghost use lib.ListN.{length};
+ghost use Rattle.script.specs.Limits.{lastDomain, scriptsLength};
 ghost use Rattle.script.specs.Stored.{packed, storedOf};
 ghost use Rattle.script.specs.Fetch.{decodeOf, fetchOf, opOf};
 
@@ -103,7 +104,7 @@ fn decode(number: u32) -> ScriptItem
 
 // What stands at a position of a domain's script. A script ends at position 256 at the latest.
 pub fn fetch(scripts: &[u32], domain: u32, position: u64) -> ScriptItem
-    requires { ⌜ (length (now scripts) ≡ 2048) × (domain < 8) ⌝ }
+    requires { ⌜ (length (now scripts) ≡ scriptsLength) × (domain ≤ lastDomain) ⌝ }
     ensures { λ r. ⌜ r ≡ fetchOf (now (scripts .entry)) domain position ⌝ }
 {
     if position < MOST_OPS as u64 {

@@ -9,6 +9,7 @@ use lib.ListN.{getD, length, length-set}
 use borrow.Author.Needs.{needs}
 use Rattle.plan.specs.Colours.{coloursOf, firstColour, maskFrom, maskOf}
 use Rattle.plan.specs.Sums.{sumTo}
+use Rattle.plan.specs.Limits.{domainColours, mostDomains}
 use Rattle.plan.proofs.MaskLists.{masks-are}
 use Rattle.plan.proofs.Sums.{filled-more, filled-none, sum-mono, sum-more}
 use Rattle.plan.proofs.sharing.masks_of.Statement.{statement}
@@ -22,10 +23,10 @@ ruleOf shares domain =
 abbrev Inv-loop : tie.InvT-loop
 Inv-loop shares domains masks₀ first₀ i₀ masks first i =
     (i ≤ domains)
-    × (domains ≤ 8)
+    × (domains ≤ mostDomains)
     × (first ≡ sumTo (λ (place : ℕ). coloursOf (getD shares place 0)) i)
-    × (length masks ≡ 8)
-    × ((place : ℕ) → place < 8 → getD masks place 0 ≡ cond (ltb place i) (ruleOf shares place) 0)
+    × (length masks ≡ mostDomains)
+    × ((place : ℕ) → place < mostDomains → getD masks place 0 ≡ cond (ltb place i) (ruleOf shares place) 0)
 
 abbrev μ-loop : tie.MeasureT-loop
 μ-loop shares domains masks₀ first₀ i₀ masks first i = domains - i
@@ -35,7 +36,7 @@ cast-domains c = search needs
 
 loop-holds : tie.Need-loop-holds Inv-loop μ-loop
 unfolding sumTo
-loop-holds c = (omega arith, c .before .before .pre .0, refl, refl, filled-none _)
+loop-holds c = (omega arith, c .before .before .pre .0 .0, refl, refl, filled-none _)
 
 mul-colours-of : tie.Need-mul-colours-of Inv-loop μ-loop
 mul-colours-of c = omega arith
@@ -44,7 +45,7 @@ array-read-colours-of : tie.Need-array-read-colours-of Inv-loop μ-loop
 array-read-colours-of c = omega arith
 
 colours-of-requires : tie.Need-colours-of-requires Inv-loop μ-loop
-colours-of-requires c κs = c .before .before .before .before .pre .1 (c .before .loop .i) (omega arith)
+colours-of-requires c κs = c .before .before .before .before .pre .0 .1 (c .before .loop .i) (omega arith)
 
 mask-from-requires : tie.Need-mask-from-requires Inv-loop μ-loop
 unfolding firstColour
@@ -54,7 +55,7 @@ mask-from-requires c κs =
     let rule : ℕ → ℕ = λ place. coloursOf (getD (start .args .plan .shares) place 0) in
     let next : loop .first + rule (loop .i) ≡ sumTo rule (loop .i + 1) = sum-more rule _ (loop .i) (loop .inv .2) in
     let more : sumTo rule (loop .i + 1) ≤ sumTo rule (start .args .plan .domains) = sum-mono rule _ _ (omega arith) in
-    let total : sumTo rule (start .args .plan .domains) ≤ 15 = start .pre .2 in
+    let total : sumTo rule (start .args .plan .domains) ≤ domainColours = start .pre .1 in
     omega (arith, c .colours-of .ensures)
 
 mul-masks : tie.Need-mul-masks Inv-loop μ-loop
