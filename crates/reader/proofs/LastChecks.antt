@@ -1,5 +1,5 @@
--- Laws of the checks after the last line, place by place: the first undeclared recipient, the first domain
--- without a colour, and the masks of a plan that passes. Assumes nothing.
+-- Laws of the checks after the last line: the first undeclared recipient, the first domain without a colour, and what a
+-- draft that passes is known to satisfy. Assumes nothing.
 use Prim.Native.Nat.{ℕ, zero, suc, _+_, _-_, _≤_, _<_}
 use native.Mathlib.Nat.{sub-zero}
 use native.Mathlib.Numerals.{add-one}
@@ -11,14 +11,14 @@ use lib.Dec.{eqb, leb, ltb}
 use lib.ListN.{getD}
 use borrow.Author.Tests.{eq-eqb, eqb-false, eqb-true, le-ltb, lt-ltb, ltb-false, ne-eqb}
 use Rattle.plan.specs.declared.Plan.{Plan}
-use Rattle.plan.specs.Colours.{coloursAt, masksFrom, sharesTotal}
+use Rattle.plan.specs.Colours.{coloursAt, sharesTotal}
 use Rattle.plan.specs.Windows.{ticksTotal}
-use Rattle.refusal.specs.declared.Refusal.{Refusal}
-use Rattle.refusal.specs.declared.Verdict.{Verdict}
-use Rattle.refusal.specs.declared.Verdict.the-variants.{Accepted, Refused}
+use Rattle.plan.specs.Limits.{mostDomains, mostRunTicks, mostShares}
+use Rattle.refusal.proofs.Passed.{when-passed}
+use Rattle.refusal.specs.declared.Verdict.the-variants.{Accepted}
 use Rattle.syntax.proofs.Choices.{same-or-not}
 use Rattle.reader.specs.declared.Draft.{Draft}
-use Rattle.reader.specs.Final.{finalVerdict, firstColourless, firstOffset, firstUndeclared, lacking, planWithMasks}
+use Rattle.reader.specs.Final.{finalVerdict, firstColourless, firstOffset, firstUndeclared, lacking}
 
 -- ---- the first undeclared recipient
 
@@ -103,47 +103,24 @@ coloured-each plan (suc left) domain other all from below none =
         (λ same. eqb-false _ _ e (ap (coloursAt plan) (sym same) ∙ none))
         (λ differ. again (omega arith) (omega arith) (omega arith) none)
 
--- ---- the masks of an accepted plan
-
--- the plan with the masks that were worked out
-pub masked : (plan : Plan) (masks : List ℕ) → masks ≡ masksFrom plan 8 0
-    → record {
-      pad = plan .pad;
-      run = plan .run;
-      domains = plan .domains;
-      windows = plan .windows;
-      shares = plan .shares;
-      rights = plan .rights;
-      owners = plan .owners;
-      lengths = plan .lengths;
-      masks = masks;
-    }
-    ≡ planWithMasks plan
-unfolding planWithMasks
-masked plan masks given = rw given
-
 -- ---- what a draft that passes is known to satisfy
 
 pub record Passes (draft : Draft) : Type 0 where
   pub nothing-lacking : lacking (draft .plan) ≡ false
-  pub all-declared : firstUndeclared (draft .named) (draft .plan .domains) 8 ≡ 0
-  pub shares : sharesTotal (draft .plan) (draft .plan .domains) ≤ 1_000
+  pub all-declared : firstUndeclared (draft .named) (draft .plan .domains) mostDomains ≡ 0
+  pub shares : sharesTotal (draft .plan) (draft .plan .domains) ≤ mostShares
   pub coloured : draft .plan .domains ≤ firstColourless (draft .plan) (draft .plan .domains) 0
-  pub ticks : ticksTotal (draft .plan) ≤ 4_294_967_295
-
-goes-on : (test : Bool) (why : Refusal) (rest : Verdict) → cond test (Refused why) rest ≡ Accepted → (test ≡ false) × (rest ≡ Accepted)
-goes-on true why rest e = let z : _≡_ {A = ℕ} 0 1 = cc in absurd (omega arith)
-goes-on false why rest e = (refl, e)
+  pub ticks : ticksTotal (draft .plan) ≤ mostRunTicks
 
 pub passes : (textLength : ℕ) (draft : Draft) → finalVerdict textLength draft ≡ Accepted → Passes draft
 unfolding finalVerdict
 passes textLength draft accepted =
-    let first = goes-on _ _ _ accepted in
-    let second = goes-on _ _ _ (first .1) in
-    let third = goes-on _ _ _ (second .1) in
-    let fourth = goes-on _ _ _ (third .1) in
-    let fifth = goes-on _ _ _ (fourth .1) in
-    let undeclared : firstUndeclared (draft .named) (draft .plan .domains) 8 ≤ 0 = ltb-false 0 _ (second .0) in
+    let first = when-passed _ _ _ accepted in
+    let second = when-passed _ _ _ (first .1) in
+    let third = when-passed _ _ _ (second .1) in
+    let fourth = when-passed _ _ _ (third .1) in
+    let fifth = when-passed _ _ _ (fourth .1) in
+    let undeclared : firstUndeclared (draft .named) (draft .plan .domains) mostDomains ≤ 0 = ltb-false 0 _ (second .0) in
     record {
       nothing-lacking = first .0;
       all-declared = omega arith;

@@ -7,10 +7,13 @@ use lib.ListN.{getD}
 use Rattle.plan.specs.declared.Plan.{Plan}
 use Rattle.plan.specs.Colours.{coloursAt, masksFrom, sharesTotal}
 use Rattle.plan.specs.Limits.{mostDomains, mostRunTicks, mostShares}
+use Rattle.plan.specs.Parts.{withMasks}
 use Rattle.plan.specs.Windows.{ticksTotal}
-use Rattle.refusal.specs.declared.Refusal.the-variants.{NoColour, RepeatedOrMissing, RunTooLong, SharesOverThousand, WrongDomain}
+use Rattle.refusal.specs.Checks.{when}
+use Rattle.refusal.specs.declared.Refusal.the-variants.{NoColour, RepeatedOrMissing, RunTooLong}
+use Rattle.refusal.specs.declared.Refusal.the-variants.{SharesOverThousand, WrongDomain}
 use Rattle.refusal.specs.declared.Verdict.{Verdict}
-use Rattle.refusal.specs.declared.Verdict.the-variants.{Accepted, Refused}
+use Rattle.refusal.specs.declared.Verdict.the-variants.{Accepted}
 use Rattle.reader.specs.declared.Draft.{Draft}
 
 -- 5: no pad, domain, window or run
@@ -33,29 +36,19 @@ firstColourless plan zero domain = domain
 firstColourless plan (suc left) domain =
     elim (eqb (coloursAt plan domain) 0) [ true ↦ domain | false ↦ firstColourless plan left (domain + 1) ]
 
--- the checks after the last line, in their order
+-- the checks after the last line, in their order: 5, 4, 7, 6, 9
 unfoldable pub finalVerdict : ℕ → Draft → Verdict
 finalVerdict textLength draft =
     let plan = draft .plan in
     let undeclared = firstUndeclared (draft .named) (plan .domains) mostDomains in
+    let total = sharesTotal plan (plan .domains) in
     let colourless = firstColourless plan (plan .domains) 0 in
-    cond (lacking plan) (Refused (RepeatedOrMissing textLength))
-    (cond (ltb 0 undeclared) (Refused (WrongDomain (undeclared - 1)))
-    (cond (ltb mostShares (sharesTotal plan (plan .domains))) (Refused (SharesOverThousand (sharesTotal plan (plan .domains))))
-    (cond (ltb colourless (plan .domains)) (Refused (NoColour colourless))
-    (cond (ltb mostRunTicks (ticksTotal plan)) (Refused RunTooLong) Accepted))))
+    when (lacking plan) (RepeatedOrMissing textLength)
+    (when (ltb 0 undeclared) (WrongDomain (undeclared - 1))
+    (when (ltb mostShares total) (SharesOverThousand total)
+    (when (ltb colourless (plan .domains)) (NoColour colourless)
+    (when (ltb mostRunTicks (ticksTotal plan)) RunTooLong Accepted))))
 
 -- an accepted plan keeps its colour masks
 unfoldable pub planWithMasks : Plan → Plan
-planWithMasks plan =
-    record {
-      pad = plan .pad;
-      run = plan .run;
-      domains = plan .domains;
-      windows = plan .windows;
-      shares = plan .shares;
-      rights = plan .rights;
-      owners = plan .owners;
-      lengths = plan .lengths;
-      masks = masksFrom plan mostDomains 0;
-    }
+planWithMasks plan = withMasks plan (masksFrom plan mostDomains 0)

@@ -1,6 +1,7 @@
 // The checks of a whole text, once no line of it was refused; and the masks of a plan that passes them.
 use crate::Draft;
 use plan::Plan;
+use plan::limits::DOMAIN_ENTRIES;
 use plan::limits::MOST_RUN_TICKS;
 use plan::limits::MOST_SHARES;
 use plan::sharing::colours_of;
@@ -10,10 +11,10 @@ use plan::timing::ticks_total;
 use refusal::Refusal;
 use refusal::Verdict;
 ghost use mathlib.Core.Path.{_≡_};
-ghost use Prim.Native.Nat.{ℕ, _<_, _≤_};
-ghost use lib.ListN.{getD};
-ghost use Rattle.plan.specs.Colours.{firstColour};
-ghost use Rattle.reader.specs.Final.{finalVerdict, firstColourless, firstOffset, firstUndeclared, lacking, planWithMasks};
+ghost use Rattle.plan.specs.Bounds.{ColoursBounded, SharesBounded, TicksBounded};
+ghost use Rattle.plan.specs.Limits.{mostDomains};
+ghost use Rattle.reader.specs.Final.{finalVerdict, firstColourless, firstOffset};
+ghost use Rattle.reader.specs.Final.{firstUndeclared, lacking, planWithMasks};
 
 // No pad, domain, window or run.
 fn is_lacking(plan: Plan) -> bool
@@ -22,7 +23,7 @@ fn is_lacking(plan: Plan) -> bool
     (plan.pad == 0) | (plan.domains == 0) | (plan.windows == 0) | (plan.run == 0)
 }
 
-// The lesser of two places, each an offset plus one, or 0 for none.
+// The earlier of two offsets, each plus one, or 0 for none.
 fn first_offset(a: usize, b: usize) -> usize
     ensures { λ r. ⌜ r ≡ firstOffset a b ⌝ }
 {
@@ -36,12 +37,12 @@ fn first_offset(a: usize, b: usize) -> usize
 }
 
 // Where the text first names an undeclared domain as a recipient: an offset plus one, or 0 for none.
-fn first_undeclared(named: [usize; 8], declared: u32) -> usize
-    ensures { λ r. ⌜ r ≡ firstUndeclared named declared 8 ⌝ }
+fn first_undeclared(named: [usize; DOMAIN_ENTRIES], declared: u32) -> usize
+    ensures { λ r. ⌜ r ≡ firstUndeclared named declared mostDomains ⌝ }
 {
     let mut found: usize = 0;
     let mut domain: usize = 0;
-    while domain < 8 {
+    while domain < DOMAIN_ENTRIES {
         if declared as usize <= domain {
             found = first_offset(found, named[domain]);
         }
@@ -52,7 +53,7 @@ fn first_undeclared(named: [usize; 8], declared: u32) -> usize
 
 // The lowest domain whose share gives no colour, or the number of domains.
 fn first_colourless(plan: Plan) -> usize
-    requires { ⌜ (plan .domains ≤ 8) × ((i : ℕ) → i < 8 → getD (plan .shares) i 0 ≤ 1_000) ⌝ }
+    requires { ⌜ SharesBounded plan ⌝ }
     ensures { λ r. ⌜ r ≡ firstColourless plan (plan .domains) 0 ⌝ }
 {
     let shares = plan.shares;
@@ -69,12 +70,7 @@ fn first_colourless(plan: Plan) -> usize
 
 // The checks in their order.
 pub fn final_verdict(length: usize, draft: Draft) -> Verdict
-    requires { ⌜ (draft .plan .domains ≤ 8)
-        × ((i : ℕ) → i < 8 → getD (draft .plan .shares) i 0 ≤ 1_000)
-        × (draft .plan .run ≤ 1_000)
-        × (draft .plan .windows ≤ 32)
-        × (draft .plan .pad ≤ 1_000_000)
-        × ((i : ℕ) → i < 32 → getD (draft .plan .lengths) i 0 ≤ 1_000_000) ⌝ }
+    requires { ⌜ SharesBounded (draft .plan) × TicksBounded (draft .plan) ⌝ }
     ensures { λ r. ⌜ r ≡ finalVerdict length draft ⌝ }
 {
     let plan = draft.plan;
@@ -102,7 +98,7 @@ pub fn final_verdict(length: usize, draft: Draft) -> Verdict
 
 // An accepted plan keeps its colour masks.
 pub fn plan_with_masks(plan: Plan) -> Plan
-    requires { ⌜ (plan .domains ≤ 8) × ((i : ℕ) → i < 8 → getD (plan .shares) i 0 ≤ 1_000) × (firstColour plan (plan .domains) ≤ 15) ⌝ }
+    requires { ⌜ ColoursBounded plan ⌝ }
     ensures { λ r. ⌜ r ≡ planWithMasks plan ⌝ }
 {
     let masks = masks_of(plan);

@@ -8,6 +8,7 @@ use lib.Dec.{ltb}
 use lib.Pow.{mod-pow-add, pow-mono, pow-pos}
 use borrow.Author.Tests.{eqb-false, eqb-true, ltb-false, ltb-true}
 use Rattle.plan.specs.Colours.{hasBit}
+use Rattle.plan.specs.Limits.{mostDomains}
 use Rattle.plan.proofs.Bits.{no-high-bit}
 
 pub bit-set : (rights domain : ℕ) → hasBit rights domain ≡ true → rights % 2 ^ (domain + 1) ≡ rights % 2 ^ domain + 2 ^ domain
@@ -37,8 +38,8 @@ pub bit-new : (rights domain : ℕ) → hasBit (rights % 2 ^ domain) domain ≡ 
 bit-new rights domain = not-bit _ domain (no-high-bit _ domain domain (mod-lt rights (pow-pos domain)) (omega arith))
 
 -- the rights of eight domains are all there are
-pub bits-all : (rights count : ℕ) → rights < 2 ^ count → count ≤ 8 → rights % 2 ^ 8 ≡ rights
-bits-all rights count small few = mod-eq-of-lt (lt-of-lt-of-le small (pow-mono {i = count} {j = 8} few))
+pub bits-all : (rights count : ℕ) → rights < 2 ^ count → count ≤ mostDomains → rights % 2 ^ mostDomains ≡ rights
+bits-all rights count small few = mod-eq-of-lt (lt-of-lt-of-le small (pow-mono {i = count} {j = mostDomains} few))
 
 -- a bit of rights below 2 ^ count is a domain below count
 pub bit-below : (rights count domain : ℕ) → rights < 2 ^ count → hasBit rights domain ≡ true → domain < count

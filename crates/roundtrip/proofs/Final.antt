@@ -19,6 +19,8 @@ use Rattle.plan.proofs.Sums.{all-below}
 use Rattle.refusal.specs.declared.Verdict.the-variants.{Accepted}
 use Rattle.plan.specs.Zeros.{noPlan}
 use Rattle.reader.specs.Final.{finalVerdict, firstColourless, firstUndeclared, lacking, planWithMasks}
+use Rattle.plan.specs.Parts.{domainsOf, planFrom, windowsOf, withMasks}
+use Rattle.plan.specs.Limits.{mostDomains, mostRunTicks, mostShares, mostWindows}
 use Rattle.roundtrip.specs.Shaped.{Shaped}
 use Rattle.roundtrip.proofs.Filled.{filled-all, filled-none}
 use Rattle.roundtrip.proofs.Progress.{soFar}
@@ -28,17 +30,7 @@ use Rattle.roundtrip.proofs.Walk.{draftWith}
 -- a plan before its masks are worked out
 abbrev pub unmasked : Plan → Plan
 unmasked plan =
-    record {
-      pad = plan .pad;
-      run = plan .run;
-      domains = plan .domains;
-      windows = plan .windows;
-      shares = plan .shares;
-      rights = plan .rights;
-      owners = plan .owners;
-      lengths = plan .lengths;
-      masks = replicate 8 0;
-    }
+    planFrom (plan .pad) (plan .run) (domainsOf plan) (windowsOf plan) (replicate mostDomains 0)
 
 -- ---- the plan so far, before the first line and after the last
 
@@ -56,12 +48,12 @@ read-none plan shaped =
       shaped .lengths,
     )
 
--- a place that no window is declared for holds zeros
+-- an entry that no window is declared for holds zeros
 undeclared-window :
-    (plan : Plan) (slot : ℕ) → planValid plan ≡ true → plan .windows ≤ slot → slot < 32 → (getD (plan .owners) slot 0 ≡ 0) × (getD (plan .lengths) slot 0 ≡ 0)
+    (plan : Plan) (slot : ℕ) → planValid plan ≡ true → plan .windows ≤ slot → slot < mostWindows → (getD (plan .owners) slot 0 ≡ 0) × (getD (plan .lengths) slot 0 ≡ 0)
 unfolding windowValid
 undeclared-window plan slot possible past below =
-    let whole : windowValid plan slot ≡ true = all-below (windowValid plan) 32 slot (parts plan possible .windows) below in
+    let whole : windowValid plan slot ≡ true = all-below (windowValid plan) mostWindows slot (parts plan possible .windows) below in
     let zeros = both _ _ (rw (le-ltb slot (plan .windows) past) at whole) in
     (eqb-true _ _ (zeros .0), eqb-true _ _ (zeros .1))
 
@@ -78,7 +70,8 @@ read-all plan shaped possible =
 -- ---- the masks
 
 masks-left :
-    (plan : Plan) → planValid plan ≡ true → length (plan .masks) ≡ 8 → (left domain : ℕ) → domain + left ≡ 8 → masksFrom (unmasked plan) left domain ≡ drop domain (plan .masks)
+    (plan : Plan) → planValid plan ≡ true → length (plan .masks) ≡ mostDomains → (left domain : ℕ) → domain + left ≡ mostDomains
+    → masksFrom (unmasked plan) left domain ≡ drop domain (plan .masks)
 unfolding masksFrom
 masks-left plan possible long zero domain all = sym (drop-of-length-le (plan .masks) {i = domain} (omega arith))
 masks-left plan possible long (suc left) domain all =
@@ -91,21 +84,8 @@ masks-left plan possible long (suc left) domain all =
     go false e = sym (undeclared plan domain possible (ltb-false domain (plan .domains) e) (omega arith) .mask)
 
 pub masks-kept : (plan : Plan) → Shaped plan → planValid plan ≡ true → planWithMasks (unmasked plan) ≡ plan
-unfolding planWithMasks
-masks-kept plan shaped possible =
-    ap (λ (masks : List ℕ).
-    record {
-      pad = plan .pad;
-      run = plan .run;
-      domains = plan .domains;
-      windows = plan .windows;
-      shares = plan .shares;
-      rights = plan .rights;
-      owners = plan .owners;
-      lengths = plan .lengths;
-      masks = masks;
-    })
-    (masks-left plan possible (shaped .masks) 8 0 (omega arith))
+unfolding planWithMasks withMasks
+masks-kept plan shaped possible = ap (withMasks plan) (masks-left plan possible (shaped .masks) mostDomains 0 (omega arith))
 
 -- ---- the checks
 
@@ -147,9 +127,9 @@ accepted plan named textLength possible quiet =
     let sound = parts plan possible in
     rw (
       none-lacking plan possible,
-      none-undeclared named (plan .domains) quiet 8,
-      le-ltb 1_000 (sharesTotal plan (plan .domains)) (sound .shares),
+      none-undeclared named (plan .domains) quiet mostDomains,
+      le-ltb mostShares (sharesTotal plan (plan .domains)) (sound .shares),
       none-colourless plan possible (plan .domains) 0 (omega arith),
       le-ltb (plan .domains) (plan .domains) (omega arith),
-      le-ltb 4_294_967_295 (ticksTotal plan) (sound .ticks),
+      le-ltb mostRunTicks (ticksTotal plan) (sound .ticks),
     )

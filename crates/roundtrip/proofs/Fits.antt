@@ -11,6 +11,7 @@ use Rattle.plan.specs.declared.Plan.{Plan}
 use Rattle.plan.specs.Colours.{hasBit, shareOf}
 use Rattle.plan.specs.Validity.{planValid}
 use Rattle.plan.specs.Rights.{rightsAt}
+use Rattle.plan.specs.Limits.{mostDomains, mostTextBytes}
 use Rattle.plan.proofs.ValidPlans.{counts}
 use Rattle.lexer.specs.Decimal.{decimalOf}
 use Rattle.lexer.proofs.Decimals.{decimal-most}
@@ -56,8 +57,8 @@ domain-most plan domain =
       arith,
       decimal-most domain,
       decimal-most (shareOf plan domain),
-      spaced-most (risingFrom rights 8 0),
-      rising-most rights 8 0,
+      spaced-most (risingFrom rights mostDomains 0),
+      rising-most rights mostDomains 0,
     ))
 
 -- ---- the text
@@ -79,7 +80,7 @@ lines-most line most each (suc left) place more =
       lines-most line most each left (place + 1) more,
     ))
 
-pub text-fits : (plan : Plan) → planValid plan ≡ true → length (planText plan) ≤ 32_768
+pub text-fits : (plan : Plan) → planValid plan ≡ true → length (planText plan) ≤ mostTextBytes
 unfolding planText planLines joined followed bytesOf
 text-fits plan possible =
     let domains = linesFrom (domainLine plan) (plan .domains) 0 in

@@ -5,6 +5,7 @@ use mathlib.Core.Bool.{true}
 use mathlib.Core.Logic.{_↔_}
 use mathlib.Core.Path.{_≡_, ap, _∙_, sym}
 use lib.ListN.{length-replicate}
+use Rattle.script.specs.Limits.{scriptsLength}
 use Rattle.plan.specs.declared.Plan.{Plan}
 use Rattle.plan.specs.Validity.{planValid}
 use Rattle.reader.specs.Draft.{noOps}
@@ -18,7 +19,7 @@ use Rattle.roundtrip.proofs.ReadBack.{read-back}
 pub valid-given : (plan : Plan) → Shaped plan → planValid plan ≡ true → Given plan
 unfolding noOps
 valid-given plan shaped possible =
-    let read = read-back plan noOps shaped possible (length-replicate {A = ℕ} 2_048 0) in
+    let read = read-back plan noOps shaped possible (length-replicate {A = ℕ} scriptsLength 0) in
     record { text = planText plan; scripts = noOps; accepted = ap (λ (r : ReadOutcome). r .verdict) read; gives = ap (λ (r : ReadOutcome). r .plan) read }
 
 -- a plan that some text gives is possible

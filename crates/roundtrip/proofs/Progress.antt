@@ -1,5 +1,5 @@
--- ReadResult the lines of a written plan, one after the other: the plan so far has the lines' things and zeros elsewhere. Any lines may follow. Assumes
--- nothing.
+-- Reading the lines of a written plan, one after the other: the plan so far has the lines' things and zeros elsewhere. Any lines
+-- may follow. Assumes nothing.
 use Prim.Native.Nat.{ℕ, zero, suc, _+_, _<_}
 use native.Mathlib.Omega.{arith}
 use mathlib.Core.Bool.{true}
@@ -14,7 +14,9 @@ use Rattle.plan.specs.Colours.{shareOf}
 use Rattle.plan.specs.Validity.{planValid}
 use Rattle.plan.specs.Rights.{rightsAt}
 use Rattle.plan.proofs.ValidPlans.{counts, declared, declared-window}
-use Rattle.reader.specs.Draft.{DraftOutcome, kept, noOps, planWithDomain, planWithPad, planWithRun, planWithWindow, takeDomain, takeForm, takePad, takeRun, takeWindow}
+use Rattle.plan.specs.Parts.{planFrom, withDomain, withPad, withRun, withWindow}
+use Rattle.plan.specs.Limits.{mostDomains, mostWindows}
+use Rattle.reader.specs.Draft.{DraftOutcome, noOps, outcomeOf, takeDomain, takeForm, takePad, takeRun, takeWindow, taken}
 use Rattle.roundtrip.specs.Lines.{domainLine, linesFrom, padLine, planLines, runLine, windowLine}
 use Rattle.roundtrip.proofs.Domains.{domain-reads}
 use Rattle.roundtrip.proofs.Filled.{filled-more, firstPlaces}
@@ -24,49 +26,42 @@ use Rattle.roundtrip.proofs.Walk.{Stands, draftWith, next-line}
 -- a plan of which these things are read
 abbrev pub soFar : Plan → ℕ → ℕ → ℕ → ℕ → Plan
 soFar plan pad run domains windows =
-    record {
-      pad = pad;
-      run = run;
-      domains = domains;
-      windows = windows;
-      shares = firstPlaces domains (plan .shares);
-      rights = firstPlaces domains (plan .rights);
-      owners = firstPlaces windows (plan .owners);
-      lengths = firstPlaces windows (plan .lengths);
-      masks = replicate 8 0;
-    }
+    planFrom pad run
+    (record { count = domains; shares = firstPlaces domains (plan .shares); rights = firstPlaces domains (plan .rights) })
+    (record { count = windows; owners = firstPlaces windows (plan .owners); lengths = firstPlaces windows (plan .lengths) })
+    (replicate mostDomains 0)
 
 -- ---- what a form adds
 
 module _ (plan : Plan) (named : List ℕ) (bracket : ℕ) where
   pad-taken :
       takeForm (Pad (plan .pad)) bracket named (draftWith (soFar plan 0 0 0 0) named) noOps
-      ≡ kept (draftWith (soFar plan (plan .pad) 0 0 0) named) noOps
-  unfolding takePad planWithPad
+      ≡ outcomeOf (taken (draftWith (soFar plan (plan .pad) 0 0 0) named)) noOps
+  unfolding takePad withPad
   pad-taken = refl
 
   domain-taken :
       (pad domain : ℕ) (later : List ℕ)
       → takeForm (Domain (record { share = shareOf plan domain; rights = rightsAt plan domain })) bracket later
       (draftWith (soFar plan pad 0 domain 0) named) noOps
-      ≡ kept (draftWith (soFar plan pad 0 (domain + 1) 0) later) noOps
-  unfolding takeDomain planWithDomain
+      ≡ outcomeOf (taken (draftWith (soFar plan pad 0 (domain + 1) 0) later)) noOps
+  unfolding takeDomain withDomain
   domain-taken pad domain later = rw (filled-more domain (plan .shares), filled-more domain (plan .rights))
 
   window-taken :
       (pad domains slot : ℕ)
-      → slot < 32
+      → slot < mostWindows
       → takeForm (Window (record { owner = getD (plan .owners) slot 0; length = getD (plan .lengths) slot 0 })) bracket named
       (draftWith (soFar plan pad 0 domains slot) named) noOps
-      ≡ kept (draftWith (soFar plan pad 0 domains (slot + 1)) named) noOps
-  unfolding takeWindow planWithWindow
-  window-taken pad domains slot few = rw (lt-leb 32 slot few, filled-more slot (plan .owners), filled-more slot (plan .lengths))
+      ≡ outcomeOf (taken (draftWith (soFar plan pad 0 domains (slot + 1)) named)) noOps
+  unfolding takeWindow withWindow
+  window-taken pad domains slot few = rw (lt-leb mostWindows slot few, filled-more slot (plan .owners), filled-more slot (plan .lengths))
 
   run-taken :
       (pad domains windows : ℕ)
       → takeForm (Run (plan .run)) bracket named (draftWith (soFar plan pad 0 domains windows) named) noOps
-      ≡ kept (draftWith (soFar plan pad (plan .run) domains windows) named) noOps
-  unfolding takeRun planWithRun
+      ≡ outcomeOf (taken (draftWith (soFar plan pad (plan .run) domains windows) named)) noOps
+  unfolding takeRun withRun
   run-taken pad domains windows = refl
 
 -- ---- line by line

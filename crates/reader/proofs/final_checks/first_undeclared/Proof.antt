@@ -4,16 +4,17 @@ use native.Mathlib.Omega.{arith}
 use mathlib.Core.Logic.{⊎-elim}
 use mathlib.Core.Path.{_≡_, refl, _∙_}
 use borrow.Author.Needs.{needs}
+use Rattle.plan.specs.Limits.{mostDomains}
 use Rattle.reader.proofs.LastChecks.{undeclared-next, undeclared-same}
 use Rattle.reader.specs.Final.{firstUndeclared}
 use Rattle.reader.proofs.final_checks.first_undeclared.Statement.{statement}
 use Rattle.reader.proofs.final_checks.first_undeclared.Tie as tie
 
 abbrev Inv-loop : tie.InvT-loop
-Inv-loop declared named found₀ domain₀ found domain = (domain ≤ 8) × (found ≡ firstUndeclared named declared domain)
+Inv-loop declared named found₀ domain₀ found domain = (domain ≤ mostDomains) × (found ≡ firstUndeclared named declared domain)
 
 abbrev μ-loop : tie.MeasureT-loop
-μ-loop declared named found₀ domain₀ found domain = 8 - domain
+μ-loop declared named found₀ domain₀ found domain = mostDomains - domain
 
 loop-holds : tie.Need-loop-holds Inv-loop μ-loop
 unfolding firstUndeclared
@@ -43,7 +44,7 @@ loop-again c =
     )
 
 returns : tie.Need-returns Inv-loop μ-loop
-returns c = let all : c .before .loop .domain ≡ 8 = omega arith in rw all at (c .before .loop .inv .1)
+returns c = let all : c .before .loop .domain ≡ mostDomains = omega arith in rw all at (c .before .loop .inv .1)
 
 pub first-undeclared-spec : {M : Type 1} → statement M
 first-undeclared-spec =
