@@ -1,6 +1,7 @@
 // The library for programs in other languages: every entry point over numbers and slices, each total, each returning the refusal's number.
 pub mod answers;
 pub mod log_query;
+pub mod offsets;
 pub mod plans;
 pub mod reading;
 pub mod running;
