@@ -1,4 +1,5 @@
 -- The laws of the entry points that their proofs and other crates cite.
+pub mod Computing
 pub mod FreshRuns
 pub mod Passing
 pub mod Verdicts

@@ -1,1 +1,1 @@
-pub mod Settled
+pub mod WorkedExample

@@ -1,19 +1,43 @@
--- Document 01, "Settled numbers": the plan that is run there, and what is printed for it. Assumes nothing.
+-- Document 01, "Settled numbers": the plan that is run there, and what is printed for it, line by line. Assumes nothing.
 use Prim.Native.Nat.{ℕ}
 use Prim.Native.String.{String}
-use mathlib.Core.List.{List, _++_}
+use mathlib.Core.List.{List, [], _∷_, _++_}
 use Rattle.lists.specs.Ascii.{bytesOf}
 
--- the plan's lines after its pad
-abbrev pub afterPad : String
-afterPad =
-    "(domain 0 (share 400) (may 1))\n(domain 1 (share 300) (may))\n(window 0 (length 400))\n(window 1 (length 300))\n(run 1)\n(op 0 (write 3))\n(op 0 (read 3))\n(op 0 (send 1 77))\n(op 1 (receive 0))\n(op 1 (read 100))\n"
+-- the bytes of some lines, a LF after each
+unfoldable pub linesOf : List String → List ℕ
+linesOf [] = []
+linesOf (line ∷ lines) = bytesOf line ++ (bytesOf "\n" ++ linesOf lines)
+
+-- the plan, with a first line of one's own for its pad
+abbrev pub planWithPadLine : String → List ℕ
+planWithPadLine padLine =
+    linesOf
+    (padLine
+    ∷ "(domain 0 (share 400) (may 1))"
+    ∷ "(domain 1 (share 300) (may))"
+    ∷ "(window 0 (length 400))"
+    ∷ "(window 1 (length 300))"
+    ∷ "(run 1)"
+    ∷ "(op 0 (write 3))"
+    ∷ "(op 0 (read 3))"
+    ∷ "(op 0 (send 1 77))"
+    ∷ "(op 1 (receive 0))"
+    ∷ "(op 1 (read 100))"
+    ∷ [])
+
+-- the plan as it is run
+abbrev pub examplePlan : List ℕ
+examplePlan = planWithPadLine "(pad 276)"
 
 -- what is printed for it
-abbrev pub output : String
-output =
-    "(seen 0 100 (miss 3))\n(seen 0 101 (hit1 3))\n(seen 0 306 (sent 1))\n(seen 1 881 (got 77))\n(seen 1 981 (miss 100))\n(end 2 1252)\n"
-
--- the plan's text, with its first line
-abbrev pub padded : String → List ℕ
-padded line = bytesOf line ++ bytesOf afterPad
+abbrev pub exampleOutput : List ℕ
+exampleOutput =
+    linesOf
+    ("(seen 0 100 (miss 3))"
+    ∷ "(seen 0 101 (hit1 3))"
+    ∷ "(seen 0 306 (sent 1))"
+    ∷ "(seen 1 881 (got 77))"
+    ∷ "(seen 1 981 (miss 100))"
+    ∷ "(end 2 1252)"
+    ∷ [])

@@ -1,2 +1,2 @@
 pub mod Example
-pub mod Table
+pub mod WorkedExample

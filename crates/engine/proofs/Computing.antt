@@ -1,0 +1,43 @@
+-- Every definition that an example of the entry points computes with, named once: whoever unfolds `computing` unfolds them all. Assumes nothing.
+use Prim.Native.Nat.{ℕ}
+use Rattle.lists.specs.Part.{part, splice}
+use Rattle.script.specs.Fetch.{opOf, decodeOf, fetchOf}
+use Rattle.script.specs.Stored.{storedOf}
+use Rattle.plan.specs.Colours.{coloursOf, sharesTotal, firstColour, maskFrom, maskOf, hasBit}
+use Rattle.plan.specs.Sums.{sumTo, allBelow}
+use Rattle.plan.specs.Validity.{countsValid, declaredValid, undeclaredValid, domainValid, maskValid, windowValid, planValid}
+use Rattle.plan.specs.Windows.{windowOwner, windowLength, windowStart, windowEnd, windowsTotal, ticksTotal}
+use Rattle.cache.specs.Access.{lookupL1, lookupL2, lookupOf, lookupAt, accessOf}
+use Rattle.cache.specs.Flush.{countWhere, dirtyLines, validLines, kernelFlushTicks, l1FlushTicks, kernelFlushed, l1Flushed}
+use Rattle.cache.specs.Sets.{has, behind, used}
+use Rattle.records.specs.Records.{recordBytes, partRecords, recordStored, logPart}
+use Rattle.ops.specs.Ops.{ownsLine, touchOf, deniedOf, passedOf, sendOf, boxObservation, receiveOf, computeOf, effectOf}
+use Rattle.state.specs.StateValidity.{clockValid, domainCountsValid, stateValid}
+use Rattle.state.specs.TableValidity.{lineAllowed, l1EntryValid, allEmpty, waysValid, setValid, boxValid, tablesValid}
+use Rattle.state.specs.World.{endedOf, freshState}
+use Rattle.machine.specs.Fresh.{freshWorld}
+use Rattle.machine.specs.Steps.{opStepOf, switchDue, nextStepOf, activeStep, stepOf, runOf}
+use Rattle.machine.specs.Switch.{flushedClock, paddedClock, switchOf}
+use Rattle.engine.specs.Checks.{stateVerdict, freshVerdict, runVerdict, logVerdict}
+use Rattle.engine.specs.FreshStart.{freshStartOf}
+use Rattle.engine.specs.LogQuery.{logQueryOf, logStatusOf}
+use Rattle.engine.specs.Running.{ranFrom, runCallOf, stepCallOf}
+
+unfoldable pub computing : ℕ
+unfolding
+    part splice
+    opOf decodeOf fetchOf storedOf
+    coloursOf sharesTotal firstColour maskFrom maskOf hasBit sumTo allBelow
+    countsValid declaredValid undeclaredValid domainValid maskValid windowValid planValid
+    windowOwner windowLength windowStart windowEnd windowsTotal ticksTotal
+    lookupL1 lookupL2 lookupOf lookupAt accessOf has behind used
+    countWhere dirtyLines validLines kernelFlushTicks l1FlushTicks kernelFlushed l1Flushed
+    recordBytes partRecords recordStored logPart
+    ownsLine touchOf deniedOf passedOf sendOf boxObservation receiveOf computeOf effectOf
+    clockValid domainCountsValid stateValid
+    lineAllowed l1EntryValid allEmpty waysValid setValid boxValid tablesValid
+    endedOf freshState freshWorld opStepOf switchDue nextStepOf activeStep stepOf runOf
+    flushedClock paddedClock switchOf
+    stateVerdict freshVerdict runVerdict logVerdict freshStartOf logQueryOf logStatusOf
+    ranFrom runCallOf stepCallOf
+computing = 0

@@ -1,0 +1,64 @@
+-- The eleven marked entries of document 01, "Settled numbers", proved together, each by computing. Assumes nothing.
+use Prim.Native.Nat.{ℕ}
+use mathlib.Core.Path.{refl}
+use Rattle.lists.specs.Ascii.{bytesOf}
+use Rattle.plan.specs.Colours.{masksFrom}
+use Rattle.plan.specs.Zeros.{noPlan}
+use Rattle.lexer.specs.Decimal.{digitsOf, decimalOf}
+use Rattle.lexer.specs.Scan.{scanFrom, scanOf, allBytes}
+use Rattle.lexer.specs.Tokens.{valueAfter, decimalValue, digitsToken, runToken, longestRun, tokenFrom, tokenAt}
+use Rattle.syntax.specs.Ops.{opKeywordAt, opNumbers}
+use Rattle.syntax.specs.Recipients.{recipientAt, mention, recipientsFrom, recipientsAt}
+use Rattle.syntax.specs.Tokens.{sameBytes, isWord, passOpen, passClose, passLineEnd, passWord, takeNumber}
+use Rattle.forms.specs.Forms.{padBody, runBody, lengthBody, windowBody, scriptBody, opBody, listedBody, mayBody, shareBody, domainBody}
+use Rattle.line.specs.Keywords.{formKeywordAt, bodyOf}
+use Rattle.line.specs.Lines.{closedLine, bodyLine, tokenLine, lineAt}
+use Rattle.reader.specs.Draft.{noDraft, noOps, takePad, takeRun, takeDomain, takeWindow, takeOp, takeLine}
+use Rattle.plan.specs.Parts.{withPad, withRun, withDomain, withWindow, withMasks}
+use Rattle.reader.specs.Final.{lacking, firstUndeclared, firstColourless, finalVerdict, planWithMasks}
+use Rattle.reader.specs.Read.{walkFrom, readVerdict, readOf}
+use Rattle.engine.proofs.Computing.{computing}
+use Rattle.report.specs.Lines.{seenLine, domainLines, seenLines, endLine, runLines, refusalLine}
+use Rattle.report.specs.Planrun.{ranLines, planrunOf}
+use Rattle.worked_example.specs.Example.{linesOf}
+use Rattle.worked_example.specs.WorkedExample.{WorkedExample, dirtyTable, firstWindowAt, foundBy, stepAt, tableAfter}
+
+-- every definition that reading a text computes with, named once
+reading : ℕ
+unfolding
+    bytesOf masksFrom noPlan
+    scanFrom scanOf allBytes
+    valueAfter decimalValue digitsToken runToken longestRun tokenFrom tokenAt
+    opKeywordAt opNumbers recipientAt mention recipientsFrom recipientsAt
+    sameBytes isWord passOpen passClose passLineEnd passWord takeNumber
+    padBody runBody lengthBody windowBody scriptBody opBody listedBody mayBody shareBody domainBody
+    formKeywordAt bodyOf closedLine bodyLine tokenLine lineAt
+    noDraft noOps takePad takeRun takeDomain takeWindow takeOp takeLine
+    withPad withRun withDomain withWindow withMasks
+    lacking firstUndeclared firstColourless finalVerdict planWithMasks
+    walkFrom readVerdict readOf
+reading = 0
+
+-- and printing lines
+printing : ℕ
+unfolding
+    digitsOf decimalOf
+    seenLine domainLines seenLines endLine runLines refusalLine ranLines planrunOf
+printing = 0
+
+pub worked-example : WorkedExample
+unfolding computing reading printing linesOf dirtyTable firstWindowAt foundBy stepAt tableAfter
+worked-example =
+    record {
+      fullRun = refl;
+      shares = (refl, refl, refl);
+      lineHundred = (refl, refl, refl);
+      boxLines = (refl, refl);
+      padLimit = (refl, refl);
+      flushes = (refl, refl);
+      fiveReads = (refl, refl);
+      sixthRead = refl;
+      beginsBeforeEnd = (refl, refl);
+      noneAtEnd = (refl, refl);
+      emptyText = refl;
+    }
