@@ -1,7 +1,5 @@
 -- The laws on the printed lines.
 pub mod Ending
 pub mod Length
-pub mod Limits
-pub mod Places
+pub mod LineLengths
 pub mod Planned
-pub mod Written

@@ -1,7 +1,9 @@
 -- What is printed for a text, by the verdict of its reading. Assumes nothing.
 use mathlib.Core.Path.{_≡_, ap, _∙_}
 use mathlib.Core.List.{List}
-use Prim.Native.Nat.{ℕ}
+use Prim.Native.Nat.{ℕ, _+_}
+use lib.ListN.{length}
+use lib.Seq.{sets}
 use Rattle.plan.specs.declared.Plan.{Plan}
 use Rattle.refusal.specs.declared.Code.{Code}
 use Rattle.refusal.specs.declared.Refusal.{Refusal}
@@ -10,10 +12,17 @@ use Rattle.refusal.specs.declared.Verdict.the-variants.{Accepted, Refused}
 use Rattle.refusal.specs.Code.{codeOf}
 use Rattle.reader.specs.Draft.{noOps}
 use Rattle.reader.specs.Read.{readOf}
-use Rattle.machine.specs.Fresh.{freshWorld}
-use Rattle.engine.specs.Running.{runCallOf}
 use Rattle.report.specs.Lines.{refusalLine}
-use Rattle.report.specs.Planrun.{largestLimit, lentLog, planrunOf, ranLines, readLines}
+use Rattle.report.specs.Planrun.{planrunOf, planrunRun, ranLines, readLines}
+use Rattle.report.specs.Writing.{Wrote}
+
+-- a writer of some bytes is a writer of any equal bytes
+pub wrote-as :
+    (buffer : List ℕ) (at : ℕ) {bytes same after : List ℕ} {next : ℕ}
+    → bytes ≡ same
+    → Wrote buffer at bytes after next
+    → Wrote buffer at same after next
+wrote-as buffer at is wrote = (wrote .0 ∙ ap (λ (l : List ℕ). at + length l) is, wrote .1 ∙ ap (sets buffer at) is)
 
 module _ (text : List ℕ) where
   pub planned-refused :
@@ -30,7 +39,7 @@ module _ (text : List ℕ) where
       → Accepted ≡ readOf text noOps .verdict
       → plan ≡ readOf text noOps .plan
       → scripts ≡ readOf text noOps .scripts
-      → ranLines plan (runCallOf plan scripts (freshWorld lentLog) largestLimit .world) ≡ planrunOf text
+      → ranLines plan (planrunRun plan scripts .world) ≡ planrunOf text
   unfolding planrunOf
   planned-ran plan scripts accepted planned stored =
       rw (planned, stored) (ap (λ (verdict : Verdict). readLines verdict (readOf text noOps)) accepted)

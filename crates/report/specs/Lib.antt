@@ -1,2 +1,5 @@
+pub mod Limits
 pub mod Lines
 pub mod Planrun
+pub mod Theorems
+pub mod Writing

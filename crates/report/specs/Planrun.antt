@@ -1,7 +1,6 @@
 -- Document 01, "Settled numbers": what the program *planrun* prints for a text. Assumes nothing.
 use Prim.Native.Nat.{ℕ}
 use mathlib.Core.List.{List}
-use mathlib.Core.Path.{_≡_}
 use lib.ListN.{replicate}
 use Rattle.plan.specs.declared.Plan.{Plan}
 use Rattle.state.specs.World.{World}
@@ -11,26 +10,17 @@ use Rattle.refusal.specs.Code.{refusalCode}
 use Rattle.reader.specs.Draft.{noOps}
 use Rattle.reader.specs.Read.{ReadOutcome, readOf}
 use Rattle.machine.specs.Fresh.{freshWorld}
-use Rattle.engine.specs.declared.Ending.the-variants.{Ended}
 use Rattle.engine.specs.Running.{RunOutcome, runCallOf}
+use Rattle.report.specs.Limits.{largestLimit, planrunLog}
 use Rattle.report.specs.Lines.{refusalLine, runLines}
 
--- it lends a log of 16,384 bytes
+-- the log that it lends
 abbrev pub lentLog : List ℕ
-lentLog = replicate 16_384 0
-
--- and asks for the largest number of steps that a call can take
-abbrev pub largestLimit : ℕ
-largestLimit = 18_446_744_073_709_551_615
+lentLog = replicate planrunLog 0
 
 -- the program's run of a plan and its scripts, from a fresh start
 abbrev pub planrunRun : Plan → List ℕ → RunOutcome
 planrunRun plan scripts = runCallOf plan scripts (freshWorld lentLog) largestLimit
-
--- that run comes to its end: it is not refused, and it answers *ended*
-pub record RunsToTheEnd (plan : Plan) (scripts : List ℕ) : Type 0 where
-  pub accepted : planrunRun plan scripts .verdict ≡ Accepted
-  pub ended : planrunRun plan scripts .ending ≡ Ended
 
 -- the lines of the world that a run leaves
 unfoldable pub ranLines : Plan → World → List ℕ

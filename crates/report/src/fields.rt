@@ -1,8 +1,8 @@
-// The numbers that a record's bytes hold, little end first.
+// Numbers of two and of four bytes, little end first.
 ghost use mathlib.Core.Path.{_≡_};
 ghost use Prim.Native.Nat.{_+_, _<_, _≤_};
 ghost use lib.ListN.{length};
-ghost use Rattle.report.specs.Lines.{clockAt, valueAt};
+ghost use Rattle.report.specs.Lines.{u16At, u32At};
 
 fn wide(byte: u8) -> u64
     ensures { λ r. ⌜ (r ≡ byte) × (r < 256) ⌝ }
@@ -10,21 +10,16 @@ fn wide(byte: u8) -> u64
     byte as u64
 }
 
-// The value of the record at a place of the log.
-pub fn value_at(log: &[u8], place: usize) -> u64
-    requires { ⌜ place + 8 ≤ length (now log) ⌝ }
-    ensures { λ r. ⌜ r ≡ valueAt (now (log .entry)) place ⌝ }
+pub fn u16_at(bytes: &[u8], at: usize) -> u64
+    requires { ⌜ at + 2 ≤ length (now bytes) ⌝ }
+    ensures { λ r. ⌜ (r ≡ u16At (now (bytes .entry)) at) × (r < 65_536) ⌝ }
 {
-    wide(log[place + 2]) + 256 * wide(log[place + 3])
+    wide(bytes[at]) + 256 * wide(bytes[at + 1])
 }
 
-// The clock of the record at a place of the log.
-pub fn clock_at(log: &[u8], place: usize) -> u64
-    requires { ⌜ place + 8 ≤ length (now log) ⌝ }
-    ensures { λ r. ⌜ r ≡ clockAt (now (log .entry)) place ⌝ }
+pub fn u32_at(bytes: &[u8], at: usize) -> u64
+    requires { ⌜ at + 4 ≤ length (now bytes) ⌝ }
+    ensures { λ r. ⌜ r ≡ u32At (now (bytes .entry)) at ⌝ }
 {
-    wide(log[place + 4])
-        + 256 * wide(log[place + 5])
-        + 65_536 * wide(log[place + 6])
-        + 16_777_216 * wide(log[place + 7])
+    u16_at(bytes, at) + 65_536 * u16_at(bytes, at + 2)
 }

@@ -1,24 +1,26 @@
-// The lines, each written into a lent buffer from a place on. Each answers the place past what it wrote.
-use crate::fields::clock_at;
-use crate::fields::value_at;
+// The lines, each written into a lent buffer from an offset on. Each function answers the offset past
+// what it wrote.
+use crate::fields::u16_at;
+use crate::fields::u32_at;
+use crate::limits::CLOCK_OFFSET;
+use crate::limits::VALUE_OFFSET;
 use lexer::decimal::write_bytes;
 use lexer::decimal::write_decimal;
 use state::State;
-ghost use mathlib.Core.Path.{_≡_};
 ghost use mathlib.Core.List.{_++_};
-ghost use Prim.Native.Nat.{_+_, _^_, _<_, _≤_};
+ghost use Prim.Native.Nat.{_+_, _*_, _^_, _<_, _≤_};
 ghost use lib.ListN.{length};
-ghost use lib.Seq.{sets};
 ghost use Rattle.lists.specs.Ascii.{bytesOf};
 ghost use Rattle.lexer.specs.Decimal.{decimalOf};
-ghost use Rattle.report.specs.Lines.{endLine, kindWord, seenLine};
+ghost use Rattle.records.specs.Records.{recordSize};
+ghost use Rattle.report.specs.Limits.{mostDecimal, mostEndLine, mostKindWord, mostSeenLine};
+ghost use Rattle.report.specs.Lines.{endLine, kindAndValue, kindWord, pairLine, seenLine};
+ghost use Rattle.report.specs.Writing.{Wrote};
 
 // Writes a word and a number behind it.
 fn write_numbered(out: &mut [u8], at: usize, word: &[u8], number: u64) -> usize
-    requires { ⌜ at + length (now word) + 20 < 2 ^ 64 ⌝ }
-    ensures { λ r.
-        ⌜ (r ≡ at + length (now (word .entry) ++ decimalOf number))
-        × (now (out .exit) ≡ sets (now (out .entry)) at (now (word .entry) ++ decimalOf number)) ⌝ }
+    requires { ⌜ at + length (now word) + mostDecimal < 2 ^ 64 ⌝ }
+    ensures { λ r. ⌜ Wrote (now (out .entry)) at (now (word .entry) ++ decimalOf number) (now (out .exit)) r ⌝ }
 {
     let next = write_bytes(out, at, word);
     write_decimal(out, next, number)
@@ -26,11 +28,8 @@ fn write_numbered(out: &mut [u8], at: usize, word: &[u8], number: u64) -> usize
 
 // Writes a line of a word and two numbers.
 pub fn write_pair(out: &mut [u8], at: usize, word: &[u8], first: u64, second: u64) -> usize
-    requires { ⌜ at + length (now word) + 43 < 2 ^ 64 ⌝ }
-    ensures { λ r.
-        ⌜ (r ≡ at + length (now (word .entry) ++ decimalOf first ++ bytesOf " " ++ decimalOf second ++ bytesOf ")\n"))
-        × (now (out .exit)
-        ≡ sets (now (out .entry)) at (now (word .entry) ++ decimalOf first ++ bytesOf " " ++ decimalOf second ++ bytesOf ")\n")) ⌝ }
+    requires { ⌜ at + length (now word) + 2 * mostDecimal + 3 < 2 ^ 64 ⌝ }
+    ensures { λ r. ⌜ Wrote (now (out .entry)) at (pairLine (now (word .entry)) first second) (now (out .exit)) r ⌝ }
 {
     let middle = write_numbered(out, at, word, first);
     let end = write_numbered(out, middle, b" ", second);
@@ -39,18 +38,16 @@ pub fn write_pair(out: &mut [u8], at: usize, word: &[u8], first: u64, second: u6
 
 // Writes the last line of a run.
 pub fn write_end(out: &mut [u8], at: usize, state: State) -> usize
-    requires { ⌜ at + 48 < 2 ^ 64 ⌝ }
-    ensures { λ r. ⌜ (r ≡ at + length (endLine state)) × (now (out .exit) ≡ sets (now (out .entry)) at (endLine state)) ⌝ }
+    requires { ⌜ at + mostEndLine < 2 ^ 64 ⌝ }
+    ensures { λ r. ⌜ Wrote (now (out .entry)) at (endLine state) (now (out .exit)) r ⌝ }
 {
     write_pair(out, at, b"(end ", state.windows, state.clock)
 }
 
 // Writes the word of a record's kind.
 fn write_kind(out: &mut [u8], at: usize, kind: u8) -> usize
-    requires { ⌜ at + 6 < 2 ^ 64 ⌝ }
-    ensures { λ r.
-        ⌜ (r ≡ at + length (bytesOf (kindWord kind)))
-        × (now (out .exit) ≡ sets (now (out .entry)) at (bytesOf (kindWord kind))) ⌝ }
+    requires { ⌜ at + mostKindWord < 2 ^ 64 ⌝ }
+    ensures { λ r. ⌜ Wrote (now (out .entry)) at (bytesOf (kindWord kind)) (now (out .exit)) r ⌝ }
 {
     match kind {
         1 => write_bytes(out, at, b"hit1"),
@@ -68,11 +65,8 @@ fn write_kind(out: &mut [u8], at: usize, kind: u8) -> usize
 
 // Writes the rest of a record's line, from its kind on.
 fn write_kind_and_value(out: &mut [u8], at: usize, kind: u8, value: u64) -> usize
-    requires { ⌜ at + 32 < 2 ^ 64 ⌝ }
-    ensures { λ r.
-        ⌜ (r ≡ at + length (bytesOf " (" ++ bytesOf (kindWord kind) ++ bytesOf " " ++ decimalOf value ++ bytesOf "))\n"))
-        × (now (out .exit)
-        ≡ sets (now (out .entry)) at (bytesOf " (" ++ bytesOf (kindWord kind) ++ bytesOf " " ++ decimalOf value ++ bytesOf "))\n")) ⌝ }
+    requires { ⌜ at + 6 + mostKindWord + mostDecimal < 2 ^ 64 ⌝ }
+    ensures { λ r. ⌜ Wrote (now (out .entry)) at (kindAndValue kind value) (now (out .exit)) r ⌝ }
 {
     let word = write_bytes(out, at, b" (");
     let space = write_kind(out, word, kind);
@@ -80,16 +74,14 @@ fn write_kind_and_value(out: &mut [u8], at: usize, kind: u8, value: u64) -> usiz
     write_bytes(out, close, b"))\n")
 }
 
-// Writes the line of the record at a place of the log.
-pub fn write_seen(out: &mut [u8], at: usize, domain: u64, log: &[u8], place: usize) -> usize
-    requires { ⌜ (at + 80 < 2 ^ 64) × (place + 8 ≤ length (now log)) ⌝ }
-    ensures { λ r.
-        ⌜ (r ≡ at + length (seenLine domain (now (log .entry)) place))
-        × (now (out .exit) ≡ sets (now (out .entry)) at (seenLine domain (now (log .entry)) place)) ⌝ }
+// Writes the line of the record at an offset of a log.
+pub fn write_seen(out: &mut [u8], at: usize, domain: u64, log: &[u8], from: usize) -> usize
+    requires { ⌜ (at + mostSeenLine < 2 ^ 64) × (from + recordSize ≤ length (now log)) ⌝ }
+    ensures { λ r. ⌜ Wrote (now (out .entry)) at (seenLine domain (now (log .entry)) from) (now (out .exit)) r ⌝ }
 {
-    let kind = log[place];
-    let clock = clock_at(log, place);
-    let value = value_at(log, place);
+    let kind = log[from];
+    let clock = u32_at(log, from + CLOCK_OFFSET);
+    let value = u16_at(log, from + VALUE_OFFSET);
     let space = write_numbered(out, at, b"(seen ", domain);
     let open = write_numbered(out, space, b" ", clock);
     write_kind_and_value(out, open, kind, value)

@@ -1,4 +1,6 @@
 // What the program planrun prints for a plan's text.
+use crate::limits::LARGEST_LIMIT;
+use crate::limits::PLANRUN_LOG;
 use crate::write_refusal;
 use crate::write_run;
 use engine::running::run;
@@ -10,22 +12,20 @@ use refusal::code_of;
 use state::fresh_state;
 ghost use mathlib.Core.Path.{_≡_};
 ghost use mathlib.Core.Bool.{true};
-ghost use lib.ListN.{length};
-ghost use lib.Seq.{sets};
 ghost use Rattle.plan.specs.Validity.{planValid};
-ghost use Rattle.machine.specs.Fresh.{freshWorld};
-ghost use Rattle.engine.specs.Running.{runCallOf};
-ghost use Rattle.report.specs.Planrun.{largestLimit, lentLog, planrunOf, ranLines};
+ghost use Rattle.report.specs.Planrun.{planrunRun, ranLines};
+ghost use Rattle.report.specs.Theorems.{PlanrunWrote};
+ghost use Rattle.report.specs.Writing.{Wrote};
 
 // The lines of an accepted plan, run from a fresh start to its end.
 fn run_lines(plan: Plan, scripts: &[u32], out: &mut [u8]) -> usize
     requires { ⌜ planValid plan ≡ true ⌝ }
-    ensures { λ r. ⌜ (r ≡ length (ranLines plan (runCallOf plan (now (scripts .entry)) (freshWorld lentLog) largestLimit .world)))
-        × (now (out .exit) ≡ sets (now (out .entry)) 0 (ranLines plan (runCallOf plan (now (scripts .entry)) (freshWorld lentLog) largestLimit .world))) ⌝ }
+    ensures { λ r. ⌜ Wrote (now (out .entry)) 0 (ranLines plan (planrunRun plan (now (scripts .entry)) .world))
+        (now (out .exit)) r ⌝ }
 {
     let mut cache = [0u16; 272];
     let mut boxes = [0u32; 64];
-    let mut log = [0u8; 16_384];
+    let mut log = [0u8; PLANRUN_LOG];
     let nothing = fresh_state();
     let started = fresh_start(plan, nothing, &mut cache, &mut boxes);
     let fresh = started.state;
@@ -36,7 +36,7 @@ fn run_lines(plan: Plan, scripts: &[u32], out: &mut [u8]) -> usize
         &mut cache,
         &mut boxes,
         &mut log,
-        18_446_744_073_709_551_615,
+        LARGEST_LIMIT,
     );
     let last = progress.state;
     write_run(plan, last, &log, out)
@@ -44,8 +44,7 @@ fn run_lines(plan: Plan, scripts: &[u32], out: &mut [u8]) -> usize
 
 // The lines for a plan's text: those of its run, or of its refusal.
 pub fn plan_lines(text: &[u8], out: &mut [u8]) -> usize
-    ensures { λ r. ⌜ (r ≡ length (planrunOf (now (text .entry))))
-        × (now (out .exit) ≡ sets (now (out .entry)) 0 (planrunOf (now (text .entry)))) ⌝ }
+    ensures { λ r. ⌜ PlanrunWrote (now (text .entry)) (now (out .entry)) (now (out .exit)) r ⌝ }
 {
     let mut scripts = [0u32; 2_048];
     let reading = read_plan(text, &mut scripts);

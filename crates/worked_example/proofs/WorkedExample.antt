@@ -18,7 +18,8 @@ use Rattle.plan.specs.Parts.{withPad, withRun, withDomain, withWindow, withMask
 use Rattle.reader.specs.Final.{lacking, firstUndeclared, firstColourless, finalVerdict, planWithMasks}
 use Rattle.reader.specs.Read.{walkFrom, readVerdict, readOf}
 use Rattle.engine.proofs.Computing.{computing}
-use Rattle.report.specs.Lines.{seenLine, domainLines, seenLines, endLine, runLines, refusalLine}
+use Rattle.report.specs.Lines.{kindAndValue, seenLine, recordLines, domainLines, seenLines}
+use Rattle.report.specs.Lines.{pairLine, endLine, runLines, refusalLine}
 use Rattle.report.specs.Planrun.{ranLines, planrunOf}
 use Rattle.worked_example.specs.Example.{linesOf}
 use Rattle.worked_example.specs.WorkedExample.{WorkedExample, dirtyTable, firstWindowAt, foundBy, stepAt, tableAfter}
@@ -42,8 +43,8 @@ reading = 0
 -- and printing lines
 printing : ℕ
 unfolding
-    digitsOf decimalOf
-    seenLine domainLines seenLines endLine runLines refusalLine ranLines planrunOf
+    digitsOf decimalOf kindAndValue seenLine recordLines domainLines seenLines
+    pairLine endLine runLines refusalLine ranLines planrunOf
 printing = 0
 
 pub worked-example : WorkedExample

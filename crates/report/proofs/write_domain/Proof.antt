@@ -1,64 +1,53 @@
 -- `report::write_domain` meets its contract. The loop's invariant: the lines of the records passed are written. Assumes nothing.
 use mathlib.Core.Path.{_∙_, _≡_, ap, refl}
-use Prim.Native.Nat.{_-_, _≤_}
+use Prim.Native.Nat.{_*_, _-_, _/_, _≤_}
+use native.Mathlib.Numerals.{add-one}
 use native.Mathlib.Omega.{arith}
 use lib.ListN.{length}
 use lib.Seq.{length-sets}
-use Rattle.lists.proofs.Stores.{Wrote}
-use Rattle.report.specs.Lines.{domainLines}
-use Rattle.report.proofs.Limits.{domain-limit}
-use Rattle.report.proofs.Written.{domain-written}
+use Rattle.lists.proofs.Stores.{wrote-both}
+use Rattle.records.specs.Records.{recordSize}
+use Rattle.report.specs.Lines.{domainLines, recordLines, seenLine}
+use Rattle.report.specs.Writing.{Wrote}
+use Rattle.report.proofs.LineLengths.{records-limit}
 use Rattle.report.proofs.write_domain.Statement.{statement}
 use Rattle.report.proofs.write_domain.Tie as tie
 
 abbrev Inv-loop : tie.InvT-loop
-Inv-loop out₀ at log quota domain count next₀ number₀ out next number =
-    (number ≤ count) × Wrote out₀ at (domainLines quota domain log number) out next
+Inv-loop out₀ at domain log count next₀ number₀ out next number =
+    (number ≤ count) × Wrote out₀ at (recordLines domain log number) out next
 
 abbrev μ-loop : tie.MeasureT-loop
-μ-loop out₀ at log quota domain count next₀ number₀ out next number = count - number
+μ-loop out₀ at domain log count next₀ number₀ out next number = count - number
 
 loop-holds : tie.Need-loop-holds Inv-loop μ-loop
-unfolding domainLines
+unfolding recordLines
 loop-holds c = (omega arith, (omega arith, refl))
-
-mul-place : tie.Need-mul-place Inv-loop μ-loop
-mul-place c = omega arith
-
-add-place : tie.Need-add-place Inv-loop μ-loop
-add-place c = omega arith
-
-mul-place-2 : tie.Need-mul-place-2 Inv-loop μ-loop
-mul-place-2 c = omega arith
 
 write-seen-requires : tie.Need-write-seen-requires Inv-loop μ-loop
 write-seen-requires c κs =
     let l = c .before .before .loop in
     let args = c .before .before .before .before .before .args in
-    omega (arith, l .inv .1 .0, domain-limit (args .quota) (args .domain) (args .log .now) (l .number))
-
-add-number : tie.Need-add-number Inv-loop μ-loop
-add-number c = omega arith
-
-loop-less : tie.Need-loop-less Inv-loop μ-loop
-loop-less c = omega arith
+    omega (arith, l .inv .1 .0, records-limit (args .domain) (args .log .now) (l .number))
 
 loop-again : tie.Need-loop-again Inv-loop μ-loop
+unfolding recordLines
 loop-again c =
-    let written = c .before .before .write-seen in
     let l = c .before .before .before .before .before .loop in
-    let args = c .before .before .before .before .before .before .before .before .args in (
+    let args = c .before .before .before .before .before .before .before .before .args in
+    let passed = recordLines (args .domain) (args .log .now) (l .number) in
+    let next = seenLine (args .domain) (args .log .now) (recordSize * l .number) in (
       omega (arith, c .before .before .before .before .loop-test),
-      domain-written (args .out .now) (args .log .now) (args .at) (args .quota) (args .domain) (l .number) (l .inv .1) (written .ensures),
+      rw (add-one (l .number))
+          (wrote-both (args .out .now) (args .at) passed next (l .inv .1) (c .before .before .write-seen .ensures)),
     )
 
-same-length : tie.Need-same-length Inv-loop μ-loop
-same-length c = ap length (c .before .loop .inv .1 .1) ∙ simp length-sets
-
 returns : tie.Need-returns Inv-loop μ-loop
+unfolding domainLines
 returns c =
     let l = c .before .loop in
-    let all : l .number ≡ c .before .before .before .before .args .count = omega arith in
+    let args = c .before .before .before .before .args in
+    let all : l .number ≡ length (args .log .now) / recordSize = omega arith in
     rw (← all) (l .inv .1)
 
 pub write-domain-spec : {M : Type 1} → statement M
@@ -68,12 +57,10 @@ write-domain-spec =
     Inv-loop
     μ-loop
     loop-holds
-    mul-place
-    add-place
-    mul-place-2
+    (λ c. omega arith)
     write-seen-requires
-    add-number
-    loop-less
+    (λ c. omega arith)
+    (λ c. omega arith)
     loop-again
-    same-length
+    (λ c. ap length (c .before .loop .inv .1 .1) ∙ simp length-sets)
     returns)

@@ -4,23 +4,11 @@ use native.Mathlib.Omega.{arith}
 use borrow.Author.Needs.{needs}
 use Rattle.lists.proofs.Stores.{wrote-both, wrote-three}
 use Rattle.lists.specs.Ascii.{bytesOf}
-use Rattle.report.specs.Lines.{kindWord}
+use Rattle.report.specs.Lines.{kindAndValue, kindWord}
 use Rattle.lexer.specs.Decimal.{decimalOf}
-use Rattle.report.proofs.Limits.{numbered-limit, word-limit}
+use Rattle.report.proofs.LineLengths.{numbered-limit, word-limit}
 use Rattle.report.proofs.lines.write_kind_and_value.Statement.{statement}
 use Rattle.report.proofs.lines.write_kind_and_value.Tie as tie
-
-slice-aggregate-write-bytes : tie.Need-slice-aggregate-write-bytes
-slice-aggregate-write-bytes c = search needs
-
-write-bytes-requires : tie.Need-write-bytes-requires
-write-bytes-requires c κs = search needs
-
-write-kind-requires : tie.Need-write-kind-requires
-write-kind-requires c κs = search needs
-
-slice-aggregate-write-numbered : tie.Need-slice-aggregate-write-numbered
-slice-aggregate-write-numbered c = search needs
 
 write-numbered-requires : tie.Need-write-numbered-requires
 write-numbered-requires c κs =
@@ -28,9 +16,6 @@ write-numbered-requires c κs =
     let first = second .before .before .before .before in
     let args = first .before .before .before .before .args in
     omega (arith, first .write-bytes .ensures .0, second .write-kind .ensures .0, word-limit (args .kind))
-
-slice-aggregate-write-bytes-2 : tie.Need-slice-aggregate-write-bytes-2
-slice-aggregate-write-bytes-2 c = search needs
 
 write-bytes-requires-2 : tie.Need-write-bytes-requires-2
 unfolding bytesOf
@@ -48,11 +33,8 @@ write-bytes-requires-2 c κs =
       numbered-limit (bytesOf " ") (args .value),
     )
 
-same-length : tie.Need-same-length
-same-length c = search needs
-
 returns : tie.Need-returns
-unfolding bytesOf
+unfolding bytesOf kindAndValue
 returns c =
     let fourth = c .before .before in
     let third = fourth .before .before .before .before .before in
@@ -60,7 +42,8 @@ returns c =
     let first = second .before .before .before .before in
     let args = first .before .before .before .before .args in
     let word = bytesOf (kindWord (args .kind)) in
-    wrote-both (args .out .now) (args .at) (bytesOf " (" ++ word ++ bytesOf " " ++ decimalOf (args .value)) (bytesOf "))\n")
+    wrote-both (args .out .now) (args .at)
+    (bytesOf " (" ++ word ++ bytesOf " " ++ decimalOf (args .value)) (bytesOf "))\n")
     (wrote-three (args .out .now) (args .at) (bytesOf " (" ++ word) (bytesOf " ") (decimalOf (args .value))
     (wrote-both (args .out .now) (args .at) (bytesOf " (") word (first .write-bytes .ensures) (second .write-kind .ensures))
     (third .write-numbered .ensures))
@@ -70,12 +53,12 @@ pub write-kind-and-value-spec : {M : Type 1} → statement M
 write-kind-and-value-spec =
     tie.close
     (tie.spec
-    slice-aggregate-write-bytes
-    write-bytes-requires
-    write-kind-requires
-    slice-aggregate-write-numbered
+    (λ c. search needs)
+    (λ c κs. search needs)
+    (λ c κs. search needs)
+    (λ c. search needs)
     write-numbered-requires
-    slice-aggregate-write-bytes-2
+    (λ c. search needs)
     write-bytes-requires-2
-    same-length
+    (λ c. search needs)
     returns)

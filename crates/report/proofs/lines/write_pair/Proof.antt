@@ -5,24 +5,16 @@ use borrow.Author.Needs.{needs}
 use Rattle.lists.proofs.Stores.{wrote-both, wrote-three}
 use Rattle.lists.specs.Ascii.{bytesOf}
 use Rattle.lexer.specs.Decimal.{decimalOf}
-use Rattle.report.proofs.Limits.{numbered-limit}
+use Rattle.report.specs.Lines.{pairLine}
+use Rattle.report.proofs.LineLengths.{numbered-limit}
 use Rattle.report.proofs.lines.write_pair.Statement.{statement}
 use Rattle.report.proofs.lines.write_pair.Tie as tie
-
-write-numbered-requires : tie.Need-write-numbered-requires
-write-numbered-requires c κs = search needs
-
-slice-aggregate-write-numbered : tie.Need-slice-aggregate-write-numbered
-slice-aggregate-write-numbered c = search needs
 
 write-numbered-requires-2 : tie.Need-write-numbered-requires-2
 write-numbered-requires-2 c κs =
     let first = c .before .before .before .before in
     let args = first .before .before .before .before .args in
     omega (arith, first .write-numbered .ensures .0, numbered-limit (args .word .now) (args .first))
-
-slice-aggregate-write-bytes : tie.Need-slice-aggregate-write-bytes
-slice-aggregate-write-bytes c = search needs
 
 write-bytes-requires : tie.Need-write-bytes-requires
 unfolding bytesOf
@@ -38,18 +30,16 @@ write-bytes-requires c κs =
       numbered-limit (bytesOf " ") (args .second),
     )
 
-same-length : tie.Need-same-length
-same-length c = search needs
-
 returns : tie.Need-returns
-unfolding bytesOf
+unfolding bytesOf pairLine
 returns c =
     let last = c .before .before in
     let second = last .before .before .before .before .before in
     let first = second .before .before .before .before .before in
     let args = first .before .before .before .before .args in
-    wrote-both (args .out .now) (args .at) (args .word .now ++ decimalOf (args .first) ++ bytesOf " " ++ decimalOf (args .second)) (bytesOf ")\n")
-    (wrote-three (args .out .now) (args .at) (args .word .now ++ decimalOf (args .first)) (bytesOf " ") (decimalOf (args .second))
+    let numbered = args .word .now ++ decimalOf (args .first) in
+    wrote-both (args .out .now) (args .at) (numbered ++ bytesOf " " ++ decimalOf (args .second)) (bytesOf ")\n")
+    (wrote-three (args .out .now) (args .at) numbered (bytesOf " ") (decimalOf (args .second))
     (first .write-numbered .ensures)
     (second .write-numbered2 .ensures))
     (last .write-bytes .ensures)
@@ -58,10 +48,10 @@ pub write-pair-spec : {M : Type 1} → statement M
 write-pair-spec =
     tie.close
     (tie.spec
-    write-numbered-requires
-    slice-aggregate-write-numbered
+    (λ c κs. search needs)
+    (λ c. search needs)
     write-numbered-requires-2
-    slice-aggregate-write-bytes
+    (λ c. search needs)
     write-bytes-requires
-    same-length
+    (λ c. search needs)
     returns)

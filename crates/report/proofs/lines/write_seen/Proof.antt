@@ -1,29 +1,34 @@
 -- `report::lines::write_seen` meets its contract. Assumes nothing.
+use Prim.Native.Nat.{ℕ}
+use mathlib.Core.List.{List, _++_}
+use mathlib.Core.Path.{_≡_}
 use native.Mathlib.Omega.{arith}
 use borrow.Author.Needs.{needs}
+use Rattle.lists.proofs.Stores.{wrote-both, wrote-three}
 use Rattle.lists.specs.Ascii.{bytesOf}
-use Rattle.report.proofs.Limits.{numbered-limit}
-use Rattle.report.proofs.Written.{seen-written}
+use Rattle.lexer.specs.Decimal.{decimalOf}
+use Rattle.report.specs.Lines.{clockAt, kindAndValue, kindAt, seenLine, valueAt}
+use Rattle.report.specs.Writing.{Wrote}
+use Rattle.report.proofs.LineLengths.{numbered-limit}
 use Rattle.report.proofs.lines.write_seen.Statement.{statement}
 use Rattle.report.proofs.lines.write_seen.Tie as tie
 
-shared-slice-read-kind : tie.Need-shared-slice-read-kind
-shared-slice-read-kind c = search needs
-
-clock-at-requires : tie.Need-clock-at-requires
-clock-at-requires c κs = search needs
-
-value-at-requires : tie.Need-value-at-requires
-value-at-requires c κs = search needs
-
-slice-aggregate-write-numbered : tie.Need-slice-aggregate-write-numbered
-slice-aggregate-write-numbered c = search needs
-
-write-numbered-requires : tie.Need-write-numbered-requires
-write-numbered-requires c κs = search needs
-
-slice-aggregate-write-numbered-2 : tie.Need-slice-aggregate-write-numbered-2
-slice-aggregate-write-numbered-2 c = search needs
+-- the domain, the clock, and from the kind on
+seen-written :
+    (buffer log : List ℕ) (at domain from clock value : ℕ) {first second third : List ℕ} {next later end : ℕ}
+    → clock ≡ clockAt log from
+    → value ≡ valueAt log from
+    → Wrote buffer at (bytesOf "(seen " ++ decimalOf domain) first next
+    → Wrote first next (bytesOf " " ++ decimalOf clock) second later
+    → Wrote second later (kindAndValue (kindAt log from) value) third end
+    → Wrote buffer at (seenLine domain log from) third end
+unfolding seenLine
+seen-written buffer log at domain from clock value clock-is value-is one two three =
+    let numbered = bytesOf "(seen " ++ decimalOf domain in
+    rw (← clock-is, ← value-is)
+    (wrote-both buffer at (numbered ++ bytesOf " " ++ decimalOf clock) (kindAndValue (kindAt log from) value)
+    (wrote-three buffer at numbered (bytesOf " ") (decimalOf clock) one two)
+    three)
 
 write-numbered-requires-2 : tie.Need-write-numbered-requires-2
 unfolding bytesOf
@@ -43,11 +48,8 @@ write-kind-and-value-requires c κs =
       first .write-numbered .ensures .0,
       numbered-limit (bytesOf "(seen ") (args .domain),
       second .write-numbered2 .ensures .0,
-      numbered-limit (bytesOf " ") (first .before .before .before .before .clock-at .result),
+      numbered-limit (bytesOf " ") (first .before .before .before .before .u32-at .result),
     )
-
-same-length : tie.Need-same-length
-same-length c = search needs
 
 returns : tie.Need-returns
 unfolding bytesOf
@@ -55,12 +57,12 @@ returns c =
     let third = c .before .before in
     let second = third .before .before .before .before in
     let first = second .before .before .before .before .before in
-    let value = first .before .before .before .value-at in
-    let clock = first .before .before .before .before .clock-at in
+    let value = first .before .before .before .u16-at in
+    let clock = first .before .before .before .before .u32-at in
     let args = first .before .before .before .before .before .before .before .before .args in
-    seen-written (args .out .now) (args .log .now) (args .at) (args .domain) (args .place) (clock .result) (value .result)
+    seen-written (args .out .now) (args .log .now) (args .at) (args .domain) (args .from) (clock .result) (value .result)
     (clock .ensures)
-    (value .ensures)
+    (value .ensures .0)
     (first .write-numbered .ensures)
     (second .write-numbered2 .ensures)
     (third .write-kind-and-value .ensures)
@@ -69,13 +71,15 @@ pub write-seen-spec : {M : Type 1} → statement M
 write-seen-spec =
     tie.close
     (tie.spec
-    shared-slice-read-kind
-    clock-at-requires
-    value-at-requires
-    slice-aggregate-write-numbered
-    write-numbered-requires
-    slice-aggregate-write-numbered-2
+    (λ c. search needs)
+    (λ c. search needs)
+    (λ c κs. search needs)
+    (λ c. search needs)
+    (λ c κs. search needs)
+    (λ c. search needs)
+    (λ c κs. search needs)
+    (λ c. search needs)
     write-numbered-requires-2
     write-kind-and-value-requires
-    same-length
+    (λ c. search needs)
     returns)
