@@ -21,7 +21,7 @@ use Rattle.plan.specs.Zeros.{noPlan}
 use Rattle.reader.specs.Final.{finalVerdict, firstColourless, firstUndeclared, lacking, planWithMasks}
 use Rattle.plan.specs.Parts.{domainsOf, planFrom, windowsOf, withMasks}
 use Rattle.plan.specs.Limits.{mostDomains, mostRunTicks, mostShares, mostWindows}
-use Rattle.roundtrip.specs.Shaped.{Shaped}
+use Rattle.roundtrip.specs.Accepted.{Shaped}
 use Rattle.roundtrip.proofs.Filled.{filled-all, filled-none}
 use Rattle.roundtrip.proofs.Progress.{soFar}
 use Rattle.roundtrip.proofs.Recipients.{Quiet}
