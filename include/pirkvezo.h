@@ -60,8 +60,8 @@ uint32_t pirkvezo_run(const uint32_t *plan, size_t plan_length,
                       uint64_t limit,
                       uint64_t *answer, size_t answer_length);
 
-/* Where one domain's records so far stand in the lent log.
- * answer: number, companion, the place of the first byte, and the number of bytes (0 and 0 where refused). */
+/* The log query and its status query: where one domain's records so far stand in the lent log.
+ * answer: number, companion, the offset of the first byte in the log, and the number of bytes (0 and 0 where refused). */
 uint32_t pirkvezo_log(const uint32_t *plan, size_t plan_length,
                       const uint64_t *state, size_t state_length,
                       const uint8_t *log, size_t log_length,

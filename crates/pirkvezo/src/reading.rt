@@ -1,4 +1,4 @@
-// ReadResult a plan text, over numbers and slices.
+// Reading a plan text, over numbers and slices.
 use crate::answers::put_answer;
 use crate::answers::refuse_length;
 use crate::plans::store_plan;

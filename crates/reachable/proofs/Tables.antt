@@ -35,7 +35,7 @@ pub record Sound (plan : Plan) (logLength : ℕ) (world : World) : Type 0 where
   pub boxes : BoxesValid plan (world .boxes)
   pub log : length (world .log) ≡ logLength
 
--- a recordStored record leaves the log's length
+-- a stored record leaves the log's length
 stored-length : (quota domain number : ℕ) (seen : Observation) (clock : ℕ) (log : List ℕ) → length (recordStored quota domain number seen clock log) ≡ length log
 unfolding recordStored
 stored-length quota domain number seen clock log = length-sets log (recordIndex quota domain number) (recordBytes seen clock)

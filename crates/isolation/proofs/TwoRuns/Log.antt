@@ -1,4 +1,4 @@
--- A record recordStored in the log: in two logs that agree on a domain's records so far they then agree on one record more, and another domain's part
+-- A record stored in the log: in two logs that agree on a domain's records so far they then agree on one record more, and another domain's part
 -- stays as it is. Assumes nothing.
 use Prim.Native.Nat.{ℕ, _+_, _*_, _≤_, _<_}
 use mathlib.Core.List.{List}
@@ -26,7 +26,7 @@ parts-follow : (quota lower higher : ℕ) → lower < higher → recordIndex quo
 parts-follow quota lower higher h = omega (arith, mul-le-mul-left quota h)
 
 module _ (quota domain count : ℕ) where
-  -- the same record recordStored behind the records so far
+  -- the same record stored behind the records so far
   pub stored-alike : (next : ℕ) (seen : Observation) (clock : ℕ) {one other : List ℕ} → next ≤ count + 1
       → Agree (LogPlace quota domain count) one other
       → Agree (LogPlace quota domain next) (recordStored quota domain count seen clock one) (recordStored quota domain count seen clock other)
