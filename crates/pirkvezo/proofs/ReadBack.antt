@@ -1,4 +1,5 @@
--- The plan that a host lends to the other calls is the plan that was read: the arrays of a plan that the reader gives have their lengths.
+-- The plan that a host lends to the other calls is the plan that was read: the arrays of a plan
+-- that the reader gives have their lengths.
 -- Assumes nothing.
 use mathlib.Core.Path.{_≡_, refl, ap}
 use mathlib.Core.Bool.{Bool, true, false}
@@ -20,7 +21,8 @@ use Rattle.reader.specs.Final.{finalVerdict, planWithMasks}
 use Rattle.reader.specs.Read.{ReadOutcome, finished, judged, readOf, refusedRead, walkFrom}
 use Rattle.reader.proofs.GoodDraft.{GoodDraft, GoodOutcome, draft-first}
 use Rattle.reader.proofs.Walking.{walk-good}
-use Rattle.pirkvezo.specs.Numbers.{planNumbers, planOf}
+use Rattle.plan.specs.Limits.{mostDomains}
+use Rattle.pirkvezo.specs.Theorems.{ReadPlanReturns}
 use Rattle.pirkvezo.proofs.Whole.{PlanLengths, plan-again}
 
 -- the plan of all zeros
@@ -37,7 +39,10 @@ refused-long : (refusal : Refusal) (scripts : List ℕ) → PlanLengths (refused
 unfolding refusedRead
 refused-long refusal scripts = zeros-long
 
-judged-long : (verdict : Verdict) (draft : Draft) (store scripts : List ℕ) → GoodDraft draft → PlanLengths (judged verdict draft store scripts .plan)
+judged-long :
+    (verdict : Verdict) (draft : Draft) (store scripts : List ℕ)
+    → GoodDraft draft
+    → PlanLengths (judged verdict draft store scripts .plan)
 unfolding planWithMasks
 judged-long (Refused refusal) draft store scripts good = refused-long refusal scripts
 judged-long Accepted draft store scripts good =
@@ -46,7 +51,7 @@ judged-long Accepted draft store scripts good =
       rights = good .domains .right-places;
       owners = good .windows .owner-places;
       lengths = good .windows .length-places;
-      masks = masks-long (draft .plan) 8 0;
+      masks = masks-long (draft .plan) mostDomains 0;
     }
 
 finished-long :
@@ -62,7 +67,9 @@ read-long text scripts = by-length (eqb (length scripts) scriptsLength)
     walked : ReadOutcome
     walked = finished (length text) (walkFrom (length text) text 0 noDraft noOps) scripts
 
-    by-size : (long : Bool) → PlanLengths ((elim long as (λ _. ReadOutcome) [ true ↦ refusedRead TextTooLong scripts | false ↦ walked ]) .plan)
+    by-size :
+        (long : Bool)
+        → PlanLengths ((elim long as (λ _. ReadOutcome) [ true ↦ refusedRead TextTooLong scripts | false ↦ walked ]) .plan)
     by-size true = refused-long TextTooLong scripts
     by-size false =
         finished-long (length noOps) (length text) (walkFrom (length text) text 0 noDraft noOps) scripts
@@ -79,5 +86,5 @@ read-long text scripts = by-length (eqb (length scripts) scriptsLength)
     by-length true = by-size (ltb 32_768 (length text))
 
 -- so the numbers of the plan that was read stand for that plan
-pub read-back : (text scripts : List ℕ) → planOf (planNumbers (readOf text scripts .plan)) ≡ readOf text scripts .plan
+pub read-back : ReadPlanReturns
 read-back text scripts = plan-again (readOf text scripts .plan) (read-long text scripts)
