@@ -8,7 +8,7 @@ use borrow.Author.Tests.{eq-eqb, ne-eqb}
 use Rattle.refusal.specs.declared.Code.{Code}
 use Rattle.refusal.specs.declared.Verdict.{Verdict}
 use Rattle.refusal.specs.Code.{codeOf}
-use Rattle.pirkvezo.specs.Answers.{answerNumbers, answerOf}
+use Rattle.pirkvezo.specs.Answers.{answerLength, answerNumbers, answerOf}
 use Rattle.pirkvezo.proofs.Runs.{whole-stored}
 
 module _ (answer : List ℕ) (verdict : Verdict) (third fourth : ℕ) where
@@ -16,7 +16,7 @@ module _ (answer : List ℕ) (verdict : Verdict) (third fourth : ℕ) where
   pub answer-written :
       (code : Code)
       → code ≡ codeOf verdict
-      → length answer ≡ 4
+      → length answer ≡ answerLength
       → sets answer 0 (answerNumbers code third fourth) ≡ answerOf verdict third fourth answer
   unfolding answerOf
   answer-written code judged long =
@@ -24,6 +24,6 @@ module _ (answer : List ℕ) (verdict : Verdict) (third fourth : ℕ) where
       (whole-stored answer (answerNumbers code third fourth) long ∙ ap (λ (told : Code). answerNumbers told third fourth) judged)
 
   -- another is left
-  pub answer-left : (length answer ≡ 4 → ⊥) → answer ≡ answerOf verdict third fourth answer
+  pub answer-left : (length answer ≡ answerLength → ⊥) → answer ≡ answerOf verdict third fourth answer
   unfolding answerOf
   answer-left other = rw (ne-eqb _ _ other) refl

@@ -1,4 +1,5 @@
--- What each exported call leaves, from what its parts give: the plan that is handed on, the state, the engine's call, what is stored and what is
+-- What each exported call leaves, from what its parts give: the plan that is handed on, the state,
+-- the engine's call, what is stored and what is
 -- answered. Assumes nothing.
 use mathlib.Core.Path.{_≡_, refl, ap, _∙_}
 use mathlib.Core.Bool.{true, false, and-eq-true-iff}
@@ -17,13 +18,13 @@ use Rattle.engine.specs.Answers.{answered, freshWith as engineFresh}
 use Rattle.engine.specs.FreshStart.{FreshOutcome, freshStartOf}
 use Rattle.engine.specs.Running.{RunOutcome, endingNumber, runCallOf}
 use Rattle.pirkvezo.specs.declared.LogAnswer.{LogAnswer}
-use Rattle.pirkvezo.specs.Answers.{allFit, answerOf, verdictNumber, planFits, wrongLength}
+use Rattle.pirkvezo.specs.Answers.{allFit, answerLength, answerOf, planFits, verdictNumber, wrongLength}
 use Rattle.pirkvezo.specs.LogQuery.{logAnswerOf, hostLog, logDone, hostLogWith}
-use Rattle.pirkvezo.specs.Numbers.{handedPlan, planNumbers, planOf, stateNumbers, stateOf}
+use Rattle.pirkvezo.specs.Numbers.{handedPlan, planLength, planNumbers, planOf, stateLength, stateNumbers, stateOf}
 use Rattle.pirkvezo.specs.Reading.{hostRead, readDone, readWith}
 use Rattle.pirkvezo.specs.Running.{hostRun, runDone, hostRunWith}
 use Rattle.pirkvezo.specs.Starting.{freshDone, hostFreshWith, hostFreshStart}
-use Rattle.pirkvezo.proofs.Judged.{asked-alike, fresh-alike, handed, run-alike}
+use Rattle.pirkvezo.proofs.Judged.{query-alike, fresh-alike, handed, run-alike}
 
 -- the number that is returned, and the answer that is written
 pub record Told (verdict : Verdict) (third fourth : ℕ) (answer : List ℕ) (number : ℕ) (written : List ℕ) : Type 0 where
@@ -39,19 +40,22 @@ told both = record { number-is = both .0; answer-is = both .1 }
 -- ---- the lengths
 
 pub record Lengths (plan state answer : List ℕ) : Type 0 where
-  pub plan-is : length plan ≡ 92
-  pub state-is : length state ≡ 18
-  pub answer-is : length answer ≡ 4
+  pub plan-is : length plan ≡ planLength
+  pub state-is : length state ≡ stateLength
+  pub answer-is : length answer ≡ answerLength
 
 pub lengths : (plan state answer : List ℕ) → allFit plan state answer ≡ true → Lengths plan state answer
 lengths plan state answer fit =
-    let first = and-eq-true-iff (eqb (length plan) 92) _ .0 fit in
-    let second = and-eq-true-iff (eqb (length state) 18) _ .0 (first .1) in
+    let first = and-eq-true-iff (eqb (length plan) planLength) _ .0 fit in
+    let second = and-eq-true-iff (eqb (length state) stateLength) _ .0 (first .1) in
     record { plan-is = eqb-true _ _ (first .0); state-is = eqb-true _ _ (second .0); answer-is = eqb-true _ _ (second .1) }
 
-pub read-lengths : (plan answer : List ℕ) → planFits plan answer ≡ true → (length plan ≡ 92) × (length answer ≡ 4)
+pub read-lengths :
+    (plan answer : List ℕ)
+    → planFits plan answer ≡ true
+    → (length plan ≡ planLength) × (length answer ≡ answerLength)
 read-lengths plan answer fit =
-    let both = and-eq-true-iff (eqb (length plan) 92) _ .0 fit in
+    let both = and-eq-true-iff (eqb (length plan) planLength) _ .0 fit in
     (eqb-true _ _ (both .0), eqb-true _ _ (both .1))
 
 -- ---- a reading
@@ -134,10 +138,13 @@ module _ (plan scripts state cache boxes log : List ℕ) (limit : ℕ) (answer :
       (run-alike scripts (worldWith (stateOf state) cache boxes log) limit) plan in
       rw (fit, hostRun, tells .number-is, tells .answer-is, stores, ends) (ap (λ (run : RunOutcome). runDone run answer) done)
 
--- ---- an asking
+-- ---- a log query
 
 module _ (plan state log : List ℕ) (domain : ℕ) (answer : List ℕ) (number : ℕ) (written : List ℕ) where
-  pub log-unfit : allFit plan state answer ≡ false → Told wrongLength 0 0 answer number written → hostLogWith number written ≡ hostLog plan state log domain answer
+  pub log-unfit :
+      allFit plan state answer ≡ false
+      → Told wrongLength 0 0 answer number written
+      → hostLogWith number written ≡ hostLog plan state log domain answer
   unfolding hostLog
   log-unfit unfit tells = rw (unfit, hostLog, tells .number-is, tells .answer-is) refl
 
@@ -147,7 +154,7 @@ module _ (plan state log : List ℕ) (domain : ℕ) (answer : List ℕ) (number 
       → lent ≡ handedPlan plan
       → held ≡ stateOf state
       → asked ≡ logAnswerOf lent held log domain
-      → Told (asked .verdict) (asked .place) (asked .length) answer number written
+      → Told (asked .verdict) (asked .offset) (asked .length) answer number written
       → hostLogWith number written ≡ hostLog plan state log domain answer
   unfolding hostLog logDone
   log-fit lent held asked fit planned stated asks tells =
@@ -155,5 +162,5 @@ module _ (plan state log : List ℕ) (domain : ℕ) (answer : List ℕ) (number 
       asks
       ∙ ap (λ (p : Plan). logAnswerOf p held log domain) planned
       ∙ ap (λ (s : State). logAnswerOf (handedPlan plan) s log domain) stated
-      ∙ handed (λ p. logAnswerOf p (stateOf state) log domain) (asked-alike (stateOf state) log domain) plan in
+      ∙ handed (λ p. logAnswerOf p (stateOf state) log domain) (query-alike (stateOf state) log domain) plan in
       rw (fit, hostLog, tells .number-is, tells .answer-is) (ap (λ (answered : LogAnswer). logDone answered answer) done)

@@ -1,4 +1,5 @@
--- A mask of more than 16 bits makes a plan impossible, and one impossible plan is judged as another: so the plan that is handed on is judged as
+-- A mask of more than 16 bits makes a plan impossible, and one impossible plan is judged as
+-- another: so the plan that is handed on is judged as
 -- the lent numbers are. Assumes nothing.
 use mathlib.Core.Path.{_≡_, refl, sym, _∙_}
 use mathlib.Core.Bool.{Bool, true, false, cond, false≢true}
@@ -16,9 +17,10 @@ use Rattle.engine.specs.FreshStart.{freshStartOf}
 use Rattle.engine.specs.Checks.{freshVerdict}
 use Rattle.engine.specs.Running.{runCallOf}
 use Rattle.engine.proofs.Verdicts.{allFit, log-impossible, run-impossible, run-refused, run-wrong-length}
+use Rattle.plan.specs.Limits.{mostDomains}
 use Rattle.pirkvezo.specs.LogQuery.{logAnswerOf}
-use Rattle.pirkvezo.specs.Numbers.{handedPlan, masksFit, planOf}
-use Rattle.pirkvezo.proofs.LogQueries.{asked-refused}
+use Rattle.pirkvezo.specs.Numbers.{handedPlan, masksFit, masksOffset, planOf}
+use Rattle.pirkvezo.proofs.LogQueries.{query-refused}
 use Rattle.pirkvezo.proofs.Runs.{run-at}
 
 -- ---- masks that do not fit
@@ -27,7 +29,8 @@ use Rattle.pirkvezo.proofs.Runs.{run-at}
 fit-of-valid : (numbers : List ℕ) → planValid (planOf numbers) ≡ true → masksFit numbers ≡ true
 unfolding masksFit planOf
 fit-of-valid numbers possible =
-    below-all _ 8 λ domain below. le-leb _ _ (rw (run-at numbers 84 8 domain below) at (mask-most (planOf numbers) domain possible below))
+    below-all _ mostDomains λ domain below. le-leb _ _
+    (rw (run-at numbers masksOffset mostDomains domain below) at (mask-most (planOf numbers) domain possible below))
 
 unfit-impossible : (numbers : List ℕ) → masksFit numbers ≡ false → planValid (planOf numbers) ≡ false
 unfit-impossible numbers unfit = go (planValid (planOf numbers)) refl
@@ -50,7 +53,10 @@ pub handed {ℓ} :
 unfolding handedPlan
 handed call alike numbers = go (masksFit numbers) refl
   where
-    go : (b : Bool) → masksFit numbers ≡ b → call (cond (masksFit numbers) (planOf numbers) noPlan) ≡ call (planOf numbers)
+    go :
+        (b : Bool)
+        → masksFit numbers ≡ b
+        → call (cond (masksFit numbers) (planOf numbers) noPlan) ≡ call (planOf numbers)
     go true e = rw e refl
     go false e = rw e (alike noPlan (planOf numbers) no-plan-impossible (unfit-impossible numbers e))
 
@@ -71,7 +77,10 @@ pub run-alike :
     → runCallOf one scripts world limit ≡ runCallOf other scripts world limit
 run-alike scripts world limit one other impossible impossible′ = go (allFit one scripts world) refl
   where
-    go : (b : Bool) → allFit one scripts world ≡ b → runCallOf one scripts world limit ≡ runCallOf other scripts world limit
+    go :
+        (b : Bool)
+        → allFit one scripts world ≡ b
+        → runCallOf one scripts world limit ≡ runCallOf other scripts world limit
     go false e =
         sym (run-refused one scripts world limit _ (run-wrong-length one scripts world e))
         ∙ run-refused other scripts world limit _ (run-wrong-length other scripts world e)
@@ -79,11 +88,11 @@ run-alike scripts world limit one other impossible impossible′ = go (allFit on
         sym (run-refused one scripts world limit _ (run-impossible one scripts world e impossible))
         ∙ run-refused other scripts world limit _ (run-impossible other scripts world e impossible′)
 
-pub asked-alike :
+pub query-alike :
     (state : State) (log : List ℕ) (domain : ℕ) (one other : Plan)
     → planValid one ≡ false
     → planValid other ≡ false
     → logAnswerOf one state log domain ≡ logAnswerOf other state log domain
-asked-alike state log domain one other impossible impossible′ =
-    sym (asked-refused one state log domain _ (log-impossible one state log domain impossible))
-    ∙ asked-refused other state log domain _ (log-impossible other state log domain impossible′)
+query-alike state log domain one other impossible impossible′ =
+    sym (query-refused one state log domain _ (log-impossible one state log domain impossible))
+    ∙ query-refused other state log domain _ (log-impossible other state log domain impossible′)

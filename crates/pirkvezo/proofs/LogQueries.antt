@@ -1,4 +1,4 @@
--- What an asking answers, refused or not, and that the bytes it points at are the log. Assumes nothing.
+-- What a log query answers, refused or not, and that the bytes it points at are the log. Assumes nothing.
 use mathlib.Core.Path.{_≡_, refl, ap}
 use mathlib.Core.List.{List}
 use Prim.Native.Nat.{ℕ, _+_, _*_, _≤_}
@@ -19,39 +19,45 @@ use Rattle.engine.specs.Checks.{logVerdict}
 use Rattle.engine.proofs.Verdicts.{log-accepted, log-within}
 use Rattle.pirkvezo.specs.declared.LogAnswer.{LogAnswer}
 use Rattle.pirkvezo.specs.LogQuery.{logAnswerOf, logOffset}
+use Rattle.pirkvezo.specs.Theorems.{QueryPointsAtLog}
 
 module _ (plan : Plan) (state : State) (log : List ℕ) (domain : ℕ) where
   abbrev answered : Verdict → LogAnswer
   answered verdict =
       record {
         verdict = verdict;
-        place = logOffset verdict plan (length log) domain;
+        offset = logOffset verdict plan (length log) domain;
         length = length (logFrom verdict plan state log domain);
       }
 
-  pub asked-refused : (refusal : Refusal) → Refused refusal ≡ logVerdict plan state log domain → answered (Refused refusal) ≡ logAnswerOf plan state log domain
+  pub query-refused :
+      (refusal : Refusal)
+      → Refused refusal ≡ logVerdict plan state log domain
+      → answered (Refused refusal) ≡ logAnswerOf plan state log domain
   unfolding logAnswerOf logStatusOf logQueryOf
-  asked-refused refusal refused = ap answered refused
+  query-refused refusal refused = ap answered refused
 
-  -- an asking that is not refused: the place where the domain's part of the log begins, and the length of its records so far
-  pub asked-granted :
+  -- a query that is not refused: where the domain's part of the log begins, and the length of its records so far
+  pub query-accepted :
       (quota : ℕ) (found : List ℕ)
       → Accepted ≡ logVerdict plan state log domain
       → quota ≡ partRecords plan (length log)
       → found ≡ logQueryOf plan state log domain
-      → record { verdict = Accepted; place = 8 * (quota * domain); length = length found } ≡ logAnswerOf plan state log domain
+      → record { verdict = Accepted; offset = 8 * (quota * domain); length = length found } ≡ logAnswerOf plan state log domain
   unfolding logAnswerOf logStatusOf logQueryOf
-  asked-granted quota found granted parts finds =
+  query-accepted quota found granted parts finds =
       rw (parts, finds, ← granted, add-zero (partRecords plan (length log) * domain)) refl
 
-  -- that place lies within the log
-  pub place-within : logVerdict plan state log domain ≡ Accepted → 8 * (partRecords plan (length log) * domain) ≤ length log
-  place-within granted = omega (arith, log-within plan state log domain (log-accepted plan state log domain granted))
+  -- that offset lies within the log
+  pub offset-within :
+      logVerdict plan state log domain ≡ Accepted
+      → 8 * (partRecords plan (length log) * domain) ≤ length log
+  offset-within granted = omega (arith, log-within plan state log domain (log-accepted plan state log domain granted))
 
-  -- the bytes that an asking points at are the log that it is for: none where it is refused
-  pub asked-bytes : part (logAnswerOf plan state log domain .place) (logAnswerOf plan state log domain .length) log ≡ logQueryOf plan state log domain
+  -- the bytes that a query points at
+  query-bytes-here : part (logAnswerOf plan state log domain .offset) (logAnswerOf plan state log domain .length) log ≡ logQueryOf plan state log domain
   unfolding logAnswerOf logStatusOf logQueryOf logPart part
-  asked-bytes = go (logVerdict plan state log domain) refl
+  query-bytes-here = go (logVerdict plan state log domain) refl
     where
       go :
           (verdict : Verdict)
@@ -63,3 +69,6 @@ module _ (plan : Plan) (state : State) (log : List ℕ) (domain : ℕ) where
           let within = log-within plan state log domain (log-accepted plan state log domain e) in
           let quota = partRecords plan (length log) in
           rw (e, part-length (8 * (quota * domain + 0)) (8 * recordsAt state domain) log (omega arith)) refl
+
+pub query-bytes : QueryPointsAtLog
+query-bytes = query-bytes-here

@@ -1,6 +1,7 @@
--- The plan that a host lends to the other calls is the plan that was read: the arrays of a plan that the reader gives have their lengths.
+-- The plan that a host lends to the other calls is the plan that was read: the arrays of a plan
+-- that the reader gives have their lengths.
 -- Assumes nothing.
-use mathlib.Core.Path.{_≡_, refl}
+use mathlib.Core.Path.{refl}
 use mathlib.Core.List.{List}
 use Prim.Native.Nat.{ℕ}
 use Rattle.plan.specs.Limits.{mostDomains}
@@ -11,7 +12,7 @@ use Rattle.reader.specs.Final.{planWithMasks}
 use Rattle.reader.specs.Read.{linesOf, readOf}
 use Rattle.reader.proofs.Accepted.{read-holds}
 use Rattle.reader.proofs.Walking.{lines-good}
-use Rattle.pirkvezo.specs.Numbers.{planNumbers, planOf}
+use Rattle.pirkvezo.specs.Theorems.{ReadPlanReturns}
 use Rattle.pirkvezo.proofs.Whole.{PlanLengths, plan-again}
 
 -- the plan of all zeros
@@ -35,5 +36,5 @@ read-long text scripts =
     })
 
 -- so the numbers of the plan that was read stand for that plan
-pub read-back : (text scripts : List ℕ) → planOf (planNumbers (readOf text scripts .plan)) ≡ readOf text scripts .plan
+pub read-back : ReadPlanReturns
 read-back text scripts = plan-again (readOf text scripts .plan) (read-long text scripts)

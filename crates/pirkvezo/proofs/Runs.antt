@@ -16,25 +16,32 @@ run-length list first zero = refl
 run-length list first (suc count) = ap suc (run-length list (first + 1) count)
 
 -- a run that is one number longer has that number last
-run-last : (list : List ℕ) (first count : ℕ) → numbersFrom list first (suc count) ≡ numbersFrom list first count ++ (getD list (first + count) 0 ∷ [])
+run-last :
+    (list : List ℕ) (first count : ℕ)
+    → numbersFrom list first (suc count) ≡ numbersFrom list first count ++ (getD list (first + count) 0 ∷ [])
 unfolding numbersFrom
 run-last list first zero = rw add-zero
 run-last list first (suc count) =
-    let place : first + 1 + count ≡ first + suc count = omega arith in
+    let index : first + 1 + count ≡ first + suc count = omega arith in
     ap (λ (rest : List ℕ). getD list first 0 ∷ rest)
-    (run-last list (first + 1) count ∙ ap (λ (k : ℕ). numbersFrom list (first + 1) count ++ (getD list k 0 ∷ [])) place)
+    (run-last list (first + 1) count ∙ ap (λ (k : ℕ). numbersFrom list (first + 1) count ++ (getD list k 0 ∷ [])) index)
 
-pub run-more : (list : List ℕ) (first count : ℕ) → numbersFrom list first (count + 1) ≡ numbersFrom list first count ++ (getD list (first + count) 0 ∷ [])
+pub run-more :
+    (list : List ℕ) (first count : ℕ)
+    → numbersFrom list first (count + 1) ≡ numbersFrom list first count ++ (getD list (first + count) 0 ∷ [])
 run-more list first count = rw add-one (run-last list first count)
 
--- the numbers of a run are the list's, from its first place on
-pub run-at : (list : List ℕ) (first count place : ℕ) → place < count → getD (numbersFrom list first count) place 0 ≡ getD list (first + place) 0
+-- the numbers of a run are the list's, from its first index on
+pub run-at :
+    (list : List ℕ) (first count index : ℕ)
+    → index < count
+    → getD (numbersFrom list first count) index 0 ≡ getD list (first + index) 0
 unfolding numbersFrom
-run-at list first zero place below = absurd (not-suc-le-zero below)
+run-at list first zero index below = absurd (not-suc-le-zero below)
 run-at list first (suc count) zero below = rw add-zero
-run-at list first (suc count) (suc place) below =
-    let further : first + 1 + place ≡ first + suc place = omega arith in
-    run-at list (first + 1) count place (omega arith) ∙ ap (λ (k : ℕ). getD list k 0) further
+run-at list first (suc count) (suc index) below =
+    let further : first + 1 + index ≡ first + suc index = omega arith in
+    run-at list (first + 1) count index (omega arith) ∙ ap (λ (k : ℕ). getD list k 0) further
 
 -- ---- taking a run into an array
 
@@ -59,12 +66,14 @@ taken-all list taken first i count long ended so-far =
 
 -- ---- storing a run in a table
 
-stores-last : (table values : List ℕ) (place value : ℕ) → sets table place (values ++ (value ∷ [])) ≡ set (sets table place values) (place + length values) value
-stores-last table [] place value = rw add-zero
-stores-last table (one ∷ values) place value =
-    let further : suc place + length values ≡ place + suc (length values) = omega arith in
-    stores-last (set table place one) values (suc place) value
-    ∙ ap (λ (k : ℕ). set (sets (set table place one) (suc place) values) k value) further
+stores-last :
+    (table values : List ℕ) (index value : ℕ)
+    → sets table index (values ++ (value ∷ [])) ≡ set (sets table index values) (index + length values) value
+stores-last table [] index value = rw add-zero
+stores-last table (one ∷ values) index value =
+    let further : suc index + length values ≡ index + suc (length values) = omega arith in
+    stores-last (set table index one) values (suc index) value
+    ∙ ap (λ (k : ℕ). set (sets (set table index one) (suc index) values) k value) further
 
 -- one number more is stored
 pub stored-more :

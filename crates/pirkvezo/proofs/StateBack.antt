@@ -1,6 +1,7 @@
--- The state that a host lends to its next call is the state that the last one left: a lent state's arrays have their lengths, and every step
+-- The state that a host lends to its next call is the state that the last one left: a lent state's
+-- arrays have their lengths, and every step
 -- keeps them. Assumes nothing.
-use mathlib.Core.Path.{_≡_, refl}
+use mathlib.Core.Path.{refl}
 use mathlib.Core.List.{List}
 use Prim.Native.Nat.{ℕ}
 use lib.ListN.{length, length-set}
@@ -17,24 +18,31 @@ use Rattle.refusal.specs.declared.Verdict.the-variants.{Accepted, Refused}
 use Rattle.engine.specs.Checks.{freshVerdict, runVerdict}
 use Rattle.engine.specs.FreshStart.{freshFrom, freshStartOf}
 use Rattle.engine.specs.Running.{ranFrom, runCallOf, runFrom}
-use Rattle.pirkvezo.specs.Numbers.{planOf, stateNumbers, stateOf}
+use Rattle.plan.specs.Limits.{mostDomains}
+use Rattle.pirkvezo.specs.Numbers.{planOf, positionsOffset, recordsOffset, stateOf}
+use Rattle.pirkvezo.specs.Theorems.{FreshStateReturns, RunStateReturns}
 use Rattle.pirkvezo.proofs.Runs.{run-length}
 use Rattle.pirkvezo.proofs.Whole.{StateLengths, state-again}
 
 lent-long : (numbers : List ℕ) → StateLengths (stateOf numbers)
 unfolding stateOf
-lent-long numbers = record { positions = run-length numbers 2 8; records = run-length numbers 10 8 }
+lent-long numbers =
+    record {
+      positions = run-length numbers positionsOffset mostDomains;
+      records = run-length numbers recordsOffset mostDomains;
+    }
 
 -- ---- a fresh start
 
-fresh-long : (verdict : Verdict) (state : State) (cache boxes : List ℕ) → StateLengths state → StateLengths (freshFrom verdict state cache boxes .state)
+fresh-long :
+    (verdict : Verdict) (state : State) (cache boxes : List ℕ)
+    → StateLengths state
+    → StateLengths (freshFrom verdict state cache boxes .state)
 unfolding freshState
 fresh-long Accepted state cache boxes long = record { positions = refl; records = refl }
 fresh-long (Refused refusal) state cache boxes long = long
 
-pub fresh-back :
-    (plan state cache boxes : List ℕ)
-    → stateOf (stateNumbers (freshStartOf (planOf plan) (stateOf state) cache boxes .state)) ≡ freshStartOf (planOf plan) (stateOf state) cache boxes .state
+pub fresh-back : FreshStateReturns
 unfolding freshStartOf
 fresh-back plan state cache boxes = state-again _ (fresh-long (freshVerdict (planOf plan) cache boxes) (stateOf state) cache boxes (lent-long state))
 
@@ -57,10 +65,7 @@ unfolding ranFrom
 call-long Accepted plan scripts world limit long = run-long plan scripts (partRecords plan (length (world .log))) limit world long
 call-long (Refused refusal) plan scripts world limit long = long
 
-pub run-back :
-    (plan scripts state cache boxes log : List ℕ) (limit : ℕ)
-    → stateOf (stateNumbers (runCallOf (planOf plan) scripts (worldWith (stateOf state) cache boxes log) limit .world .state))
-    ≡ runCallOf (planOf plan) scripts (worldWith (stateOf state) cache boxes log) limit .world .state
+pub run-back : RunStateReturns
 unfolding runCallOf
 run-back plan scripts state cache boxes log limit =
     let world : World = worldWith (stateOf state) cache boxes log in

@@ -9,10 +9,14 @@ use Rattle.lists.specs.Part.{part}
 use Rattle.lists.proofs.Parts.{part-next}
 use Rattle.plan.specs.declared.Plan.{Plan}
 use Rattle.state.specs.declared.State.{State}
-use Rattle.pirkvezo.specs.Numbers.{numbersFrom, planNumbers, planOf, stateNumbers, stateOf}
+use Rattle.plan.specs.Limits.{mostDomains, mostWindows}
+use Rattle.pirkvezo.specs.Numbers.{numbersFrom, planNumbers, planOf, stateLength, stateNumbers, stateOf}
 
 -- a run within a list is a part of it
-pub run-part : (list : List ℕ) (first count : ℕ) → first + count ≤ length list → numbersFrom list first count ≡ part first count list
+pub run-part :
+    (list : List ℕ) (first count : ℕ)
+    → first + count ≤ length list
+    → numbersFrom list first count ≡ part first count list
 unfolding numbersFrom part
 run-part list first zero fits = refl
 run-part list first (suc count) fits =
@@ -26,42 +30,37 @@ unfolding part
 run-all list count long = run-part list 0 count (omega arith) ∙ take-all count list (omega arith)
 
 -- numbers of a state's length come back as they were lent
-pub state-kept : (numbers : List ℕ) → length numbers ≡ 18 → stateNumbers (stateOf numbers) ≡ numbers
+pub state-kept : (numbers : List ℕ) → length numbers ≡ stateLength → stateNumbers (stateOf numbers) ≡ numbers
 unfolding stateNumbers stateOf numbersFrom
-state-kept numbers long = run-all numbers 18 long
-
--- so do those of a plan's
-pub plan-kept : (numbers : List ℕ) → length numbers ≡ 92 → planNumbers (planOf numbers) ≡ numbers
-unfolding planNumbers planOf numbersFrom
-plan-kept numbers long = run-all numbers 92 long
+state-kept numbers long = run-all numbers stateLength long
 
 -- the arrays of a state have their lengths
 pub record StateLengths (state : State) : Type 0 where
-  pub positions : length (state .positions) ≡ 8
-  pub records : length (state .records) ≡ 8
+  pub positions : length (state .positions) ≡ mostDomains
+  pub records : length (state .records) ≡ mostDomains
 
 -- such a state comes back from its numbers
 pub state-again : (state : State) → StateLengths state → stateOf (stateNumbers state) ≡ state
 unfolding stateNumbers stateOf numbersFrom
 state-again state long =
-    rw (run-all (state .positions) 8 (long .positions), run-all (state .records) 8 (long .records)) refl
+    rw (run-all (state .positions) mostDomains (long .positions), run-all (state .records) mostDomains (long .records)) refl
 
 -- the arrays of a plan have their lengths
 pub record PlanLengths (plan : Plan) : Type 0 where
-  pub shares : length (plan .shares) ≡ 8
-  pub rights : length (plan .rights) ≡ 8
-  pub owners : length (plan .owners) ≡ 32
-  pub lengths : length (plan .lengths) ≡ 32
-  pub masks : length (plan .masks) ≡ 8
+  pub shares : length (plan .shares) ≡ mostDomains
+  pub rights : length (plan .rights) ≡ mostDomains
+  pub owners : length (plan .owners) ≡ mostWindows
+  pub lengths : length (plan .lengths) ≡ mostWindows
+  pub masks : length (plan .masks) ≡ mostDomains
 
 -- such a plan comes back from its numbers
 pub plan-again : (plan : Plan) → PlanLengths plan → planOf (planNumbers plan) ≡ plan
 unfolding planNumbers planOf numbersFrom
 plan-again plan long =
     rw (
-      run-all (plan .shares) 8 (long .shares),
-      run-all (plan .rights) 8 (long .rights),
-      run-all (plan .owners) 32 (long .owners),
-      run-all (plan .lengths) 32 (long .lengths),
-      run-all (plan .masks) 8 (long .masks),
+      run-all (plan .shares) mostDomains (long .shares),
+      run-all (plan .rights) mostDomains (long .rights),
+      run-all (plan .owners) mostWindows (long .owners),
+      run-all (plan .lengths) mostWindows (long .lengths),
+      run-all (plan .masks) mostDomains (long .masks),
     ) refl

@@ -7,7 +7,7 @@ use lib.ListN.{length, take}
 use lib.Seq.{length-sets, sets, take-all}
 use Rattle.plan.specs.declared.Plan.{Plan}
 use Rattle.state.specs.declared.State.{State}
-use Rattle.pirkvezo.specs.Numbers.{numbersFrom}
+use Rattle.pirkvezo.specs.Numbers.{numbersFrom, planLength, positionsOffset, sharesOffset, stateLength}
 use Rattle.pirkvezo.proofs.Runs.{front-more, front-run}
 
 -- a table of `size` numbers whose first `count` are written
@@ -36,7 +36,10 @@ full {size} {table} front = sym (take-all size table (omega (arith, front .long)
 abbrev pub stateHead : State → List ℕ
 stateHead state = state .windows ∷ state .clock ∷ []
 
-pub state-begun : (state : State) (lent : List ℕ) → length lent ≡ 18 → Front 18 (sets lent 0 (stateHead state)) 2 (stateHead state)
+pub state-begun :
+    (state : State) (lent : List ℕ)
+    → length lent ≡ stateLength
+    → Front stateLength (sets lent 0 (stateHead state)) positionsOffset (stateHead state)
 state-begun state lent long =
     record { long = length-sets lent 0 (stateHead state) ∙ long; holds = front-more lent (stateHead state) [] 0 (omega arith) refl }
 
@@ -44,6 +47,9 @@ state-begun state lent long =
 abbrev pub planHead : Plan → List ℕ
 planHead plan = plan .pad ∷ plan .run ∷ plan .domains ∷ plan .windows ∷ []
 
-pub plan-begun : (plan : Plan) (lent : List ℕ) → length lent ≡ 92 → Front 92 (sets lent 0 (planHead plan)) 4 (planHead plan)
+pub plan-begun :
+    (plan : Plan) (lent : List ℕ)
+    → length lent ≡ planLength
+    → Front planLength (sets lent 0 (planHead plan)) sharesOffset (planHead plan)
 plan-begun plan lent long =
     record { long = length-sets lent 0 (planHead plan) ∙ long; holds = front-more lent (planHead plan) [] 0 (omega arith) refl }

@@ -1,5 +1,5 @@
--- The four numbers of an answer: document 01's returned number and companion ("The plan text"), and two of the call's own; and the check of the
--- lengths of what a host lends. Assumes nothing.
+-- The four numbers of an answer: document 01's returned number and companion ("The plan text"), and
+-- two of the call's own; and the check of the lengths of what a host lends. Assumes nothing.
 use Prim.Native.Nat.{ℕ}
 use mathlib.Core.Bool.{Bool, cond, _&&_}
 use mathlib.Core.List.{List, [], _∷_}
@@ -24,7 +24,7 @@ verdictNumber verdict = codeOf verdict .number
 abbrev pub answerNumbers : Code → ℕ → ℕ → List ℕ
 answerNumbers code third fourth = code .number ∷ code .companion ∷ third ∷ fourth ∷ []
 
--- the lent answer at exit; one of another length stays as it is
+-- the answer after the call; one of another length stays as it is
 unfoldable pub answerOf : Verdict → ℕ → ℕ → List ℕ → List ℕ
 answerOf verdict third fourth answer =
     cond (eqb (length answer) answerLength) (answerNumbers (codeOf verdict) third fourth) answer
@@ -39,4 +39,5 @@ planFits plan answer = eqb (length plan) planLength && eqb (length answer) answe
 
 -- and those that the other calls ask for
 abbrev pub allFit : List ℕ → List ℕ → List ℕ → Bool
-allFit plan state answer = eqb (length plan) planLength && (eqb (length state) stateLength && eqb (length answer) answerLength)
+allFit plan state answer =
+    eqb (length plan) planLength && (eqb (length state) stateLength && eqb (length answer) answerLength)

@@ -5,3 +5,4 @@ pub mod Reading
 pub mod Starting
 pub mod Running
 pub mod LogQuery
+pub mod Theorems

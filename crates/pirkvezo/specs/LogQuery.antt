@@ -1,5 +1,5 @@
--- `pirkvezo_log`: document 01's asking for a log and the second question about it, in numbers: what it returns and leaves, for every input.
--- Assumes nothing.
+-- `pirkvezo_log`: document 01's log query and its status query ("What a domain sees", "The plan
+-- text"), in numbers: what it returns and leaves, for every input. Assumes nothing.
 use Prim.Native.Nat.{ℕ}
 use mathlib.Core.Bool.{true, false}
 use mathlib.Core.List.{List}
@@ -14,32 +14,34 @@ use Rattle.pirkvezo.specs.declared.LogAnswer.{LogAnswer}
 use Rattle.pirkvezo.specs.Answers.{allFit, answerOf, verdictNumber, wrongLength}
 use Rattle.pirkvezo.specs.Numbers.{planOf, stateOf}
 
--- the number returned, and the lent answer at exit
+-- the number returned, and the answer after the call
 pub record LogCall : Type 0 where
   pub number : ℕ
   pub answer : List ℕ
 
--- an answer with the lent thing at exit
+-- the two as one
 abbrev pub hostLogWith : ℕ → List ℕ → LogCall
 hostLogWith number answer = record { number = number; answer = answer }
 
--- where a domain's log begins within the lent log; 0 where the asking is refused
+-- where a domain's log begins within the lent log; 0 where the query is refused
 abbrev pub logOffset : Verdict → Plan → ℕ → ℕ → ℕ
 logOffset Accepted plan logLength domain = recordIndex (partRecords plan logLength) domain 0
 logOffset (Refused refusal) plan logLength domain = 0
 
--- an asking: its verdict, the place of the log's first byte, and how many bytes the log has
+-- a query: its verdict, the offset of the log's first byte, and how many bytes the log has
 unfoldable pub logAnswerOf : Plan → State → List ℕ → ℕ → LogAnswer
 logAnswerOf plan state log domain =
     record {
       verdict = logStatusOf plan state log domain;
-      place = logOffset (logStatusOf plan state log domain) plan (length log) domain;
+      offset = logOffset (logStatusOf plan state log domain) plan (length log) domain;
       length = length (logQueryOf plan state log domain);
     }
 
 -- these two are an answer's third and fourth number
 unfoldable pub logDone : LogAnswer → List ℕ → LogCall
-logDone asked answer = hostLogWith (verdictNumber (asked .verdict)) (answerOf (asked .verdict) (asked .place) (asked .length) answer)
+logDone query answer =
+    hostLogWith (verdictNumber (query .verdict))
+    (answerOf (query .verdict) (query .offset) (query .length) answer)
 
 -- the call: lengths first, then what the entry point does
 unfoldable pub hostLog : List ℕ → List ℕ → List ℕ → ℕ → List ℕ → LogCall

@@ -1,15 +1,17 @@
--- A plan (document 01, "The plan text") and a state ("Window, switch, run") as the numbers that a host lends. Assumes nothing.
+-- A plan (document 01, "The plan text") and a state ("Window, switch, run") as the numbers that a
+-- host lends. Assumes nothing.
 use Prim.Native.Nat.{ℕ, zero, suc, _+_}
 use mathlib.Core.Bool.{Bool, cond}
 use mathlib.Core.List.{List, [], _∷_, _++_}
 use lib.Dec.{leb}
 use lib.ListN.{getD}
 use Rattle.plan.specs.declared.Plan.{Plan}
+use Rattle.plan.specs.Limits.{mostDomains, mostWindows}
 use Rattle.plan.specs.Sums.{allBelow}
 use Rattle.state.specs.declared.State.{State}
 use Rattle.plan.specs.Zeros.{noPlan}
 
--- the `count` numbers of a list from the place `first` on; past the list's end they are 0
+-- the `count` numbers of a list from the index `first` on; past the list's end they are 0
 unfoldable pub numbersFrom : List ℕ → ℕ → ℕ → List ℕ
 numbersFrom list first zero = []
 numbersFrom list first (suc count) = getD list first 0 ∷ numbersFrom list (first + 1) count
@@ -20,39 +22,78 @@ numbersFrom list first (suc count) = getD list first 0 ∷ numbersFrom list (fir
 abbrev pub planLength : ℕ
 planLength = 92
 
--- pad, run, domains, windows; 8 shares; 8 masks of recipients; 32 windows' domains; 32 windows' lengths; 8 colour masks
+-- where each of them stands, or a list of them begins
+abbrev pub padOffset : ℕ
+padOffset = 0
+
+abbrev pub runOffset : ℕ
+runOffset = 1
+
+abbrev pub domainsOffset : ℕ
+domainsOffset = 2
+
+abbrev pub windowsOffset : ℕ
+windowsOffset = 3
+
+-- a share for each domain
+abbrev pub sharesOffset : ℕ
+sharesOffset = 4
+
+-- a mask of recipients for each domain
+abbrev pub rightsOffset : ℕ
+rightsOffset = 12
+
+-- a domain for each window
+abbrev pub ownersOffset : ℕ
+ownersOffset = 20
+
+-- a length for each window
+abbrev pub lengthsOffset : ℕ
+lengthsOffset = 52
+
+-- a colour mask for each domain
+abbrev pub masksOffset : ℕ
+masksOffset = 84
+
+-- the widest colour mask: 16 colours
+abbrev pub mostMask : ℕ
+mostMask = 65_535
+
+-- a plan's numbers, in that order
 unfoldable pub planNumbers : Plan → List ℕ
 planNumbers plan =
     plan .pad
     ∷ plan .run
     ∷ plan .domains
     ∷ plan .windows
-    ∷ numbersFrom (plan .shares) 0 8
-    ++ numbersFrom (plan .rights) 0 8
-    ++ numbersFrom (plan .owners) 0 32
-    ++ numbersFrom (plan .lengths) 0 32
-    ++ numbersFrom (plan .masks) 0 8
+    ∷ numbersFrom (plan .shares) 0 mostDomains
+    ++ numbersFrom (plan .rights) 0 mostDomains
+    ++ numbersFrom (plan .owners) 0 mostWindows
+    ++ numbersFrom (plan .lengths) 0 mostWindows
+    ++ numbersFrom (plan .masks) 0 mostDomains
 
 -- the plan that lent numbers stand for, each number as it is
 unfoldable pub planOf : List ℕ → Plan
 planOf numbers =
     record {
-      pad = getD numbers 0 0;
-      run = getD numbers 1 0;
-      domains = getD numbers 2 0;
-      windows = getD numbers 3 0;
-      shares = numbersFrom numbers 4 8;
-      rights = numbersFrom numbers 12 8;
-      owners = numbersFrom numbers 20 32;
-      lengths = numbersFrom numbers 52 32;
-      masks = numbersFrom numbers 84 8;
+      pad = getD numbers padOffset 0;
+      run = getD numbers runOffset 0;
+      domains = getD numbers domainsOffset 0;
+      windows = getD numbers windowsOffset 0;
+      shares = numbersFrom numbers sharesOffset mostDomains;
+      rights = numbersFrom numbers rightsOffset mostDomains;
+      owners = numbersFrom numbers ownersOffset mostWindows;
+      lengths = numbersFrom numbers lengthsOffset mostWindows;
+      masks = numbersFrom numbers masksOffset mostDomains;
     }
 
 -- a plan keeps colour masks of 16 bits, and the lent numbers are wider: whether the lent masks fit
 unfoldable pub masksFit : List ℕ → Bool
-masksFit numbers = allBelow (λ domain. leb (getD numbers (84 + domain) 0) 65_535) 8
+masksFit numbers =
+    allBelow (λ domain. leb (getD numbers (masksOffset + domain) 0) mostMask) mostDomains
 
--- the plan that is handed on: no possible plan has a mask that does not fit, so all zeros, which is impossible too, stands for such a plan
+-- the plan that is handed on: no valid plan has a mask that does not fit, so all zeros, which is no
+-- valid plan either, stands for such a plan
 unfoldable pub handedPlan : List ℕ → Plan
 handedPlan numbers = cond (masksFit numbers) (planOf numbers) noPlan
 
@@ -62,16 +103,35 @@ handedPlan numbers = cond (masksFit numbers) (planOf numbers) noPlan
 abbrev pub stateLength : ℕ
 stateLength = 18
 
--- windows completed, clock, 8 script positions, 8 record counts
+-- windows completed
+abbrev pub completedOffset : ℕ
+completedOffset = 0
+
+abbrev pub clockOffset : ℕ
+clockOffset = 1
+
+-- a script position for each domain
+abbrev pub positionsOffset : ℕ
+positionsOffset = 2
+
+-- a record count for each domain
+abbrev pub recordsOffset : ℕ
+recordsOffset = 10
+
+-- a state's numbers, in that order
 unfoldable pub stateNumbers : State → List ℕ
-stateNumbers state = state .windows ∷ state .clock ∷ numbersFrom (state .positions) 0 8 ++ numbersFrom (state .records) 0 8
+stateNumbers state =
+    state .windows
+    ∷ state .clock
+    ∷ numbersFrom (state .positions) 0 mostDomains
+    ++ numbersFrom (state .records) 0 mostDomains
 
 -- the state that lent numbers stand for
 unfoldable pub stateOf : List ℕ → State
 stateOf numbers =
     record {
-      windows = getD numbers 0 0;
-      clock = getD numbers 1 0;
-      positions = numbersFrom numbers 2 8;
-      records = numbersFrom numbers 10 8;
+      windows = getD numbers completedOffset 0;
+      clock = getD numbers clockOffset 0;
+      positions = numbersFrom numbers positionsOffset mostDomains;
+      records = numbersFrom numbers recordsOffset mostDomains;
     }

@@ -1,4 +1,5 @@
--- `pirkvezo_read_plan`: document 01's reading of "The plan text", in numbers: what it returns and leaves, for every input. Assumes nothing.
+-- `pirkvezo_read_plan`: document 01's reading of "The plan text", in numbers: what it returns and
+-- leaves, for every input. Assumes nothing.
 use Prim.Native.Nat.{ℕ}
 use mathlib.Core.Bool.{true, false}
 use mathlib.Core.List.{List}
@@ -6,21 +7,23 @@ use Rattle.reader.specs.Read.{ReadOutcome, readOf}
 use Rattle.pirkvezo.specs.Answers.{answerOf, verdictNumber, planFits, wrongLength}
 use Rattle.pirkvezo.specs.Numbers.{planNumbers}
 
--- the number returned, and the lent things at exit
+-- the number returned, and the buffers after the call
 pub record ReadCall : Type 0 where
   pub number : ℕ
   pub scripts : List ℕ
   pub plan : List ℕ
   pub answer : List ℕ
 
--- an answer with the lent things at exit
+-- these as one
 abbrev pub readWith : ℕ → List ℕ → List ℕ → List ℕ → ReadCall
-readWith number scripts plan answer = record { number = number; scripts = scripts; plan = plan; answer = answer }
+readWith number scripts plan answer =
+    record { number = number; scripts = scripts; plan = plan; answer = answer }
 
 -- the plan that is read, in numbers; all zeros beside a refused reading
 unfoldable pub readDone : ReadOutcome → List ℕ → ReadCall
 readDone read answer =
-    readWith (verdictNumber (read .verdict)) (read .scripts) (planNumbers (read .plan)) (answerOf (read .verdict) 0 0 answer)
+    readWith (verdictNumber (read .verdict)) (read .scripts) (planNumbers (read .plan))
+    (answerOf (read .verdict) 0 0 answer)
 
 -- the call: lengths first, then what the entry point does
 unfoldable pub hostRead : List ℕ → List ℕ → List ℕ → List ℕ → ReadCall

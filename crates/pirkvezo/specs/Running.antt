@@ -1,5 +1,5 @@
--- `pirkvezo_run` and `pirkvezo_step`: running and the single step of document 01, "Window, switch, run", in numbers: what they return and leave,
--- for every input. Assumes nothing.
+-- `pirkvezo_run` and `pirkvezo_step`: running and the single step of document 01, "Window, switch,
+-- run", in numbers: what they return and leave, for every input. Assumes nothing.
 use Prim.Native.Nat.{ℕ}
 use mathlib.Core.Bool.{true, false}
 use mathlib.Core.List.{List}
@@ -8,7 +8,7 @@ use Rattle.machine.specs.View.{worldWith}
 use Rattle.pirkvezo.specs.Answers.{allFit, answerOf, verdictNumber, wrongLength}
 use Rattle.pirkvezo.specs.Numbers.{planOf, stateNumbers, stateOf}
 
--- the number returned, and the lent things at exit
+-- the number returned, and the buffers after the call
 pub record RunCall : Type 0 where
   pub number : ℕ
   pub state : List ℕ
@@ -17,29 +17,42 @@ pub record RunCall : Type 0 where
   pub log : List ℕ
   pub answer : List ℕ
 
--- an answer with the lent things at exit
+-- these as one
 abbrev pub hostRunWith : ℕ → List ℕ → List ℕ → List ℕ → List ℕ → List ℕ → RunCall
 hostRunWith number state cache boxes log answer =
-    record { number = number; state = state; cache = cache; boxes = boxes; log = log; answer = answer }
+    record {
+      number = number;
+      state = state;
+      cache = cache;
+      boxes = boxes;
+      log = log;
+      answer = answer;
+    }
 
 -- an answer's third and fourth number: the steps done, and 1 for ended, 0 for stopped
 unfoldable pub runDone : RunOutcome → List ℕ → RunCall
 runDone run answer =
-    hostRunWith (verdictNumber (run .verdict)) (stateNumbers (run .world .state)) (run .world .cache) (run .world .boxes) (run .world .log)
+    hostRunWith (verdictNumber (run .verdict)) (stateNumbers (run .world .state))
+    (run .world .cache) (run .world .boxes) (run .world .log)
     (answerOf (run .verdict) (run .steps) (endingNumber (run .ending)) answer)
 
 -- running with a limit: lengths first, then what the entry point does
-unfoldable pub hostRun : List ℕ → List ℕ → List ℕ → List ℕ → List ℕ → List ℕ → ℕ → List ℕ → RunCall
+unfoldable pub hostRun :
+    List ℕ → List ℕ → List ℕ → List ℕ → List ℕ → List ℕ → ℕ → List ℕ → RunCall
 hostRun plan scripts state cache boxes log limit answer =
     elim (allFit plan state answer) [
-      | false ↦ hostRunWith (verdictNumber wrongLength) state cache boxes log (answerOf wrongLength 0 0 answer)
-      | true ↦ runDone (runCallOf (planOf plan) scripts (worldWith (stateOf state) cache boxes log) limit) answer
+      | false ↦ hostRunWith (verdictNumber wrongLength) state cache boxes log
+          (answerOf wrongLength 0 0 answer)
+      | true ↦ runDone
+          (runCallOf (planOf plan) scripts (worldWith (stateOf state) cache boxes log) limit) answer
     ]
 
 -- a single step likewise
 unfoldable pub hostStep : List ℕ → List ℕ → List ℕ → List ℕ → List ℕ → List ℕ → List ℕ → RunCall
 hostStep plan scripts state cache boxes log answer =
     elim (allFit plan state answer) [
-      | false ↦ hostRunWith (verdictNumber wrongLength) state cache boxes log (answerOf wrongLength 0 0 answer)
-      | true ↦ runDone (stepCallOf (planOf plan) scripts (worldWith (stateOf state) cache boxes log)) answer
+      | false ↦ hostRunWith (verdictNumber wrongLength) state cache boxes log
+          (answerOf wrongLength 0 0 answer)
+      | true ↦ runDone
+          (stepCallOf (planOf plan) scripts (worldWith (stateOf state) cache boxes log)) answer
     ]

@@ -1,4 +1,5 @@
 // The four numbers of an answer.
+use crate::offsets::ANSWER_LENGTH;
 use engine::Ending;
 use refusal::Refusal;
 use refusal::Verdict;
@@ -9,10 +10,12 @@ ghost use Rattle.pirkvezo.specs.Answers.{answerOf, verdictNumber, wrongL
 
 // Writes an answer and returns its first number. An answer of another length stays as it is.
 pub fn put_answer(answer: &mut [u64], verdict: Verdict, third: u64, fourth: u64) -> u32
-    ensures { λ r. ⌜ (r ≡ verdictNumber verdict) × (now (answer .exit) ≡ answerOf verdict third fourth (now (answer .entry))) ⌝ }
+    ensures { λ r.
+        ⌜ (r ≡ verdictNumber verdict)
+        × (now (answer .exit) ≡ answerOf verdict third fourth (now (answer .entry))) ⌝ }
 {
     let code = code_of(verdict);
-    if answer.len() == 4 {
+    if answer.len() == ANSWER_LENGTH {
         answer[0] = code.number as u64;
         answer[1] = code.companion as u64;
         answer[2] = third;
@@ -23,7 +26,9 @@ pub fn put_answer(answer: &mut [u64], verdict: Verdict, third: u64, fourth: u64)
 
 // 11: a plan, a state or an answer of another length.
 pub fn refuse_length(answer: &mut [u64]) -> u32
-    ensures { λ r. ⌜ (r ≡ verdictNumber wrongLength) × (now (answer .exit) ≡ answerOf wrongLength 0 0 (now (answer .entry))) ⌝ }
+    ensures { λ r.
+        ⌜ (r ≡ verdictNumber wrongLength)
+        × (now (answer .exit) ≡ answerOf wrongLength 0 0 (now (answer .entry))) ⌝ }
 {
     put_answer(answer, Verdict::Refused(Refusal::WrongLength), 0, 0)
 }

@@ -1,4 +1,5 @@
-// The library for programs in other languages: every entry point over numbers and slices, each total, each returning the refusal's number.
+// The library for programs in other languages: every entry point over numbers and slices. Each
+// takes any input, and returns the refusal's number.
 pub mod answers;
 pub mod log_query;
 pub mod offsets;
@@ -10,9 +11,10 @@ pub mod states;
 
 use refusal::Verdict;
 
-// What an asking answers: the verdict, the place of the log's first byte within the lent log, and how many bytes it has.
+// What a log query answers: the verdict, the offset of the log's first byte within the lent log,
+// and how many bytes it has.
 pub struct LogAnswer {
     pub verdict: Verdict,
-    pub place: u64,
+    pub offset: u64,
     pub length: u64,
 }

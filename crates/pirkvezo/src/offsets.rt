@@ -4,34 +4,36 @@
 // A plan.
 pub const PLAN_LENGTH: usize = 92;
 
-pub const PAD: usize = 0;
+pub const PAD_OFFSET: usize = 0;
 
-pub const RUN: usize = 1;
+pub const RUN_OFFSET: usize = 1;
 
-pub const DOMAINS: usize = 2;
+pub const DOMAINS_OFFSET: usize = 2;
 
-pub const WINDOWS: usize = 3;
+pub const WINDOWS_OFFSET: usize = 3;
 
-pub const SHARES: usize = 4;
+pub const SHARES_OFFSET: usize = 4;
 
-pub const RIGHTS: usize = 12;
+pub const RIGHTS_OFFSET: usize = 12;
 
-pub const OWNERS: usize = 20;
+pub const OWNERS_OFFSET: usize = 20;
 
-pub const LENGTHS: usize = 52;
+pub const LENGTHS_OFFSET: usize = 52;
 
-pub const MASKS: usize = 84;
+pub const MASKS_OFFSET: usize = 84;
+
+pub const MOST_MASK: u32 = 65_535;
 
 // A state.
 pub const STATE_LENGTH: usize = 18;
 
-pub const COMPLETED: usize = 0;
+pub const COMPLETED_OFFSET: usize = 0;
 
-pub const CLOCK: usize = 1;
+pub const CLOCK_OFFSET: usize = 1;
 
-pub const POSITIONS: usize = 2;
+pub const POSITIONS_OFFSET: usize = 2;
 
-pub const RECORDS: usize = 10;
+pub const RECORDS_OFFSET: usize = 10;
 
 // An answer.
 pub const ANSWER_LENGTH: usize = 4;

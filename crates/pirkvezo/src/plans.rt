@@ -1,4 +1,14 @@
-// The 92 numbers of a plan: pad, run, domains, windows; shares, masks of recipients; windows' domains, windows' lengths; colour masks.
+// A plan as numbers, each list of them at its offset.
+use crate::offsets::DOMAINS_OFFSET;
+use crate::offsets::LENGTHS_OFFSET;
+use crate::offsets::MASKS_OFFSET;
+use crate::offsets::MOST_MASK;
+use crate::offsets::OWNERS_OFFSET;
+use crate::offsets::PAD_OFFSET;
+use crate::offsets::RIGHTS_OFFSET;
+use crate::offsets::RUN_OFFSET;
+use crate::offsets::SHARES_OFFSET;
+use crate::offsets::WINDOWS_OFFSET;
 use plan::Plan;
 use plan::no_plan;
 ghost use mathlib.Core.Path.{_≡_};
@@ -6,44 +16,31 @@ ghost use mathlib.Core.Bool.{true};
 ghost use Prim.Native.Nat.{_+_, _≤_};
 ghost use lib.ListN.{length};
 ghost use lib.Seq.{sets};
-ghost use Rattle.pirkvezo.specs.Numbers.{handedPlan, masksFit, numbersFrom, planNumbers};
+ghost use Rattle.plan.specs.Limits.{mostDomains};
+ghost use Rattle.pirkvezo.specs.Numbers.{handedPlan, masksFit, masksOffset, numbersFrom};
+ghost use Rattle.pirkvezo.specs.Numbers.{planLength, planNumbers};
 
-// A domain's number for each of the eight, from a place on.
-fn take_domains(numbers: &[u32], first: usize) -> [u32; 8]
-    requires { ⌜ first + 8 ≤ length (now numbers) ⌝ }
-    ensures { λ r. ⌜ r ≡ numbersFrom (now (numbers .entry)) first 8 ⌝ }
+// Copies as many lent numbers as there is room for, from an offset on.
+fn take_words(numbers: &[u32], first: usize, taken: &mut [u32])
+    requires { ⌜ first + length (now taken) ≤ length (now numbers) ⌝ }
+    ensures { λ _.
+        ⌜ now (taken .exit) ≡ numbersFrom (now (numbers .entry)) first (length (now (taken .entry))) ⌝ }
 {
-    let mut taken = [0u32; 8];
     let mut i: usize = 0;
-    while i < 8 {
+    while i < taken.len() {
         taken[i] = numbers[first + i];
         i += 1;
     }
-    taken
-}
-
-// A window's number for each of the 32, from a place on.
-fn take_windows(numbers: &[u32], first: usize) -> [u32; 32]
-    requires { ⌜ first + 32 ≤ length (now numbers) ⌝ }
-    ensures { λ r. ⌜ r ≡ numbersFrom (now (numbers .entry)) first 32 ⌝ }
-{
-    let mut taken = [0u32; 32];
-    let mut i: usize = 0;
-    while i < 32 {
-        taken[i] = numbers[first + i];
-        i += 1;
-    }
-    taken
 }
 
 // Whether the lent colour masks have at most 16 bits.
 fn masks_fit(numbers: &[u32]) -> bool
-    requires { ⌜ length (now numbers) ≡ 92 ⌝ }
+    requires { ⌜ length (now numbers) ≡ planLength ⌝ }
     ensures { λ r. ⌜ r ≡ masksFit (now (numbers .entry)) ⌝ }
 {
     let mut domain: usize = 0;
     while domain < 8 {
-        if 65_535 < numbers[84 + domain] {
+        if MOST_MASK < numbers[MASKS_OFFSET + domain] {
             return false;
         }
         domain += 1;
@@ -53,36 +50,41 @@ fn masks_fit(numbers: &[u32]) -> bool
 
 // The eight colour masks, where they fit.
 fn take_masks(numbers: &[u32]) -> [u16; 8]
-    requires { ⌜ (length (now numbers) ≡ 92) × (masksFit (now numbers) ≡ true) ⌝ }
-    ensures { λ r. ⌜ r ≡ numbersFrom (now (numbers .entry)) 84 8 ⌝ }
+    requires { ⌜ (length (now numbers) ≡ planLength) × (masksFit (now numbers) ≡ true) ⌝ }
+    ensures { λ r. ⌜ r ≡ numbersFrom (now (numbers .entry)) masksOffset mostDomains ⌝ }
 {
     let mut taken = [0u16; 8];
     let mut domain: usize = 0;
     while domain < 8 {
-        taken[domain] = numbers[84 + domain] as u16;
+        taken[domain] = numbers[MASKS_OFFSET + domain] as u16;
         domain += 1;
     }
     taken
 }
 
-// The plan that lent numbers stand for. A mask that does not fit makes it impossible: then another impossible plan stands for it.
+// The plan that lent numbers stand for. With a mask that does not fit it is no valid plan: then
+// another that is not valid stands for it.
 pub fn load_plan(numbers: &[u32]) -> Plan
-    requires { ⌜ length (now numbers) ≡ 92 ⌝ }
+    requires { ⌜ length (now numbers) ≡ planLength ⌝ }
     ensures { λ r. ⌜ r ≡ handedPlan (now (numbers .entry)) ⌝ }
 {
     if !masks_fit(numbers) {
         return no_plan();
     }
-    let shares = take_domains(numbers, 4);
-    let rights = take_domains(numbers, 12);
-    let owners = take_windows(numbers, 20);
-    let lengths = take_windows(numbers, 52);
+    let mut shares = [0u32; 8];
+    let mut rights = [0u32; 8];
+    let mut owners = [0u32; 32];
+    let mut lengths = [0u32; 32];
+    take_words(numbers, SHARES_OFFSET, &mut shares);
+    take_words(numbers, RIGHTS_OFFSET, &mut rights);
+    take_words(numbers, OWNERS_OFFSET, &mut owners);
+    take_words(numbers, LENGTHS_OFFSET, &mut lengths);
     let masks = take_masks(numbers);
     Plan {
-        pad: numbers[0],
-        run: numbers[1],
-        domains: numbers[2],
-        windows: numbers[3],
+        pad: numbers[PAD_OFFSET],
+        run: numbers[RUN_OFFSET],
+        domains: numbers[DOMAINS_OFFSET],
+        windows: numbers[WINDOWS_OFFSET],
         shares,
         rights,
         owners,
@@ -91,25 +93,15 @@ pub fn load_plan(numbers: &[u32]) -> Plan
     }
 }
 
-// Writes a domain's number for each of the eight, from a place on.
-fn put_domains(numbers: &mut [u32], first: usize, values: &[u32; 8])
-    requires { ⌜ first + 8 ≤ length (now numbers) ⌝ }
-    ensures { λ _. ⌜ now (numbers .exit) ≡ sets (now (numbers .entry)) first (numbersFrom (now (values .entry)) 0 8) ⌝ }
+// Writes the first values of a list, from an offset on.
+fn put_words(numbers: &mut [u32], first: usize, values: &[u32], count: usize)
+    requires { ⌜ (count ≤ length (now values)) × (first + count ≤ length (now numbers)) ⌝ }
+    ensures { λ _.
+        ⌜ now (numbers .exit)
+        ≡ sets (now (numbers .entry)) first (numbersFrom (now (values .entry)) 0 count) ⌝ }
 {
     let mut i: usize = 0;
-    while i < 8 {
-        numbers[first + i] = values[i];
-        i += 1;
-    }
-}
-
-// Writes a window's number for each of the 32, from a place on.
-fn put_windows(numbers: &mut [u32], first: usize, values: &[u32; 32])
-    requires { ⌜ first + 32 ≤ length (now numbers) ⌝ }
-    ensures { λ _. ⌜ now (numbers .exit) ≡ sets (now (numbers .entry)) first (numbersFrom (now (values .entry)) 0 32) ⌝ }
-{
-    let mut i: usize = 0;
-    while i < 32 {
+    while i < count {
         numbers[first + i] = values[i];
         i += 1;
     }
@@ -124,19 +116,21 @@ fn widened(mask: u16) -> u32
 
 // Writes the eight colour masks.
 fn put_masks(numbers: &mut [u32], masks: &[u16; 8])
-    requires { ⌜ length (now numbers) ≡ 92 ⌝ }
-    ensures { λ _. ⌜ now (numbers .exit) ≡ sets (now (numbers .entry)) 84 (numbersFrom (now (masks .entry)) 0 8) ⌝ }
+    requires { ⌜ length (now numbers) ≡ planLength ⌝ }
+    ensures { λ _.
+        ⌜ now (numbers .exit)
+        ≡ sets (now (numbers .entry)) masksOffset (numbersFrom (now (masks .entry)) 0 mostDomains) ⌝ }
 {
     let mut domain: usize = 0;
     while domain < 8 {
-        numbers[84 + domain] = widened(masks[domain]);
+        numbers[MASKS_OFFSET + domain] = widened(masks[domain]);
         domain += 1;
     }
 }
 
 // Writes a plan's numbers.
 pub fn store_plan(numbers: &mut [u32], plan: Plan)
-    requires { ⌜ length (now numbers) ≡ 92 ⌝ }
+    requires { ⌜ length (now numbers) ≡ planLength ⌝ }
     ensures { λ _. ⌜ now (numbers .exit) ≡ planNumbers plan ⌝ }
 {
     let shares = plan.shares;
@@ -144,13 +138,13 @@ pub fn store_plan(numbers: &mut [u32], plan: Plan)
     let owners = plan.owners;
     let lengths = plan.lengths;
     let masks = plan.masks;
-    numbers[0] = plan.pad;
-    numbers[1] = plan.run;
-    numbers[2] = plan.domains;
-    numbers[3] = plan.windows;
-    put_domains(numbers, 4, &shares);
-    put_domains(numbers, 12, &rights);
-    put_windows(numbers, 20, &owners);
-    put_windows(numbers, 52, &lengths);
+    numbers[PAD_OFFSET] = plan.pad;
+    numbers[RUN_OFFSET] = plan.run;
+    numbers[DOMAINS_OFFSET] = plan.domains;
+    numbers[WINDOWS_OFFSET] = plan.windows;
+    put_words(numbers, SHARES_OFFSET, &shares, 8);
+    put_words(numbers, RIGHTS_OFFSET, &rights, 8);
+    put_words(numbers, OWNERS_OFFSET, &owners, 32);
+    put_words(numbers, LENGTHS_OFFSET, &lengths, 32);
     put_masks(numbers, &masks);
 }

@@ -1,6 +1,9 @@
 // A fresh start, over numbers and slices.
 use crate::answers::put_answer;
 use crate::answers::refuse_length;
+use crate::offsets::ANSWER_LENGTH;
+use crate::offsets::PLAN_LENGTH;
+use crate::offsets::STATE_LENGTH;
 use crate::plans::load_plan;
 use crate::states::load_state;
 use crate::states::store_state;
@@ -17,10 +20,14 @@ pub extern "C" fn pirkvezo_fresh_start(
     boxes: &mut [u32],
     answer: &mut [u64],
 ) -> u32
-    ensures { λ r. ⌜ hostFreshWith r (now (state .exit)) (now (cache .exit)) (now (boxes .exit)) (now (answer .exit))
-        ≡ hostFreshStart (now (plan .entry)) (now (state .entry)) (now (cache .entry)) (now (boxes .entry)) (now (answer .entry)) ⌝ }
+    ensures { λ r.
+        ⌜ hostFreshWith r (now (state .exit)) (now (cache .exit)) (now (boxes .exit))
+        (now (answer .exit))
+        ≡ hostFreshStart (now (plan .entry)) (now (state .entry)) (now (cache .entry))
+        (now (boxes .entry)) (now (answer .entry)) ⌝ }
 {
-    if !((plan.len() == 92) & ((state.len() == 18) & (answer.len() == 4))) {
+    if !((plan.len() == PLAN_LENGTH)
+        & ((state.len() == STATE_LENGTH) & (answer.len() == ANSWER_LENGTH))) {
         return refuse_length(answer);
     }
     let lent = load_plan(plan);

@@ -14,20 +14,20 @@ use pirkvezo::answers::ending_number;
 use pirkvezo::answers::put_answer;
 use pirkvezo::log_query::pirkvezo_log;
 use pirkvezo::offsets::ANSWER_LENGTH;
-use pirkvezo::offsets::CLOCK;
-use pirkvezo::offsets::COMPLETED;
-use pirkvezo::offsets::DOMAINS;
-use pirkvezo::offsets::LENGTHS;
-use pirkvezo::offsets::MASKS;
-use pirkvezo::offsets::OWNERS;
+use pirkvezo::offsets::CLOCK_OFFSET;
+use pirkvezo::offsets::COMPLETED_OFFSET;
+use pirkvezo::offsets::DOMAINS_OFFSET;
+use pirkvezo::offsets::LENGTHS_OFFSET;
+use pirkvezo::offsets::MASKS_OFFSET;
+use pirkvezo::offsets::OWNERS_OFFSET;
 use pirkvezo::offsets::PLAN_LENGTH;
-use pirkvezo::offsets::POSITIONS;
-use pirkvezo::offsets::RECORDS;
-use pirkvezo::offsets::RIGHTS;
-use pirkvezo::offsets::RUN;
-use pirkvezo::offsets::SHARES;
+use pirkvezo::offsets::POSITIONS_OFFSET;
+use pirkvezo::offsets::RECORDS_OFFSET;
+use pirkvezo::offsets::RIGHTS_OFFSET;
+use pirkvezo::offsets::RUN_OFFSET;
+use pirkvezo::offsets::SHARES_OFFSET;
 use pirkvezo::offsets::STATE_LENGTH;
-use pirkvezo::offsets::WINDOWS;
+use pirkvezo::offsets::WINDOWS_OFFSET;
 use pirkvezo::plans::load_plan;
 use pirkvezo::reading::pirkvezo_read_plan;
 use pirkvezo::running::pirkvezo_run;
@@ -272,37 +272,37 @@ fn offset_of(area: &[u8]) -> usize
     ensures { λ r. ⌜ r < 92 ⌝ }
 {
     if same(area, b"run") {
-        return RUN;
+        return RUN_OFFSET;
     }
     if same(area, b"domains") {
-        return DOMAINS;
+        return DOMAINS_OFFSET;
     }
     if same(area, b"windows") {
-        return WINDOWS;
+        return WINDOWS_OFFSET;
     }
     if same(area, b"shares") {
-        return SHARES;
+        return SHARES_OFFSET;
     }
     if same(area, b"rights") {
-        return RIGHTS;
+        return RIGHTS_OFFSET;
     }
     if same(area, b"owners") {
-        return OWNERS;
+        return OWNERS_OFFSET;
     }
     if same(area, b"lengths") {
-        return LENGTHS;
+        return LENGTHS_OFFSET;
     }
     if same(area, b"masks") {
-        return MASKS;
+        return MASKS_OFFSET;
     }
     if same(area, b"clock") {
-        return CLOCK;
+        return CLOCK_OFFSET;
     }
     if same(area, b"positions") {
-        return POSITIONS;
+        return POSITIONS_OFFSET;
     }
     if same(area, b"records") {
-        return RECORDS;
+        return RECORDS_OFFSET;
     }
     0
 }
@@ -415,8 +415,8 @@ fn show(example: Example, fields: &[u8]) {
 fn show_window(example: Example, fields: &[u8]) {
     let window = small(rest(fields));
     print(word(fields));
-    print_number(number_at(example, b"plan", OWNERS + window));
-    print_number(number_at(example, b"plan", LENGTHS + window));
+    print_number(number_at(example, b"plan", OWNERS_OFFSET + window));
+    print_number(number_at(example, b"plan", LENGTHS_OFFSET + window));
     print(b"\n");
 }
 
@@ -553,8 +553,8 @@ fn run(example: Example, single: bool, fields: &[u8]) -> Example {
     print_answer(word(fields), answer);
     print_number(answer[2]);
     print_ending(answer[3]);
-    print_number(state[COMPLETED]);
-    print_number(state[CLOCK]);
+    print_number(state[COMPLETED_OFFSET]);
+    print_number(state[CLOCK_OFFSET]);
     print(b"\n");
     next.state = state;
     next.cache = cache_room;

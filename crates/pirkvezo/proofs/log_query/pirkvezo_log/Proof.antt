@@ -5,16 +5,12 @@ use Rattle.pirkvezo.proofs.Calls.{lengths, log-fit, log-unfit, told}
 use Rattle.pirkvezo.proofs.log_query.pirkvezo_log.Statement.{statement}
 use Rattle.pirkvezo.proofs.log_query.pirkvezo_log.Tie as tie
 
-refuse-length-requires : tie.Need-refuse-length-requires
-refuse-length-requires c κs = search needs
-
-same-length : tie.Need-same-length
-same-length c = search needs
-
 returns : tie.Need-returns
 returns c =
-    let start = c .before .before .before .before .before .before .before .before .before .args in
-    log-unfit (start .plan .now) (start .state .now) (start .log .now) (start .domain) (start .answer .now) _ _ (not-true _ (c .before .before .before .before .if1 .taken))
+    let at4 = c .before .before .before .before in
+    let at9 = at4 .before .before .before .before .before in
+    let start = at9 .args in
+    log-unfit (start .plan .now) (start .state .now) (start .log .now) (start .domain) (start .answer .now) _ _ (not-true _ (at4 .if1 .taken))
     (told (c .before .before .refuse-length .ensures))
 
 load-plan-requires : tie.Need-load-plan-requires
@@ -27,35 +23,23 @@ load-state-requires c κs =
     let start = c .before .before .before .before .before .before .args in
     lengths (start .plan .now) (start .state .now) (start .answer .now) (not-false _ (c .before .if1 .left)) .state-is
 
-ask-requires : tie.Need-ask-requires
-ask-requires c κs = search needs
-
-put-answer-requires : tie.Need-put-answer-requires
-put-answer-requires c κs = search needs
-
-same-length-2 : tie.Need-same-length-2
-same-length-2 c = search needs
-
 returns-2 : tie.Need-returns-2
 returns-2 c =
-    let start = c .before .before .before .before .before .before .before .before .before .before .before .before .args in
+    let at4 = c .before .before .before .before in
+    let at5 = at4 .before in
+    let at6 = at5 .before in
+    let at7 = at6 .before in
+    let at12 = at7 .before .before .before .before .before in
+    let start = at12 .args in
     log-fit (start .plan .now) (start .state .now) (start .log .now) (start .domain) (start .answer .now) _ _ _ _ _
-    (not-false _ (c .before .before .before .before .before .before .before .if1 .left))
-    (c .before .before .before .before .before .before .load-plan .ensures)
-    (c .before .before .before .before .before .load-state .ensures)
-    (c .before .before .before .before .ask .ensures)
+    (not-false _ (at7 .if1 .left))
+    (at6 .load-plan .ensures)
+    (at5 .load-state .ensures)
+    (at4 .query-log .ensures)
     (told (c .before .before .put-answer .ensures))
 
 pub pirkvezo-log-spec : {M : Type 1} → statement M
 pirkvezo-log-spec =
     tie.close
-    (tie.spec
-    refuse-length-requires
-    same-length
-    returns
-    load-plan-requires
-    load-state-requires
-    ask-requires
-    put-answer-requires
-    same-length-2
-    returns-2)
+    (tie.spec (λ c κs. search needs) (λ c. search needs) returns load-plan-requires load-state-requires
+    (λ c κs. search needs) (λ c κs. search needs) (λ c. search needs) returns-2)

@@ -6,70 +6,39 @@ use Rattle.pirkvezo.specs.Numbers.{handedPlan, planOf}
 use Rattle.pirkvezo.proofs.plans.load_plan.Statement.{statement}
 use Rattle.pirkvezo.proofs.plans.load_plan.Tie as tie
 
-masks-fit-requires : tie.Need-masks-fit-requires
-masks-fit-requires c κs = search needs
-
-no-plan-requires : tie.Need-no-plan-requires
-no-plan-requires c κs = search needs
-
 returns : tie.Need-returns
 unfolding handedPlan
 returns c = rw (c .no-plan .ensures, sym (c .before .before .masks-fit .ensures) ∙ not-true _ (c .before .if1 .taken)) refl
 
-take-domains-requires : tie.Need-take-domains-requires
-take-domains-requires c κs = search needs
-
-take-domains-requires-2 : tie.Need-take-domains-requires-2
-take-domains-requires-2 c κs = search needs
-
-take-windows-requires : tie.Need-take-windows-requires
-take-windows-requires c κs = search needs
-
-take-windows-requires-2 : tie.Need-take-windows-requires-2
-take-windows-requires-2 c κs = search needs
-
 take-masks-requires : tie.Need-take-masks-requires
 take-masks-requires c κs =
-    (c .before .before .before .before .before .before .before .pre, sym (c .before .before .before .before .before .masks-fit .ensures) ∙ not-false _ (c .before .before .before .before .if1 .left))
-
-shared-slice-read-t10 : tie.Need-shared-slice-read-t10
-shared-slice-read-t10 c = search needs
-
-shared-slice-read-t12 : tie.Need-shared-slice-read-t12
-shared-slice-read-t12 c = search needs
-
-shared-slice-read-t14 : tie.Need-shared-slice-read-t14
-shared-slice-read-t14 c = search needs
-
-shared-slice-read-t16 : tie.Need-shared-slice-read-t16
-shared-slice-read-t16 c = search needs
+    let at10 = c .before .before .before .before .before .before .before .before .before .before in
+    let at12 = at10 .before .before in
+    let fits = at12 in
+    (fits .before .before .before .pre, sym (fits .before .masks-fit .ensures) ∙ not-false _ (fits .if1 .left))
 
 returns-2 : tie.Need-returns-2
 unfolding handedPlan planOf
 returns-2 c =
+    let masks = c .before .before .before .before in
+    let lengths = masks .before .before in
+    let owners = lengths .before .before .before in
+    let rights = owners .before .before .before in
+    let shares = rights .before .before .before in
+    let fits = shares .before .before in
     rw (
-      sym (c .before .before .before .before .before .before .before .before .before .before .masks-fit .ensures) ∙ not-false _ (c .before .before .before .before .before .before .before .before .before .if1 .left),
-      c .before .before .before .before .before .before .before .before .take-domains .ensures,
-      c .before .before .before .before .before .before .before .take-domains2 .ensures,
-      c .before .before .before .before .before .before .take-windows .ensures,
-      c .before .before .before .before .before .take-windows2 .ensures,
-      c .before .before .before .before .take-masks .ensures,
+      sym (fits .before .masks-fit .ensures) ∙ not-false _ (fits .if1 .left),
+      shares .take-words .ensures,
+      rights .take-words2 .ensures,
+      owners .take-words3 .ensures,
+      lengths .take-words4 .ensures,
+      masks .take-masks .ensures,
     ) refl
 
 pub load-plan-spec : {M : Type 1} → statement M
 load-plan-spec =
     tie.close
-    (tie.spec
-    masks-fit-requires
-    no-plan-requires
-    returns
-    take-domains-requires
-    take-domains-requires-2
-    take-windows-requires
-    take-windows-requires-2
-    take-masks-requires
-    shared-slice-read-t10
-    shared-slice-read-t12
-    shared-slice-read-t14
-    shared-slice-read-t16
-    returns-2)
+    (tie.spec (λ c κs. search needs) (λ c κs. search needs) returns (λ c. search needs) (λ c κs. search needs)
+    (λ c. search needs) (λ c κs. search needs) (λ c. search needs) (λ c κs. search needs) (λ c. search needs)
+    (λ c κs. search needs) take-masks-requires (λ c. search needs) (λ c. search needs) (λ c. search needs)
+    (λ c. search needs) returns-2)

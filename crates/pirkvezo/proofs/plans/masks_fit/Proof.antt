@@ -8,38 +8,24 @@ use lib.ListN.{getD}
 use borrow.Author.Tests.{le-leb, lt-leb}
 use Rattle.plan.specs.Sums.{allBelow}
 use Rattle.plan.proofs.Sums.{all-below-fails, all-below-more}
-use Rattle.pirkvezo.specs.Numbers.{masksFit}
+use Rattle.plan.specs.Limits.{mostDomains}
+use Rattle.pirkvezo.specs.Numbers.{masksFit, masksOffset, mostMask}
 use Rattle.pirkvezo.proofs.plans.masks_fit.Statement.{statement}
 use Rattle.pirkvezo.proofs.plans.masks_fit.Tie as tie
 
 abbrev Inv-loop : tie.InvT-loop
-Inv-loop numbers domain₀ domain = (domain ≤ 8) × (allBelow (λ (place : ℕ). leb (getD numbers (84 + place) 0) 65_535) domain ≡ true)
+Inv-loop numbers domain₀ domain = (domain ≤ mostDomains) × (allBelow (λ (i : ℕ). leb (getD numbers (masksOffset + i) 0) mostMask) domain ≡ true)
 
 abbrev μ-loop : tie.MeasureT-loop
-μ-loop numbers domain₀ domain = 8 - domain
+μ-loop numbers domain₀ domain = mostDomains - domain
 
 loop-holds : tie.Need-loop-holds Inv-loop μ-loop
 unfolding allBelow
 loop-holds c = (omega arith, refl)
 
-add-if1 : tie.Need-add-if1 Inv-loop μ-loop
-add-if1 c = omega arith
-
-mul-if1 : tie.Need-mul-if1 Inv-loop μ-loop
-mul-if1 c = omega arith
-
-shared-slice-read-if1 : tie.Need-shared-slice-read-if1 Inv-loop μ-loop
-shared-slice-read-if1 c = omega arith
-
 returns : tie.Need-returns Inv-loop μ-loop
 unfolding masksFit
-returns c = all-below-fails _ 8 _ (omega arith) (lt-leb _ _ (c .if1 .taken))
-
-add-domain : tie.Need-add-domain Inv-loop μ-loop
-add-domain c = omega arith
-
-loop-less : tie.Need-loop-less Inv-loop μ-loop
-loop-less c = omega arith
+returns c = all-below-fails _ mostDomains _ (omega arith) (lt-leb _ _ (c .if1 .taken))
 
 loop-again : tie.Need-loop-again Inv-loop μ-loop
 loop-again c = (omega arith, all-below-more _ _ (c .before .before .before .loop .inv .1) (le-leb _ _ (c .if1 .left)))
@@ -47,21 +33,11 @@ loop-again c = (omega arith, all-below-more _ _ (c .before .before .before .loop
 returns-2 : tie.Need-returns-2 Inv-loop μ-loop
 unfolding masksFit
 returns-2 c =
-    let ended : c .before .loop .domain ≡ 8 = omega arith in
+    let ended : c .before .loop .domain ≡ mostDomains = omega arith in
     sym (ap (allBelow _) (sym ended) ∙ c .before .loop .inv .1)
 
 pub masks-fit-spec : {M : Type 1} → statement M
 masks-fit-spec =
     tie.close
-    (tie.spec
-    Inv-loop
-    μ-loop
-    loop-holds
-    add-if1
-    mul-if1
-    shared-slice-read-if1
-    returns
-    add-domain
-    loop-less
-    loop-again
-    returns-2)
+    (tie.spec Inv-loop μ-loop loop-holds (λ c. omega arith) (λ c. omega arith) (λ c. omega arith) returns
+    (λ c. omega arith) (λ c. omega arith) loop-again returns-2)

@@ -5,58 +5,36 @@ use Rattle.pirkvezo.proofs.Calls.{read-fit, read-lengths, read-unfit, t
 use Rattle.pirkvezo.proofs.reading.pirkvezo_read_plan.Statement.{statement}
 use Rattle.pirkvezo.proofs.reading.pirkvezo_read_plan.Tie as tie
 
-refuse-length-requires : tie.Need-refuse-length-requires
-refuse-length-requires c κs = search needs
-
-same-length : tie.Need-same-length
-same-length c = search needs
-
 returns : tie.Need-returns
 returns c =
-    let start = c .before .before .before .before .before .before .before .before .before .args in
-    read-unfit (start .text .now) (start .scripts .now) (start .plan .now) (start .answer .now) _ _ (not-true _ (c .before .before .before .before .if1 .taken))
+    let at4 = c .before .before .before .before in
+    let at9 = at4 .before .before .before .before .before in
+    let start = at9 .args in
+    read-unfit (start .text .now) (start .scripts .now) (start .plan .now) (start .answer .now) _ _ (not-true _ (at4 .if1 .taken))
     (told (c .before .before .refuse-length .ensures))
-
-read-plan-requires : tie.Need-read-plan-requires
-read-plan-requires c κs = search needs
 
 store-plan-requires : tie.Need-store-plan-requires
 store-plan-requires c κs =
-    let start = c .before .before .before .before .before .before .before .before .before .before .args in
-    read-lengths (start .plan .now) (start .answer .now) (not-false _ (c .before .before .before .before .before .if1 .left)) .0
-
-put-answer-requires : tie.Need-put-answer-requires
-put-answer-requires c κs = search needs
-
-same-length-2 : tie.Need-same-length-2
-same-length-2 c = search needs
-
-same-length-3 : tie.Need-same-length-3
-same-length-3 c = search needs
-
-same-length-4 : tie.Need-same-length-4
-same-length-4 c = search needs
+    let at5 = c .before .before .before .before .before in
+    let at10 = at5 .before .before .before .before .before in
+    let start = at10 .args in
+    read-lengths (start .plan .now) (start .answer .now) (not-false _ (at5 .if1 .left)) .0
 
 returns-2 : tie.Need-returns-2
 returns-2 c =
-    let start = c .before .before .before .before .before .before .before .before .before .before .before .before .before .before .before .before .before .args in
+    let at6 = c .before .before .before .before .before .before in
+    let at10 = at6 .before .before .before .before in
+    let at12 = at10 .before .before in
+    let at17 = at12 .before .before .before .before .before in
+    let start = at17 .args in
     read-fit (start .text .now) (start .scripts .now) (start .plan .now) (start .answer .now) _ _ _ _ _ _
-    (not-false _ (c .before .before .before .before .before .before .before .before .before .before .before .before .if1 .left))
-    (c .before .before .before .before .before .before .before .before .before .before .read-plan .ensures)
-    (c .before .before .before .before .before .before .store-plan .ensures)
+    (not-false _ (at12 .if1 .left))
+    (at10 .read-plan .ensures)
+    (at6 .store-plan .ensures)
     (told (c .before .before .put-answer .ensures))
 
 pub pirkvezo-read-plan-spec : {M : Type 1} → statement M
 pirkvezo-read-plan-spec =
     tie.close
-    (tie.spec
-    refuse-length-requires
-    same-length
-    returns
-    read-plan-requires
-    store-plan-requires
-    put-answer-requires
-    same-length-2
-    same-length-3
-    same-length-4
-    returns-2)
+    (tie.spec (λ c κs. search needs) (λ c. search needs) returns (λ c κs. search needs) store-plan-requires
+    (λ c κs. search needs) (λ c. search needs) (λ c. search needs) (λ c. search needs) returns-2)

@@ -5,17 +5,13 @@ use Rattle.pirkvezo.proofs.Calls.{lengths, run-fit, run-unfit, told}
 use Rattle.pirkvezo.proofs.running.pirkvezo_run.Statement.{statement}
 use Rattle.pirkvezo.proofs.running.pirkvezo_run.Tie as tie
 
-refuse-length-requires : tie.Need-refuse-length-requires
-refuse-length-requires c κs = search needs
-
-same-length : tie.Need-same-length
-same-length c = search needs
-
 returns : tie.Need-returns
 returns c =
-    let start = c .before .before .before .before .before .before .before .before .before .before .before .before .args in
+    let at4 = c .before .before .before .before in
+    let at12 = at4 .before .before .before .before .before .before .before .before in
+    let start = at12 .args in
     run-unfit (start .plan .now) (start .scripts .now) (start .state .now) (start .cache .now) (start .boxes .now) (start .log .now) (start .limit)
-    (start .answer .now) _ _ (not-true _ (c .before .before .before .before .if1 .taken))
+    (start .answer .now) _ _ (not-true _ (at4 .if1 .taken))
     (told (c .before .before .refuse-length .ensures))
 
 load-plan-requires : tie.Need-load-plan-requires
@@ -25,67 +21,42 @@ load-plan-requires c κs =
 
 load-state-requires : tie.Need-load-state-requires
 load-state-requires c κs =
-    let start = c .before .before .before .before .before .before .before .before .before .before .args in
+    let at10 = c .before .before .before .before .before .before .before .before .before .before in
+    let start = at10 .args in
     lengths (start .plan .now) (start .state .now) (start .answer .now) (not-false _ (c .before .before .if1 .left)) .state-is
-
-run-requires : tie.Need-run-requires
-run-requires c κs = search needs
-
-ending-number-requires : tie.Need-ending-number-requires
-ending-number-requires c κs = search needs
 
 store-state-requires : tie.Need-store-state-requires
 store-state-requires c κs =
-    let start = c .before .before .before .before .before .before .before .before .before .before .before .before .before .before .before .before .before .before .before .before .before .before .before .args in
-    lengths (start .plan .now) (start .state .now) (start .answer .now) (not-false _ (c .before .before .before .before .before .before .before .before .before .before .before .before .before .before .before .if1 .left)) .state-is
-
-put-answer-requires : tie.Need-put-answer-requires
-put-answer-requires c κs = search needs
-
-same-length-2 : tie.Need-same-length-2
-same-length-2 c = search needs
-
-same-length-3 : tie.Need-same-length-3
-same-length-3 c = search needs
-
-same-length-4 : tie.Need-same-length-4
-same-length-4 c = search needs
-
-same-length-5 : tie.Need-same-length-5
-same-length-5 c = search needs
-
-same-length-6 : tie.Need-same-length-6
-same-length-6 c = search needs
+    let at10 = c .before .before .before .before .before .before .before .before .before .before in
+    let at15 = at10 .before .before .before .before .before in
+    let at23 = at15 .before .before .before .before .before .before .before .before in
+    let start = at23 .args in
+    lengths (start .plan .now) (start .state .now) (start .answer .now) (not-false _ (at15 .if1 .left)) .state-is
 
 returns-2 : tie.Need-returns-2
 returns-2 c =
-    let start = c .before .before .before .before .before .before .before .before .before .before .before .before .before .before .before .before .before .before .before .before .before .before .before .before .before .before .before .before .before .before .args in
+    let at6 = c .before .before .before .before .before .before in
+    let at8 = at6 .before .before in
+    let at15 = at8 .before .before .before .before .before .before .before in
+    let at19 = at15 .before .before .before .before in
+    let at21 = at19 .before .before in
+    let at22 = at21 .before in
+    let at30 = at22 .before .before .before .before .before .before .before .before in
+    let start = at30 .args in
     run-fit (start .plan .now) (start .scripts .now) (start .state .now) (start .cache .now) (start .boxes .now) (start .log .now) (start .limit)
     (start .answer .now) _ _ _ _ _ _ _ _ _ _ _ _ _
-    (not-false _ (c .before .before .before .before .before .before .before .before .before .before .before .before .before .before .before .before .before .before .before .before .before .before .if1 .left))
-    (c .before .before .before .before .before .before .before .before .before .before .before .before .before .before .before .before .before .before .before .before .before .load-plan .ensures)
-    (c .before .before .before .before .before .before .before .before .before .before .before .before .before .before .before .before .before .before .before .load-state .ensures)
-    (c .before .before .before .before .before .before .before .before .before .before .before .before .before .before .before .run .ensures)
-    (c .before .before .before .before .before .before .before .before .ending-number .ensures)
-    (c .before .before .before .before .before .before .store-state .ensures)
+    (not-false _ (at22 .if1 .left))
+    (at21 .load-plan .ensures)
+    (at19 .load-state .ensures)
+    (at15 .run .ensures)
+    (at8 .ending-number .ensures)
+    (at6 .store-state .ensures)
     (told (c .before .before .put-answer .ensures))
 
 pub pirkvezo-run-spec : {M : Type 1} → statement M
 pirkvezo-run-spec =
     tie.close
-    (tie.spec
-    refuse-length-requires
-    same-length
-    returns
-    load-plan-requires
-    load-state-requires
-    run-requires
-    ending-number-requires
-    store-state-requires
-    put-answer-requires
-    same-length-2
-    same-length-3
-    same-length-4
-    same-length-5
-    same-length-6
+    (tie.spec (λ c κs. search needs) (λ c. search needs) returns load-plan-requires load-state-requires
+    (λ c κs. search needs) (λ c κs. search needs) store-state-requires (λ c κs. search needs)
+    (λ c. search needs) (λ c. search needs) (λ c. search needs) (λ c. search needs) (λ c. search needs)
     returns-2)

@@ -1,19 +1,21 @@
--- `pirkvezo::states::put_counts` meets its contract. The loop's invariant: the numbers passed are stored. Assumes nothing.
+-- `pirkvezo::states::put_counts` meets its contract. The loop's invariant: the numbers passed are
+-- stored. Assumes nothing.
 use mathlib.Core.Path.{_≡_, refl}
 use Prim.Native.Nat.{_-_, _≤_}
 use native.Mathlib.Omega.{arith}
 use lib.ListN.{length}
 use lib.Seq.{sets}
+use Rattle.plan.specs.Limits.{mostDomains}
 use Rattle.pirkvezo.specs.Numbers.{numbersFrom}
 use Rattle.pirkvezo.proofs.Runs.{stored-all, stored-length, stored-more}
 use Rattle.pirkvezo.proofs.states.put_counts.Statement.{statement}
 use Rattle.pirkvezo.proofs.states.put_counts.Tie as tie
 
 abbrev Inv-loop : tie.InvT-loop
-Inv-loop numbers₀ first counts i₀ numbers i = (i ≤ 8) × (numbers ≡ sets numbers₀ first (numbersFrom counts 0 i))
+Inv-loop numbers₀ first counts i₀ numbers i = (i ≤ mostDomains) × (numbers ≡ sets numbers₀ first (numbersFrom counts 0 i))
 
 abbrev μ-loop : tie.MeasureT-loop
-μ-loop numbers₀ first counts i₀ numbers i = 8 - i
+μ-loop numbers₀ first counts i₀ numbers i = mostDomains - i
 
 loop-holds : tie.Need-loop-holds Inv-loop μ-loop
 unfolding numbersFrom
@@ -23,26 +25,8 @@ loop-holds c = (omega arith, refl)
 long : (c : tie.At-loop Inv-loop μ-loop) → length (c .loop .numbers) ≡ length (c .before .args .numbers .now)
 long c = stored-length _ (c .before .args .numbers .now) (c .before .args .counts .now) (c .before .args .first) (c .loop .i) (c .loop .inv .1)
 
-mul-numbers : tie.Need-mul-numbers Inv-loop μ-loop
-mul-numbers c = omega arith
-
-element-copy-out-numbers : tie.Need-element-copy-out-numbers Inv-loop μ-loop
-element-copy-out-numbers c = omega arith
-
-add-numbers : tie.Need-add-numbers Inv-loop μ-loop
-add-numbers c = omega arith
-
-mul-numbers-2 : tie.Need-mul-numbers-2 Inv-loop μ-loop
-mul-numbers-2 c = omega arith
-
 slice-write-numbers : tie.Need-slice-write-numbers Inv-loop μ-loop
 slice-write-numbers c = omega (arith, long (c .before .before))
-
-add-i : tie.Need-add-i Inv-loop μ-loop
-add-i c = omega arith
-
-loop-less : tie.Need-loop-less Inv-loop μ-loop
-loop-less c = omega arith
 
 loop-again : tie.Need-loop-again Inv-loop μ-loop
 loop-again c = (omega arith, rw (c .before .before .loop .inv .1) (stored-more _ _ _ _))
@@ -53,22 +37,10 @@ same-length c = long (c .before)
 returns : tie.Need-returns Inv-loop μ-loop
 returns c =
     let start = c .before .before .args in
-    stored-all _ (start .numbers .now) (start .counts .now) (start .first) (c .before .loop .i) 8 (omega arith) (c .before .loop .inv .1)
+    stored-all _ (start .numbers .now) (start .counts .now) (start .first) (c .before .loop .i) mostDomains (omega arith) (c .before .loop .inv .1)
 
 pub put-counts-spec : {M : Type 1} → statement M
 put-counts-spec =
     tie.close
-    (tie.spec
-    Inv-loop
-    μ-loop
-    loop-holds
-    mul-numbers
-    element-copy-out-numbers
-    add-numbers
-    mul-numbers-2
-    slice-write-numbers
-    add-i
-    loop-less
-    loop-again
-    same-length
-    returns)
+    (tie.spec Inv-loop μ-loop loop-holds (λ c. omega arith) (λ c. omega arith) (λ c. omega arith)
+    (λ c. omega arith) slice-write-numbers (λ c. omega arith) (λ c. omega arith) loop-again same-length returns)

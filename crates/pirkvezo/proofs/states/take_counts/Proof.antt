@@ -1,43 +1,24 @@
--- `pirkvezo::states::take_counts` meets its contract. The loop's invariant: the places passed hold the lent numbers. Assumes nothing.
+-- `pirkvezo::states::take_counts` meets its contract. The loop's invariant: the places passed hold
+-- the lent numbers. Assumes nothing.
 use mathlib.Core.Path.{_≡_, refl}
 use Prim.Native.Nat.{_-_, _≤_}
 use native.Mathlib.Omega.{arith}
 use lib.ListN.{length, length-set, take}
+use Rattle.plan.specs.Limits.{mostDomains}
 use Rattle.pirkvezo.specs.Numbers.{numbersFrom}
 use Rattle.pirkvezo.proofs.Runs.{taken-all, taken-more}
 use Rattle.pirkvezo.proofs.states.take_counts.Statement.{statement}
 use Rattle.pirkvezo.proofs.states.take_counts.Tie as tie
 
 abbrev Inv-loop : tie.InvT-loop
-Inv-loop numbers first taken₀ i₀ taken i = (i ≤ 8) × (length taken ≡ 8) × (take i taken ≡ numbersFrom numbers first i)
+Inv-loop numbers first taken₀ i₀ taken i = (i ≤ mostDomains) × (length taken ≡ mostDomains) × (take i taken ≡ numbersFrom numbers first i)
 
 abbrev μ-loop : tie.MeasureT-loop
-μ-loop numbers first taken₀ i₀ taken i = 8 - i
+μ-loop numbers first taken₀ i₀ taken i = mostDomains - i
 
 loop-holds : tie.Need-loop-holds Inv-loop μ-loop
 unfolding numbersFrom
 loop-holds c = (omega arith, refl, refl)
-
-add-taken : tie.Need-add-taken Inv-loop μ-loop
-add-taken c = omega arith
-
-mul-taken : tie.Need-mul-taken Inv-loop μ-loop
-mul-taken c = omega arith
-
-shared-slice-read-taken : tie.Need-shared-slice-read-taken Inv-loop μ-loop
-shared-slice-read-taken c = omega arith
-
-mul-taken-2 : tie.Need-mul-taken-2 Inv-loop μ-loop
-mul-taken-2 c = omega arith
-
-array-write-taken : tie.Need-array-write-taken Inv-loop μ-loop
-array-write-taken c = omega arith
-
-add-i : tie.Need-add-i Inv-loop μ-loop
-add-i c = omega arith
-
-loop-less : tie.Need-loop-less Inv-loop μ-loop
-loop-less c = omega arith
 
 loop-again : tie.Need-loop-again Inv-loop μ-loop
 loop-again c =
@@ -45,21 +26,10 @@ loop-again c =
     (omega arith, simp length-set (loop .inv .1), taken-more _ _ _ (loop .i) (omega arith) (loop .inv .2))
 
 returns : tie.Need-returns Inv-loop μ-loop
-returns c = taken-all _ _ _ (c .before .loop .i) 8 (c .before .loop .inv .1) (omega arith) (c .before .loop .inv .2)
+returns c = taken-all _ _ _ (c .before .loop .i) mostDomains (c .before .loop .inv .1) (omega arith) (c .before .loop .inv .2)
 
 pub take-counts-spec : {M : Type 1} → statement M
 take-counts-spec =
     tie.close
-    (tie.spec
-    Inv-loop
-    μ-loop
-    loop-holds
-    add-taken
-    mul-taken
-    shared-slice-read-taken
-    mul-taken-2
-    array-write-taken
-    add-i
-    loop-less
-    loop-again
-    returns)
+    (tie.spec Inv-loop μ-loop loop-holds (λ c. omega arith) (λ c. omega arith) (λ c. omega arith)
+    (λ c. omega arith) (λ c. omega arith) (λ c. omega arith) (λ c. omega arith) loop-again returns)
