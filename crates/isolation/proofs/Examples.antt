@@ -10,36 +10,29 @@ use native.Mathlib.Omega.{arith}
 use borrow.Author.Tests.{eqb-true}
 use lib.Dec.{eqb}
 use lib.ListN.{List·getD-append, getD, length, replicate}
-use Rattle.lists.specs.Part.{part, splice}
 use Rattle.script.specs.declared.Op.{Op}
 use Rattle.script.specs.declared.Op.the-variants.{Read, Write, Send, Receive, Compute}
-use Rattle.script.specs.Fetch.{opOf, decodeOf, fetchOf}
+use Rattle.script.specs.Limits.{mostOps, scriptsLength}
 use Rattle.script.specs.Stored.{storedOf}
 use Rattle.plan.specs.declared.Plan.{Plan}
-use Rattle.plan.specs.Colours.{coloursOf, sharesTotal, firstColour, maskFrom, maskOf, hasBit}
-use Rattle.plan.specs.Validity.{countsValid, declaredValid, undeclaredValid, domainValid, maskValid, windowValid, planValid}
-use Rattle.plan.specs.Sums.{sumTo, allBelow}
+use Rattle.plan.specs.Limits.{mostDomains, mostWindows}
+use Rattle.plan.specs.Sums.{allBelow}
+use Rattle.plan.specs.Validity.{planValid}
+use Rattle.plan.specs.Windows.{windowOwner, windowsTotal}
 use Rattle.plan.proofs.Sums.{all-below}
-use Rattle.plan.specs.Windows.{windowOwner, windowLength, windowStart, windowEnd, windowsTotal, ticksTotal}
-use Rattle.cache.specs.Access.{lookupL1, lookupL2, lookupOf, lookupAt, accessOf}
-use Rattle.cache.specs.Flush.{countWhere, dirtyLines, validLines, kernelFlushTicks, l1FlushTicks, kernelFlushed, l1Flushed}
-use Rattle.cache.specs.Sets.{has, behind, used}
-use Rattle.records.specs.Records.{recordBytes, partRecords, recordStored, logPart}
-use Rattle.ops.specs.Ops.{boxIndex, ownsLine, touchOf, deniedOf, passedOf, sendOf, boxObservation, receiveOf, computeOf, effectOf}
+use Rattle.cache.specs.Lines.{tableLength}
+use Rattle.ops.specs.Ops.{boxIndex, boxesLength}
 use Rattle.state.specs.declared.State.{State}
-use Rattle.state.specs.TableValidity.{lineAllowed, l1EntryValid, allEmpty, waysValid, setValid, boxValid, tablesValid}
-use Rattle.state.specs.StateValidity.{clockValid, domainCountsValid, stateValid}
-use Rattle.state.specs.World.{World, endedOf, freshState, positionAt}
-use Rattle.machine.specs.Steps.{opStepOf, switchDue, nextStepOf, activeStep, stepOf, runOf}
-use Rattle.machine.specs.Switch.{flushedClock, paddedClock, switchOf}
-use Rattle.engine.specs.LogQuery.{logQueryOf, logStatusOf}
-use Rattle.engine.specs.Checks.{stateVerdict, freshVerdict, runVerdict, logVerdict}
-use Rattle.machine.specs.Fresh.{freshWorld}
-use Rattle.engine.specs.FreshStart.{freshStartOf}
-use Rattle.engine.specs.Running.{ranFrom, runCallOf, stepCallOf}
-use Rattle.isolation.specs.Calls.{CallList, IsList, LogThings, Proper, RunThings, afterCall, afterCalls, foreign, isRefused, leavesOf, logAnswer, logCall, logStatus, own, pointOf, runAnswer, runCall, startWorld, stepAnswer, stepCall, stepsCounted, stepsOfCalls, verdictOf}
-use Rattle.isolation.specs.Points.{FreshRun, SameBoxesTo, Starts, InWindowOf, opsOf, windowsAfter, worldAfter}
-use Rattle.isolation.specs.Statement.{BoxesAgree, Comparable, Correspond, InCommon, Only, SamePlan, SameSeen, ScriptsAgree, runOfList}
+use Rattle.state.specs.World.{World, positionAt}
+use Rattle.engine.specs.LogQuery.{logQueryOf}
+use Rattle.engine.proofs.Computing as engine
+use Rattle.isolation.specs.Calls.{CallList, IsList, LogThings, Proper, RunThings, foreign, own}
+use Rattle.isolation.specs.Calls.{logCall, logStatus, runCall, stepCall}
+use Rattle.isolation.specs.Calls.{afterCall, afterCalls, leavesOf, logAnswer, pointOf, runAnswer, startWorld, stepAnswer}
+use Rattle.isolation.specs.Calls.{isRefused, stepsCounted, stepsOfCalls, verdictOf}
+use Rattle.isolation.specs.Points.{FreshRun, InWindowOf, SameBoxesTo, Starts, opsOf, windowsAfter, worldAfter}
+use Rattle.isolation.specs.Statement.{BoxesAgree, Comparable, Correspond, InCommon, Only, SamePlan, SameSeen}
+use Rattle.isolation.specs.Statement.{ScriptsAgree, runOfList}
 use Rattle.isolation.proofs.Isolation.{isolation}
 use Rattle.isolation.proofs.TwoRuns.{Same}
 use Rattle.isolation.proofs.TwoRuns.Progress.{no-fewer, one-start}
@@ -56,26 +49,28 @@ plan =
       windows = 3;
       shares = 400 ∷ 300 ∷ 300 ∷ 0 ∷ 0 ∷ 0 ∷ 0 ∷ 0 ∷ [];
       rights = 0 ∷ 1 ∷ 2 ∷ 0 ∷ 0 ∷ 0 ∷ 0 ∷ 0 ∷ [];
-      owners = 1 ∷ 0 ∷ 2 ∷ replicate 29 0;
-      lengths = 300 ∷ 400 ∷ 300 ∷ replicate 29 0;
+      owners = 1 ∷ 0 ∷ 2 ∷ replicate (mostWindows - 3) 0;
+      lengths = 300 ∷ 400 ∷ 300 ∷ replicate (mostWindows - 3) 0;
       masks = 63 ∷ 960 ∷ 15_360 ∷ 0 ∷ 0 ∷ 0 ∷ 0 ∷ 0 ∷ [];
     }
 
--- a domain's 256 numbers
+-- a domain's numbers in the store
 abbrev script : List Op → List ℕ
-script ops = map storedOf ops ++ replicate (256 - length ops) 0
+script ops = map storedOf ops ++ replicate (mostOps - length ops) 0
 
 abbrev mine : List ℕ
 mine = script (Receive 1 ∷ Read 3 ∷ Read 67 ∷ Receive 1 ∷ Read 3 ∷ Compute 7 ∷ Write 5 ∷ [])
 
 -- in one run a rival sends two words; in the other it writes, and overwrites a word that it sent; and the third domain computes, or sends and reads
 abbrev rivals : List ℕ
-rivals = script (Send 0 77 ∷ Read 100 ∷ Send 0 88 ∷ []) ++ (script (Compute 200 ∷ Compute 200 ∷ []) ++ replicate 1_280 0)
+rivals =
+    script (Send 0 77 ∷ Read 100 ∷ Send 0 88 ∷ [])
+    ++ (script (Compute 200 ∷ Compute 200 ∷ []) ++ replicate (scriptsLength - 3 * mostOps) 0)
 
 abbrev rivals′ : List ℕ
 rivals′ =
     script (Write 30 ∷ Send 0 77 ∷ Send 0 99 ∷ Send 0 88 ∷ [])
-    ++ (script (Send 1 5 ∷ Read 40 ∷ Write 41 ∷ Read 44 ∷ []) ++ replicate 1_280 0)
+    ++ (script (Send 1 5 ∷ Read 40 ∷ Write 41 ∷ Read 44 ∷ []) ++ replicate (scriptsLength - 3 * mostOps) 0)
 
 -- ---- two lists of calls
 
@@ -89,8 +84,8 @@ ownThings = record { plan = own; scripts = own; state = own; cache = own; boxes 
 abbrev mixedThings : RunThings
 mixedThings = record { plan = own; scripts = own; state = foreign garbage; cache = foreign []; boxes = own; log = own }
 
-abbrev askedThings : LogThings
-askedThings = record { plan = own; state = own; log = own }
+abbrev logThings : LogThings
+logThings = record { plan = own; state = own; log = own }
 
 -- the first list steps once, has a call on mixed things refused, runs on into the observer's second window, and asks
 abbrev one : CallList
@@ -100,9 +95,15 @@ one =
       scripts = mine ++ rivals;
       log = replicate 192 0;
       oldState = garbage;
-      oldCache = replicate 272 7;
-      oldBoxes = replicate 64 70_000;
-      calls = stepCall ownThings ∷ runCall mixedThings 9 ∷ runCall ownThings 13 ∷ logCall askedThings 0 ∷ logStatus askedThings 7 ∷ [];
+      oldCache = replicate tableLength 7;
+      oldBoxes = replicate boxesLength 70_000;
+      calls =
+          stepCall ownThings
+          ∷ runCall mixedThings 9
+          ∷ runCall ownThings 13
+          ∷ logCall logThings 0
+          ∷ logStatus logThings 7
+          ∷ [];
     }
 
 -- the second asks between two runs; its run takes a step more to the same point
@@ -113,14 +114,17 @@ other =
       scripts = mine ++ rivals′;
       log = replicate 192 255;
       oldState = garbage;
-      oldCache = replicate 272 9;
-      oldBoxes = replicate 64 1;
-      calls = runCall ownThings 9 ∷ logCall askedThings 0 ∷ runCall ownThings 6 ∷ [];
+      oldCache = replicate tableLength 9;
+      oldBoxes = replicate boxesLength 1;
+      calls = runCall ownThings 9 ∷ logCall logThings 0 ∷ runCall ownThings 6 ∷ [];
     }
 
 -- every definition that the examples compute with, named once
 computing : ℕ
-unfolding part splice opOf decodeOf fetchOf storedOf coloursOf sharesTotal firstColour maskFrom maskOf hasBit countsValid declaredValid undeclaredValid domainValid maskValid windowValid planValid sumTo allBelow windowOwner windowLength windowStart windowEnd windowsTotal ticksTotal lookupL1 lookupL2 lookupOf lookupAt accessOf countWhere dirtyLines validLines kernelFlushTicks l1FlushTicks kernelFlushed l1Flushed has behind used lineAllowed l1EntryValid allEmpty waysValid setValid boxValid tablesValid clockValid domainCountsValid stateValid ownsLine touchOf deniedOf passedOf sendOf boxObservation receiveOf computeOf effectOf recordBytes partRecords recordStored logPart opStepOf switchDue nextStepOf activeStep stepOf runOf flushedClock paddedClock switchOf endedOf freshState logQueryOf logStatusOf stateVerdict freshVerdict runVerdict logVerdict freshStartOf freshWorld ranFrom runCallOf stepCallOf runAnswer stepAnswer logAnswer afterCall verdictOf stepsCounted afterCalls stepsOfCalls Proper startWorld worldAfter opsOf
+unfolding
+    engine.computing
+    runAnswer stepAnswer logAnswer afterCall verdictOf stepsCounted afterCalls stepsOfCalls
+    Proper startWorld worldAfter opsOf
 computing = 0
 
 one-is : IsList one
@@ -128,8 +132,10 @@ unfolding computing
 one-is =
     record {
       started = refl;
-      proper =
-          (inr (tt, tt, tt, tt, tt, tt), (inl refl, (inr (tt, tt, tt, tt, tt, tt), (inr (tt, tt, tt), (inr (tt, tt, tt), tt)))));
+      proper = (
+        inr (tt, tt, tt, tt, tt, tt),
+        (inl refl, (inr (tt, tt, tt, tt, tt, tt), (inr (tt, tt, tt), (inr (tt, tt, tt), tt)))),
+      );
     }
 
 other-is : IsList other
@@ -140,24 +146,35 @@ other-is =
 -- ---- they may be compared
 
 -- stores that begin with the observer's numbers agree on them
-scripts-agree : (numbers rest rest′ : List ℕ) → length numbers ≡ 256 → ScriptsAgree (Only 0) (numbers ++ rest) (numbers ++ rest′)
-scripts-agree numbers rest rest′ long domain observer place below =
-    let here : 256 * domain + place ≡ place = omega arith in
-    let within : place < length numbers = omega arith in
-    rw here (List·getD-append numbers rest 0 place within ∙ sym (List·getD-append numbers rest′ 0 place within))
+scripts-agree :
+    (numbers rest rest′ : List ℕ)
+    → length numbers ≡ mostOps
+    → ScriptsAgree (Only 0) (numbers ++ rest) (numbers ++ rest′)
+scripts-agree numbers rest rest′ long domain observer index below =
+    let here : mostOps * domain + index ≡ index = omega arith in
+    let within : index < length numbers = omega arith in
+    rw here (List·getD-append numbers rest 0 index within ∙ sym (List·getD-append numbers rest′ 0 index within))
 
 -- boxes that pass eight tests
-boxes-by-test : (domain : ℕ) (world world′ : World)
-    → allBelow (λ sender. eqb (getD (world .boxes) (boxIndex sender domain) 0) (getD (world′ .boxes) (boxIndex sender domain) 0)) 8 ≡ true
+abbrev sameBox : ℕ → World → World → ℕ → Bool
+sameBox domain world world′ sender =
+    eqb (getD (world .boxes) (boxIndex sender domain) 0) (getD (world′ .boxes) (boxIndex sender domain) 0)
+
+boxes-by-test :
+    (domain : ℕ) (world world′ : World)
+    → allBelow (sameBox domain world world′) mostDomains ≡ true
     → SameBoxesTo (Only domain) world world′
 boxes-by-test domain world world′ tests sender recipient below is =
-    rw is
-    (eqb-true _ _
-    (all-below (λ sender. eqb (getD (world .boxes) (boxIndex sender domain) 0) (getD (world′ .boxes) (boxIndex sender domain) 0)) 8 sender tests below))
+    rw is (eqb-true _ _ (all-below (sameBox domain world world′) mostDomains sender tests below))
 
 -- the step that completes a window starts the next
-starts-after : (run : FreshRun) → planValid (run .plan) ≡ true → (window last : ℕ) → windowsAfter run last ≡ window
-    → windowsAfter run (suc last) ≡ suc window → Starts run (suc window) (suc last)
+starts-after :
+    (run : FreshRun)
+    → planValid (run .plan) ≡ true
+    → (window last : ℕ)
+    → windowsAfter run last ≡ window
+    → windowsAfter run (suc last) ≡ suc window
+    → Starts run (suc window) (suc last)
 starts-after run possible window last within past =
     record { reached = past; first = λ earlier below. omega (arith, no-fewer run possible earlier last (omega arith)) }
 
@@ -177,7 +194,11 @@ observed (suc (suc (suc (suc (suc zero))))) room owner = absurd (omega arith)
 observed (suc (suc (suc (suc (suc (suc window)))))) room owner = absurd (omega arith)
 
 -- at their starts the boxes addressed to it are equal
-boxes-there : (window at at′ : ℕ) → Observed window → Starts (runOfList one) window at → Starts (runOfList other) window at′
+boxes-there :
+    (window at at′ : ℕ)
+    → Observed window
+    → Starts (runOfList one) window at
+    → Starts (runOfList other) window at′
     → SameBoxesTo (Only 0) (worldAfter (runOfList one) at) (worldAfter (runOfList other) at′)
 unfolding computing
 boxes-there window at at′ second s s′ =
@@ -218,12 +239,17 @@ abbrev handedBack : CallList → ℕ → List ℕ
 handedBack list domain = logQueryOf (list .plan) (leavesOf list .state) (leavesOf list .log) domain
 
 -- the lists end after 14 and after 15 steps, both in the observer's second window, after two of its ops there
-pub mid-window : (pointOf one ≡ 14) × (pointOf other ≡ 15) × InWindowOf (Only 0) (runOfList one) (pointOf one) × (opsOf (runOfList one) 4 (pointOf one) ≡ 2)
+pub mid-window :
+    (pointOf one ≡ 14)
+    × (pointOf other ≡ 15)
+    × InWindowOf (Only 0) (runOfList one) (pointOf one)
+    × (opsOf (runOfList one) 4 (pointOf one) ≡ 2)
 unfolding computing
 mid-window = (refl, refl, record { notEnded = omega arith; owner = refl }, refl)
 
 -- the call on mixed things was refused
-pub mixed-refused : isRefused (verdictOf plan (mine ++ rivals) (runCall mixedThings 9) (worldAfter (runOfList one) 1)) ≡ true
+pub mixed-refused :
+    isRefused (verdictOf plan (mine ++ rivals) (runCall mixedThings 9) (worldAfter (runOfList one) 1)) ≡ true
 unfolding computing
 mixed-refused = refl
 
@@ -249,7 +275,7 @@ rivals-differ = (refl, refl, refl, refl)
 
 -- a store in which the observer and its first rival have one op each
 abbrev rival : Op → List ℕ
-rival op = script (op ∷ []) ++ replicate 1_536 0
+rival op = script (op ∷ []) ++ replicate (scriptsLength - 2 * mostOps) 0
 
 -- a rival sends a word, and the observer receives it
 abbrev sends : ℕ → CallList
@@ -259,8 +285,8 @@ sends word =
       scripts = script (Receive 1 ∷ []) ++ rival (Send 0 word);
       log = replicate 192 0;
       oldState = garbage;
-      oldCache = replicate 272 0;
-      oldBoxes = replicate 64 0;
+      oldCache = replicate tableLength 0;
+      oldBoxes = replicate boxesLength 0;
       calls = runCall ownThings 3 ∷ [];
     }
 
@@ -307,13 +333,21 @@ reads op = record { plan = overlapping; scripts = script (Read 3 ∷ []) ++ riva
 
 -- no box is full in the first three steps
 abbrev boxEmpty : FreshRun → ℕ → ℕ → Bool
-boxEmpty run count place = eqb (getD (worldAfter run count .boxes) place 0) 0
+boxEmpty run count index = eqb (getD (worldAfter run count .boxes) index 0) 0
 
-no-mail : (run : FreshRun) → allBelow (λ count. allBelow (boxEmpty run count) 64) 4 ≡ true
-    → (count place : ℕ) → count ≤ 3 → place < 64 → getD (worldAfter run count .boxes) place 0 ≡ 0
-no-mail run tests count place early below =
-    eqb-true _ _
-    (all-below (boxEmpty run count) 64 place (all-below (λ count. allBelow (boxEmpty run count) 64) 4 count tests (omega arith)) below)
+abbrev boxesEmpty : FreshRun → ℕ → Bool
+boxesEmpty run count = allBelow (boxEmpty run count) boxesLength
+
+no-mail :
+    (run : FreshRun)
+    → allBelow (boxesEmpty run) 4 ≡ true
+    → (count index : ℕ)
+    → count ≤ 3
+    → index < boxesLength
+    → getD (worldAfter run count .boxes) index 0 ≡ 0
+no-mail run tests count index early below =
+    let empty = all-below (boxesEmpty run) 4 count tests (omega arith) in
+    eqb-true _ _ (all-below (boxEmpty run count) boxesLength index empty below)
 
 pub masks-needed :
     ((observer : ℕ) (one : FreshRun) (count : ℕ) (other : FreshRun) (count′ : ℕ)

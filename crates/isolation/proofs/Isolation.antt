@@ -17,11 +17,11 @@ use Rattle.machine.specs.Fresh.{freshWorld}
 use Rattle.isolation.specs.Calls.{CallList, IsList, leavesOf, pointOf}
 use Rattle.isolation.specs.Points.{worldAfter}
 use Rattle.isolation.specs.Statement.{Comparable, Isolation, SameSeen, SameSets, runOfList}
-use Rattle.isolation.proofs.OneRun.{asked, leaves, on-time, own-accepted, own-refused, refused-stays, split}
+use Rattle.isolation.proofs.OneRun.{queried, leaves, on-time, own-accepted, own-refused, refused-stays, split}
 use Rattle.isolation.proofs.OneRun.Leaves.{list-valid}
 use Rattle.isolation.proofs.TwoRuns.{Same, two-runs}
 
--- what an asking that is not refused hands back
+-- what a log query that is not refused hands back
 handed-back : (plan : Plan) (state : State) (log : List ℕ) (domain : ℕ) → logStatusOf plan state log domain ≡ Accepted
     → logQueryOf plan state log domain ≡ logPart (partRecords plan (length log)) domain (recordsAt state domain) log
 unfolding logQueryOf logStatusOf
@@ -36,7 +36,7 @@ unfolding worldAfter freshWorld
 log-after list is domain declared =
     let world = worldAfter (runOfList list) (pointOf list) in
     let long = log-length (list .plan) (list .scripts) (list .log) (pointOf list) (list-valid list is) in
-    handed-back (list .plan) (leavesOf list .state) (leavesOf list .log) domain (asked list is domain declared)
+    handed-back (list .plan) (leavesOf list .state) (leavesOf list .log) domain (queried list is domain declared)
     ∙ ap (λ (w : World). logPart (partRecords (list .plan) (length (w .log))) domain (recordsAt (w .state) domain) (w .log)) (leaves list is)
     ∙ ap (λ (n : ℕ). logPart (partRecords (list .plan) n) domain (recordsAt (world .state) domain) (world .log)) long
 
@@ -88,8 +88,8 @@ module _ (observer : ℕ) (one other : CallList) (is : IsList one) (is′ : IsLi
   unfolding world world′
   isolated =
       record {
-        asked = asked one is observer declared;
-        asked′ = asked other is′ observer declared′;
+        queried = queried one is observer declared;
+        queried′ = queried other is′ observer declared′;
         log = same-log;
         position = left (λ w w′. positionAt (w .state) observer ≡ positionAt (w′ .state) observer) (same .position);
         sets = left (λ w w′. SameSets (one .plan) observer (w .cache) (w′ .cache)) (same .sets);

@@ -6,7 +6,7 @@ pub mod Leaves
 pub mod OnTime
 pub mod Split
 pub mod Verdicts
-pub use Accepted.{asked, own-accepted, own-refused}
+pub use Accepted.{queried, own-accepted, own-refused}
 pub use Calls.{refused-stays}
 pub use Leaves.{leaves}
 pub use OnTime.{on-time}

@@ -1,5 +1,6 @@
--- Document 01, "Two lists of calls": a list of calls after a fresh start, what each call was handed, and what it answers and leaves, read off the
--- definitions that the entry points' contracts cite. Assumes nothing.
+-- Document 01, "Two lists of calls": a list of calls after a fresh start, what each call was
+-- handed, and what it answers and leaves, read off the definitions that the entry points' contracts
+-- cite. Assumes nothing.
 use Prim.Native.Nat.{ℕ, _+_, _<_}
 use mathlib.Core.Bool.{Bool, true, false, cond, not}
 use mathlib.Core.List.{List, [], _∷_}
@@ -46,20 +47,22 @@ pub record RunThings : Type 0 where
   pub boxes : Handed (List ℕ)
   pub log : Handed (List ℕ)
 
--- what the two askings take, besides a domain's number
+-- what a log query and its status query take, besides a domain's number
 pub record LogThings : Type 0 where
   pub plan : Handed Plan
   pub state : Handed State
   pub log : Handed (List ℕ)
 
--- the four calls that may follow: a single step; a running, with its limit; an asking for a domain's log; the second question about such an asking
+-- the four calls that may follow: a single step; a running, with its limit; a query for a domain's
+-- log; the status query beside it, which answers whether and why it is refused
 pub data Call : Type 0 where
   stepCall : RunThings → Call
   runCall : RunThings → ℕ → Call
   logCall : LogThings → ℕ → Call
   logStatus : LogThings → ℕ → Call
 
--- a list: the plan, the script store and the log; what the fresh start overwrote; and the calls after it
+-- a list: the plan, the script store and the log; what the fresh start overwrote; and the calls
+-- after it
 pub record CallList : Type 0 where
   pub plan : Plan
   pub scripts : List ℕ
@@ -93,7 +96,8 @@ leftWorld things world left =
       log = leftIn (things .log) (world .log) (left .log);
     }
 
--- how many steps a call asks for: a single step one, a running as many as its limit, the askings none
+-- how many steps a call asks for: a single step one, a running as many as its limit, the queries
+-- none
 abbrev pub stepsAsked : Call → ℕ
 stepsAsked (stepCall things) = 1
 stepsAsked (runCall things limit) = limit
@@ -110,7 +114,7 @@ OwnRun things =
     × IsOwn (things .boxes)
     × IsOwn (things .log)
 
--- everything that an asking or its second question was handed
+-- everything that a log query or its status query was handed
 abbrev pub OwnQuery : LogThings → Type 0
 OwnQuery things = IsOwn (things .plan) × IsOwn (things .state) × IsOwn (things .log)
 
@@ -121,8 +125,9 @@ AllOwn (runCall things limit) = OwnRun things
 AllOwn (logCall things domain) = OwnQuery things
 AllOwn (logStatus things domain) = OwnQuery things
 
--- what a call on the list's own things must still bring, not to be refused: a single step and a running want a script store of 2,048 numbers, an
--- asking and its second question the number of a declared domain
+-- what a call on the list's own things must still bring, not to be refused: a single step and a
+-- running want a script store of `scriptsLength` numbers, a log query and its status query the
+-- number of a declared domain
 abbrev pub Admissible : Plan → List ℕ → Call → Type 0
 Admissible plan scripts (stepCall things) = length scripts ≡ scriptsLength
 Admissible plan scripts (runCall things limit) = length scripts ≡ scriptsLength
@@ -130,26 +135,34 @@ Admissible plan scripts (logCall things domain) = domain < plan .domains
 Admissible plan scripts (logStatus things domain) = domain < plan .domains
 
 module _ (plan : Plan) (scripts : List ℕ) where
-  -- what the entry points answer, by their contracts' definitions: running, the single step, and the second question about an asking
+  -- what the entry points answer, by their contracts' definitions: running, the single step, and
+  -- the status query beside a log query
   unfoldable pub runAnswer : RunThings → ℕ → World → RunOutcome
-  runAnswer things limit world = runCallOf (handed (things .plan) plan) (handed (things .scripts) scripts) (handedWorld things world) limit
+  runAnswer things limit world =
+      runCallOf (handed (things .plan) plan) (handed (things .scripts) scripts)
+      (handedWorld things world) limit
 
   unfoldable pub stepAnswer : RunThings → World → RunOutcome
-  stepAnswer things world = stepCallOf (handed (things .plan) plan) (handed (things .scripts) scripts) (handedWorld things world)
+  stepAnswer things world =
+      stepCallOf (handed (things .plan) plan) (handed (things .scripts) scripts)
+      (handedWorld things world)
 
   unfoldable pub logAnswer : LogThings → ℕ → World → Verdict
   logAnswer things domain world =
-      logStatusOf (handed (things .plan) plan) (handed (things .state) (world .state)) (handed (things .log) (world .log)) domain
+      logStatusOf (handed (things .plan) plan) (handed (things .state) (world .state))
+      (handed (things .log) (world .log)) domain
 
-  -- the list's own world after a call; the two askings are lent nothing that they could write to
+  -- the list's own world after a call; the two queries are lent nothing that they could write to
   unfoldable pub afterCall : Call → World → World
   afterCall (stepCall things) world = leftWorld things world (stepAnswer things world .world)
-  afterCall (runCall things limit) world = leftWorld things world (runAnswer things limit world .world)
+  afterCall (runCall things limit) world =
+      leftWorld things world (runAnswer things limit world .world)
   afterCall (logCall things domain) world = world
   afterCall (logStatus things domain) world = world
 
-  -- a call's verdict, on the list's own world. An asking answers bytes and no number: its number is what the second question about it answers. So the
-  -- two share one verdict, and a second question counts as refused where the asking would be.
+  -- a call's verdict, on the list's own world. A log query answers bytes and no number: its number
+  -- is what its status query answers. So the two share one verdict, and a status query counts as
+  -- refused where the log query would be.
   unfoldable pub verdictOf : Call → World → Verdict
   verdictOf (stepCall things) world = stepAnswer things world .verdict
   verdictOf (runCall things limit) world = runAnswer things limit world .verdict
@@ -167,19 +180,23 @@ module _ (plan : Plan) (scripts : List ℕ) where
 
   unfoldable pub stepsOfCalls : List Call → World → ℕ
   stepsOfCalls [] world = 0
-  stepsOfCalls (call ∷ calls) world = stepsCounted call world + stepsOfCalls calls (afterCall call world)
+  stepsOfCalls (call ∷ calls) world =
+      stepsCounted call world + stepsOfCalls calls (afterCall call world)
 
-  -- every call was refused, and then whatever it was handed will do, or it was handed the list's own things, as the calls before it left them
+  -- every call was refused, and then whatever it was handed will do, or it was handed the list's
+  -- own things, as the calls before it left them
   unfoldable pub Proper : List Call → World → Type 0
   Proper [] world = Unit {0}
   Proper (call ∷ calls) world =
-      ((isRefused (verdictOf call world) ≡ true) ⊎ AllOwn call) × Proper calls (afterCall call world)
+      ((isRefused (verdictOf call world) ≡ true) ⊎ AllOwn call)
+      × Proper calls (afterCall call world)
 
 -- what the fresh start of a list answered and left
 abbrev pub freshOf : CallList → FreshOutcome
 freshOf list = freshStartOf (list .plan) (list .oldState) (list .oldCache) (list .oldBoxes)
 
--- the world from which the calls of a list start: what the fresh start left, and the log, which it does not take
+-- the world from which the calls of a list start: what the fresh start left, and the log, which it
+-- does not take
 unfoldable pub startWorld : CallList → World
 startWorld list =
     let fresh = freshOf list in
@@ -194,8 +211,8 @@ pub record IsList (list : CallList) : Type 0 where
 abbrev pub leavesOf : CallList → World
 leavesOf list = afterCalls (list .plan) (list .scripts) (list .calls) (startWorld list)
 
--- a list's point: how many steps its run is, which is what its calls counted together. That may be more than there are up to the last switch: a step
--- past it changes nothing.
+-- a list's point: how many steps its run is, which is what its calls counted together. That may be
+-- more than there are up to the last switch: a step past it changes nothing.
 abbrev pub pointOf : CallList → ℕ
 pointOf list = stepsOfCalls (list .plan) (list .scripts) (list .calls) (startWorld list)
 
@@ -203,9 +220,15 @@ pointOf list = stepsOfCalls (list .plan) (list .scripts) (list .calls) (startWor
 abbrev pub verdictAfter : CallList → Call → Verdict
 verdictAfter list call = verdictOf (list .plan) (list .scripts) call (leavesOf list)
 
--- two runnings, one after the other, as one answer: the steps that both did, and for the rest what the second answered and left
+-- two runnings, one after the other, as one answer: the steps that both did, and for the rest what
+-- the second answered and left
 unfoldable pub runTwice : Plan → List ℕ → World → ℕ → ℕ → RunOutcome
 runTwice plan scripts world first second =
     let one = runCallOf plan scripts world first in
     let two = runCallOf plan scripts (one .world) second in
-    record { verdict = two .verdict; steps = one .steps + two .steps; ending = two .ending; world = two .world }
+    record {
+      verdict = two .verdict;
+      steps = one .steps + two .steps;
+      ending = two .ending;
+      world = two .world;
+    }

@@ -1,4 +1,5 @@
--- Document 01, "Two lists of calls": an accepted plan is one that the reader gives with 0, 0. Demand 3, said of lists under such plans. Assumes nothing.
+-- Document 01, "Two lists of calls": an accepted plan is one that the reader gives with 0, 0.
+-- Demand 3, said of lists under such plans. Assumes nothing.
 use mathlib.Core.Path.{_≡_}
 use lib.ListN.{length}
 use Rattle.cache.specs.Lines.{tableLength}

@@ -1,5 +1,5 @@
-// planrun: reads a plan on standard input, runs it from a fresh start to its end, and prints what each
-// domain saw.
+// planrun: reads a plan on standard input, runs it from a fresh start to its end, and prints what
+// each domain saw.
 use libc::STDIN_FILENO;
 use libc::STDOUT_FILENO;
 use report::limits::MOST_PRINTED;

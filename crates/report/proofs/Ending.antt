@@ -1,4 +1,5 @@
--- The program runs every accepted plan to its end: no run has as many steps as the limit that it asks for. Assumes nothing.
+-- The program runs every accepted plan to its end: no run has as many steps as the limit that it asks for. Assumes
+-- nothing.
 use Prim.Native.Nat.{ℕ}
 use mathlib.Core.Path.{_≡_, ap, _∙_}
 use native.Mathlib.Omega.{arith}

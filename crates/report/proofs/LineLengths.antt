@@ -27,8 +27,8 @@ use Rattle.refusal.specs.declared.Verdict.{Verdict}
 use Rattle.refusal.specs.declared.Verdict.the-variants.{Accepted, Refused}
 use Rattle.engine.specs.Checks.{logVerdict}
 use Rattle.engine.specs.LogQuery.{logFrom, logQueryOf}
-use Rattle.report.specs.Limits.{mostDecimal, mostEndLine, mostKindWord, mostSeenLine}
-use Rattle.report.specs.Lines.{clockAt, domainLines, endLine, kindAndValue, kindAt, kindWord, pairLine, recordLines}
+use Rattle.report.specs.Limits.{mostDecimal, mostKindWord, mostSeenLine}
+use Rattle.report.specs.Lines.{clockAt, domainLines, kindAndValue, kindAt, kindWord, pairLine, recordLines}
 use Rattle.report.specs.Lines.{seenLine, seenLines, valueAt}
 
 -- ---- one line
@@ -143,7 +143,8 @@ module _ (plan : Plan) (state : State) (log : List ℕ)
       (omega (
         arith,
         domains-limit domain (omega arith),
-        records-limit domain (logQueryOf plan state log domain) (length (logQueryOf plan state log domain) / recordSize),
+        records-limit domain (logQueryOf plan state log domain)
+            (length (logQueryOf plan state log domain) / recordSize),
         query-limit domain (omega arith),
         mul-suc (partRecords plan (length log)) domain,
       ))

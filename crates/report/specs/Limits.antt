@@ -1,5 +1,5 @@
--- Document 01, "Settled numbers": the sizes of the program *planrun* and of what it prints, each said
--- here alone. Assumes nothing.
+-- Document 01, "Settled numbers": the sizes of the program *planrun* and of what it prints, each
+-- said here alone. Assumes nothing.
 use Prim.Native.Nat.{ℕ, _+_, _*_, _/_}
 use Rattle.records.specs.Records.{recordSize}
 
@@ -30,6 +30,7 @@ mostEndLine = 8 + 2 * mostDecimal
 abbrev pub mostRefusalLine : ℕ
 mostRefusalLine = 12 + 2 * mostDecimal
 
--- the most bytes that it prints: a line for each record that its log has room for, and the last line
+-- the most bytes that it prints: a line for each record that its log has room for, and the last
+-- line
 abbrev pub mostPrinted : ℕ
 mostPrinted = mostSeenLine * (planrunLog / recordSize) + mostEndLine

@@ -1,4 +1,5 @@
--- Document 01, "Settled numbers": the lines that *planrun* prints, a LF after each. Assumes nothing.
+-- Document 01, "Settled numbers": the lines that *planrun* prints, a LF after each. Assumes
+-- nothing.
 use Prim.Native.Nat.{ℕ, zero, suc, _+_, _*_, _/_}
 use Prim.Native.String.{String}
 use mathlib.Core.Bool.{cond}
@@ -66,7 +67,8 @@ seenLine domain log at =
 -- the first records of a domain's log, in record order
 unfoldable pub recordLines : ℕ → List ℕ → ℕ → List ℕ
 recordLines domain log zero = []
-recordLines domain log (suc count) = recordLines domain log count ++ seenLine domain log (recordSize * count)
+recordLines domain log (suc count) =
+    recordLines domain log count ++ seenLine domain log (recordSize * count)
 
 -- all its records
 unfoldable pub domainLines : ℕ → List ℕ → List ℕ
@@ -80,7 +82,8 @@ seenLines plan state log (suc domain) =
 
 -- (WORD FIRST SECOND)
 unfoldable pub pairLine : List ℕ → ℕ → ℕ → List ℕ
-pairLine word first second = word ++ decimalOf first ++ bytesOf " " ++ decimalOf second ++ bytesOf ")\n"
+pairLine word first second =
+    word ++ decimalOf first ++ bytesOf " " ++ decimalOf second ++ bytesOf ")\n"
 
 -- (end WINDOWS CLOCK)
 unfoldable pub endLine : State → List ℕ

@@ -1,4 +1,5 @@
--- Document 01, "Settled numbers": what is proved of the program *planrun* for every text. Assumes nothing.
+-- Document 01, "Settled numbers": what is proved of the program *planrun* for every text. Assumes
+-- nothing.
 use Prim.Native.Nat.{ℕ, _≤_}
 use mathlib.Core.List.{List}
 use mathlib.Core.Path.{_≡_}

@@ -27,7 +27,9 @@ ghost use Rattle.report.specs.Writing.{Wrote};
 // Writes the lines of a domain's log.
 fn write_domain(out: &mut [u8], at: usize, domain: u32, log: &[u8]) -> usize
     requires { ⌜ at + mostSeenLine * (length (now log) / recordSize) < 2 ^ 64 ⌝ }
-    ensures { λ r. ⌜ Wrote (now (out .entry)) at (domainLines domain (now (log .entry))) (now (out .exit)) r ⌝ }
+    ensures { λ r.
+        ⌜ Wrote (now (out .entry)) at (domainLines domain (now (log .entry)))
+        (now (out .exit)) r ⌝ }
 {
     let count = log.len() / RECORD_SIZE;
     let mut next = at;
@@ -44,7 +46,8 @@ fn write_domains(out: &mut [u8], plan: Plan, state: State, log: &[u8]) -> usize
     requires { ⌜ (planValid plan ≡ true)
         × (stateValid plan (partRecords plan (length (now log))) state ≡ true)
         × (length (now log) ≤ 2 ^ 32) ⌝ }
-    ensures { λ r. ⌜ Wrote (now (out .entry)) 0 (seenLines plan state (now (log .entry)) (plan .domains))
+    ensures { λ r.
+        ⌜ Wrote (now (out .entry)) 0 (seenLines plan state (now (log .entry)) (plan .domains))
         (now (out .exit)) r ⌝ }
 {
     let mut next = 0;
@@ -62,7 +65,9 @@ fn write_run(plan: Plan, state: State, log: &[u8], out: &mut [u8]) -> usize
     requires { ⌜ (planValid plan ≡ true)
         × (stateValid plan (partRecords plan (length (now log))) state ≡ true)
         × (length (now log) ≤ 2 ^ 32) ⌝ }
-    ensures { λ r. ⌜ Wrote (now (out .entry)) 0 (runLines plan state (now (log .entry))) (now (out .exit)) r ⌝ }
+    ensures { λ r.
+        ⌜ Wrote (now (out .entry)) 0 (runLines plan state (now (log .entry)))
+        (now (out .exit)) r ⌝ }
 {
     let next = write_domains(out, plan, state, log);
     write_end(out, next, state)

@@ -1,5 +1,5 @@
-// The lines, each written into a lent buffer from an offset on. Each function answers the offset past
-// what it wrote.
+// The lines, each written into a lent buffer from an offset on. Each function answers the offset
+// past what it wrote.
 use crate::fields::u16_at;
 use crate::fields::u32_at;
 use crate::limits::CLOCK_OFFSET;
@@ -20,7 +20,9 @@ ghost use Rattle.report.specs.Writing.{Wrote};
 // Writes a word and a number behind it.
 fn write_numbered(out: &mut [u8], at: usize, word: &[u8], number: u64) -> usize
     requires { ⌜ at + length (now word) + mostDecimal < 2 ^ 64 ⌝ }
-    ensures { λ r. ⌜ Wrote (now (out .entry)) at (now (word .entry) ++ decimalOf number) (now (out .exit)) r ⌝ }
+    ensures { λ r.
+        ⌜ Wrote (now (out .entry)) at (now (word .entry) ++ decimalOf number)
+        (now (out .exit)) r ⌝ }
 {
     let next = write_bytes(out, at, word);
     write_decimal(out, next, number)
@@ -29,7 +31,9 @@ fn write_numbered(out: &mut [u8], at: usize, word: &[u8], number: u64) -> usize
 // Writes a line of a word and two numbers.
 pub fn write_pair(out: &mut [u8], at: usize, word: &[u8], first: u64, second: u64) -> usize
     requires { ⌜ at + length (now word) + 2 * mostDecimal + 3 < 2 ^ 64 ⌝ }
-    ensures { λ r. ⌜ Wrote (now (out .entry)) at (pairLine (now (word .entry)) first second) (now (out .exit)) r ⌝ }
+    ensures { λ r.
+        ⌜ Wrote (now (out .entry)) at (pairLine (now (word .entry)) first second)
+        (now (out .exit)) r ⌝ }
 {
     let middle = write_numbered(out, at, word, first);
     let end = write_numbered(out, middle, b" ", second);
@@ -77,7 +81,9 @@ fn write_kind_and_value(out: &mut [u8], at: usize, kind: u8, value: u64) -> usiz
 // Writes the line of the record at an offset of a log.
 pub fn write_seen(out: &mut [u8], at: usize, domain: u64, log: &[u8], from: usize) -> usize
     requires { ⌜ (at + mostSeenLine < 2 ^ 64) × (from + recordSize ≤ length (now log)) ⌝ }
-    ensures { λ r. ⌜ Wrote (now (out .entry)) at (seenLine domain (now (log .entry)) from) (now (out .exit)) r ⌝ }
+    ensures { λ r.
+        ⌜ Wrote (now (out .entry)) at (seenLine domain (now (log .entry)) from)
+        (now (out .exit)) r ⌝ }
 {
     let kind = log[from];
     let clock = u32_at(log, from + CLOCK_OFFSET);

@@ -20,7 +20,8 @@ ghost use Rattle.report.specs.Writing.{Wrote};
 // The lines of an accepted plan, run from a fresh start to its end.
 fn run_lines(plan: Plan, scripts: &[u32], out: &mut [u8]) -> usize
     requires { ⌜ planValid plan ≡ true ⌝ }
-    ensures { λ r. ⌜ Wrote (now (out .entry)) 0 (ranLines plan (planrunRun plan (now (scripts .entry)) .world))
+    ensures { λ r.
+        ⌜ Wrote (now (out .entry)) 0 (ranLines plan (planrunRun plan (now (scripts .entry)) .world))
         (now (out .exit)) r ⌝ }
 {
     let mut cache = [0u16; 272];

@@ -10,7 +10,8 @@ use Rattle.lexer.specs.Tokens.{valueAfter, decimalValue, digitsToken, runToken,
 use Rattle.syntax.specs.Ops.{opKeywordAt, opNumbers}
 use Rattle.syntax.specs.Recipients.{recipientAt, mention, recipientsFrom, recipientsAt}
 use Rattle.syntax.specs.Tokens.{sameBytes, isWord, passOpen, passClose, passLineEnd, passWord, takeNumber}
-use Rattle.forms.specs.Forms.{padBody, runBody, lengthBody, windowBody, scriptBody, opBody, listedBody, mayBody, shareBody, domainBody}
+use Rattle.forms.specs.Forms.{padBody, runBody, lengthBody, windowBody, scriptBody, opBody}
+use Rattle.forms.specs.Forms.{listedBody, mayBody, shareBody, domainBody}
 use Rattle.line.specs.Keywords.{formKeywordAt, bodyOf}
 use Rattle.line.specs.Lines.{closedLine, bodyLine, tokenLine, lineAt}
 use Rattle.reader.specs.Draft.{noDraft, noOps, takePad, takeRun, takeDomain, takeWindow, takeOp, takeLine}
@@ -22,7 +23,8 @@ use Rattle.report.specs.Lines.{kindAndValue, seenLine, recordLines, domainLines
 use Rattle.report.specs.Lines.{pairLine, endLine, runLines, refusalLine}
 use Rattle.report.specs.Planrun.{ranLines, planrunOf}
 use Rattle.worked_example.specs.Example.{linesOf}
-use Rattle.worked_example.specs.WorkedExample.{WorkedExample, dirtyTable, firstWindowAt, foundBy, stepAt, tableAfter}
+use Rattle.worked_example.specs.WorkedExample.{WorkedExample, dirtyTable, firstWindowAt}
+use Rattle.worked_example.specs.WorkedExample.{foundBy, stepAt, tableAfter}
 
 -- every definition that reading a text computes with, named once
 reading : ℕ

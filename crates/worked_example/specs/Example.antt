@@ -1,4 +1,5 @@
--- Document 01, "Settled numbers": the plan that is run there, and what is printed for it, line by line. Assumes nothing.
+-- Document 01, "Settled numbers": the plan that is run there, and what is printed for it, line by
+-- line. Assumes nothing.
 use Prim.Native.Nat.{ℕ}
 use Prim.Native.String.{String}
 use mathlib.Core.List.{List, [], _∷_, _++_}

@@ -1,4 +1,5 @@
--- Document 01, "Settled numbers": the eleven entries that are marked to be proved, a field for each, in the paper's order. Assumes nothing.
+-- Document 01, "Settled numbers": the eleven entries that are marked to be proved, a field for
+-- each, in the paper's order. Assumes nothing.
 use Prim.Native.Nat.{ℕ, zero, suc, _-_}
 use Prim.Native.String.{String}
 use mathlib.Core.Bool.{false}
@@ -13,7 +14,8 @@ use Rattle.cache.specs.declared.AccessKind.{AccessKind}
 use Rattle.cache.specs.declared.AccessKind.the-variants.{Hit2, Miss}
 use Rattle.cache.specs.Access.{accessOf}
 use Rattle.cache.specs.Flush.{l1FlushTicks}
-use Rattle.cache.specs.Lines.{cleanEntry, colourOf, dirtyEntry, emptyTable, l1Index, l1Length, setIndex, setOf, waysPerSet}
+use Rattle.cache.specs.Lines.{cleanEntry, colourOf, dirtyEntry, emptyTable}
+use Rattle.cache.specs.Lines.{l1Index, l1Length, setIndex, setOf, waysPerSet}
 use Rattle.ops.specs.Ops.{boxLine}
 use Rattle.state.specs.World.{World, positionAt}
 use Rattle.machine.specs.Fresh.{freshWorld}
@@ -42,7 +44,8 @@ tableAfter (line ∷ lines) table = tableAfter lines (accessOf false line table 
 -- what each of these reads finds
 unfoldable pub foundBy : List ℕ → List ℕ → List AccessKind
 foundBy [] table = []
-foundBy (line ∷ lines) table = accessOf false line table .found ∷ foundBy lines (accessOf false line table .table)
+foundBy (line ∷ lines) table =
+    let access = accessOf false line table in access .found ∷ foundBy lines (access .table)
 
 -- five lines of set 0, which has four ways
 abbrev pub fiveLines : List ℕ
@@ -65,8 +68,12 @@ firstWindowAt clock =
     let fresh = freshWorld (replicate 160 0) in
     record {
       state =
-          record
-          { windows = 0; clock = clock; positions = fresh .state .positions; records = fresh .state .records };
+          record {
+            windows = 0;
+            clock = clock;
+            positions = fresh .state .positions;
+            records = fresh .state .records;
+          };
       cache = fresh .cache;
       boxes = fresh .boxes;
       log = fresh .log;
@@ -100,8 +107,10 @@ pub record WorkedExample : Type 0 where
   pub sixthRead : accessOf false 64 afterFive .found ≡ Hit2
   -- 9: an op at end - 1 begins: the window is still the first, and an op of its script is done
   pub beginsBeforeEnd :
-      (stepAt (firstEnd - 1) .state .windows ≡ 0) × (positionAt (stepAt (firstEnd - 1) .state) 0 ≡ 1)
+      (stepAt (firstEnd - 1) .state .windows ≡ 0)
+      × (positionAt (stepAt (firstEnd - 1) .state) 0 ≡ 1)
   -- 10: at the end none does: the step is a switch
-  pub noneAtEnd : (stepAt firstEnd .state .windows ≡ 1) × (positionAt (stepAt firstEnd .state) 0 ≡ 0)
+  pub noneAtEnd :
+      (stepAt firstEnd .state .windows ≡ 1) × (positionAt (stepAt firstEnd .state) 0 ≡ 0)
   -- 11: the empty text gives 5, offset 0
   pub emptyText : readCode [] ≡ codeWith 5 0

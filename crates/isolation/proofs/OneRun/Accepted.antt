@@ -1,5 +1,5 @@
--- Which calls on a list's own things are refused after it: a step or a run where the script store has not 2,048 numbers, an asking where the domain is
--- not declared, and no other. Assumes nothing.
+-- Which calls on a list's own things are refused after it: a step or a run where the script store has not `scriptsLength`
+-- numbers, a log query where the domain is not declared, and no other. Assumes nothing.
 use Prim.Native.Nat.{ℕ, _<_}
 use mathlib.Core.Bool.{true}
 use mathlib.Core.List.{List}
@@ -20,10 +20,12 @@ use Rattle.machine.specs.Fresh.{freshWorld}
 use Rattle.engine.specs.Running.{stepCallOf}
 use Rattle.engine.proofs.FreshRuns.{reached-accepted}
 use Rattle.engine.proofs.Passing.{log-query-passes}
-use Rattle.isolation.specs.Calls.{Admissible, AllOwn, Call, CallList, IsList, LogThings, RunThings, isRefused, leavesOf, logAnswer, logCall, logStatus, pointOf, runAnswer, runCall, stepAnswer, stepCall, verdictAfter, verdictOf}
+use Rattle.isolation.specs.Calls.{Admissible, AllOwn, Call, CallList, IsList, LogThings, RunThings}
+use Rattle.isolation.specs.Calls.{isRefused, leavesOf, pointOf, verdictAfter, verdictOf}
+use Rattle.isolation.specs.Calls.{logAnswer, logCall, logStatus, runAnswer, runCall, stepAnswer, stepCall}
 use Rattle.isolation.specs.Points.{FreshRun, worldAfter}
 use Rattle.isolation.specs.Statement.{runOfList}
-use Rattle.isolation.proofs.OneRun.Calls.{all-own, all-own-asked}
+use Rattle.isolation.proofs.OneRun.Calls.{all-own, all-own-log}
 use Rattle.isolation.proofs.OneRun.Leaves.{leaves, list-valid}
 use Rattle.isolation.proofs.OneRun.Verdicts.{run-verdict, wrong-domain, wrong-store}
 
@@ -67,15 +69,15 @@ module _ (plan : Plan) (scripts : List ℕ) (world : World) where
   own-log-query : (things : LogThings) (domain : ℕ) → AllOwn (logCall things domain)
       → logAnswer plan scripts things domain world ≡ logStatusOf plan (world .state) (world .log) domain
   unfolding logAnswer
-  own-log-query things domain owned = ap (λ handed-things. logAnswer plan scripts handed-things domain world) (all-own-asked things owned)
+  own-log-query things domain owned = ap (λ handed-things. logAnswer plan scripts handed-things domain world) (all-own-log things owned)
 
 -- ---- a call after a list
 
 module _ (list : CallList) (is : IsList list) where
-  -- an asking for a declared domain's log is not refused after any list
-  pub asked : (domain : ℕ) → domain < list .plan .domains
+  -- a query for a declared domain's log is not refused after any list
+  pub queried : (domain : ℕ) → domain < list .plan .domains
       → logStatusOf (list .plan) (leavesOf list .state) (leavesOf list .log) domain ≡ Accepted
-  asked domain declared =
+  queried domain declared =
       subst (λ world. logStatusOf (list .plan) (world .state) (world .log) domain ≡ Accepted) (sym (leaves list is))
       (log-query-accepted (runOfList list) (pointOf list) (list-valid list is) domain declared)
 
@@ -85,9 +87,9 @@ module _ (list : CallList) (is : IsList list) where
       (run-verdict-accepted (runOfList list) (pointOf list) (list-valid list is) store)
 
   -- and for an undeclared one's it is
-  not-asked : (domain : ℕ) → (domain < list .plan .domains → ⊥)
+  not-queried : (domain : ℕ) → (domain < list .plan .domains → ⊥)
       → logStatusOf (list .plan) (leavesOf list .state) (leavesOf list .log) domain ≡ Refused (WrongDomain 0)
-  not-asked domain undeclared =
+  not-queried domain undeclared =
       subst (λ world. logStatusOf (list .plan) (world .state) (world .log) domain ≡ Refused (WrongDomain 0)) (sym (leaves list is))
       (log-query-refused (runOfList list) (pointOf list) (list-valid list is) domain undeclared)
 
@@ -97,9 +99,9 @@ module _ (list : CallList) (is : IsList list) where
   own-accepted (stepCall things) owned store = own-step (list .plan) (list .scripts) (leavesOf list) things owned ∙ own-verdict store
   own-accepted (runCall things limit) owned store = own-run (list .plan) (list .scripts) (leavesOf list) things limit owned ∙ own-verdict store
   own-accepted (logCall things domain) owned declared =
-      own-log-query (list .plan) (list .scripts) (leavesOf list) things domain owned ∙ asked domain declared
+      own-log-query (list .plan) (list .scripts) (leavesOf list) things domain owned ∙ queried domain declared
   own-accepted (logStatus things domain) owned declared =
-      own-log-query (list .plan) (list .scripts) (leavesOf list) things domain owned ∙ asked domain declared
+      own-log-query (list .plan) (list .scripts) (leavesOf list) things domain owned ∙ queried domain declared
 
   -- and any other is
   pub own-refused : (call : Call) → AllOwn call → (Admissible (list .plan) (list .scripts) call → ⊥) → isRefused (verdictAfter list call) ≡ true
@@ -111,6 +113,6 @@ module _ (list : CallList) (is : IsList list) where
       ap isRefused
       (own-run (list .plan) (list .scripts) (leavesOf list) things limit owned ∙ wrong-store (list .plan) (list .scripts) (leavesOf list) differs)
   own-refused (logCall things domain) owned undeclared =
-      ap isRefused (own-log-query (list .plan) (list .scripts) (leavesOf list) things domain owned ∙ not-asked domain undeclared)
+      ap isRefused (own-log-query (list .plan) (list .scripts) (leavesOf list) things domain owned ∙ not-queried domain undeclared)
   own-refused (logStatus things domain) owned undeclared =
-      ap isRefused (own-log-query (list .plan) (list .scripts) (leavesOf list) things domain owned ∙ not-asked domain undeclared)
+      ap isRefused (own-log-query (list .plan) (list .scripts) (leavesOf list) things domain owned ∙ not-queried domain undeclared)

@@ -10,7 +10,9 @@ use Rattle.records.specs.Records.{partRecords}
 use Rattle.state.specs.World.{World}
 use Rattle.machine.specs.Steps.{runOf, steps}
 use Rattle.engine.specs.Running.{stepCallOf}
-use Rattle.isolation.specs.Calls.{AllOwn, Call, Handed, IsOwn, LogThings, OwnQuery, OwnRun, RunThings, afterCall, foreign, handed, handedWorld, isRefused, leftIn, leftWorld, logCall, logStatus, own, runAnswer, runCall, stepAnswer, stepCall, stepsAsked, stepsCounted, verdictOf}
+use Rattle.isolation.specs.Calls.{AllOwn, Call, Handed, IsOwn, LogThings, OwnQuery, OwnRun, RunThings, foreign, own}
+use Rattle.isolation.specs.Calls.{handed, handedWorld, leftIn, leftWorld, logCall, logStatus, runCall, stepCall}
+use Rattle.isolation.specs.Calls.{afterCall, isRefused, runAnswer, stepAnswer, stepsAsked, stepsCounted, verdictOf}
 use Rattle.isolation.proofs.OneRun.Verdicts.{run-accepted, run-refused}
 
 -- a thing that a call left as it was handed leaves the list's own as it was
@@ -36,12 +38,12 @@ all-own things owned =
     let log = is-own (things .log) (owned .5) in
     λ i. record { plan = plan i; scripts = scripts i; state = state i; cache = cache i; boxes = boxes i; log = log i }
 
--- everything that an asking takes is the list's own
-abbrev pub ownAsked : LogThings
-ownAsked = record { plan = own; state = own; log = own }
+-- everything that a log query takes is the list's own
+abbrev pub ownLogThings : LogThings
+ownLogThings = record { plan = own; state = own; log = own }
 
-pub all-own-asked : (things : LogThings) → OwnQuery things → things ≡ ownAsked
-all-own-asked things owned =
+pub all-own-log : (things : LogThings) → OwnQuery things → things ≡ ownLogThings
+all-own-log things owned =
     let plan = is-own (things .plan) (owned .0) in
     let state = is-own (things .state) (owned .1) in
     let log = is-own (things .log) (owned .2) in

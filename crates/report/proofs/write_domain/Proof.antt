@@ -1,4 +1,5 @@
--- `report::write_domain` meets its contract. The loop's invariant: the lines of the records passed are written. Assumes nothing.
+-- `report::write_domain` meets its contract. The loop's invariant: the lines of the records passed are written.
+-- Assumes nothing.
 use mathlib.Core.Path.{_∙_, _≡_, ap, refl}
 use Prim.Native.Nat.{_*_, _-_, _/_, _≤_}
 use native.Mathlib.Numerals.{add-one}

@@ -1,4 +1,5 @@
--- `report::write_domains` meets its contract. The loop's invariant: the logs of the domains passed are written. Assumes nothing.
+-- `report::write_domains` meets its contract. The loop's invariant: the logs of the domains passed are written.
+-- Assumes nothing.
 use mathlib.Core.Path.{_∙_, _≡_, ap, refl, subst}
 use Prim.Native.Nat.{ℕ, _-_, _≤_}
 use native.Mathlib.Numerals.{add-one}
@@ -58,7 +59,8 @@ loop-again c =
     let next = domainLines (l .domain) (logQueryOf (args .plan) (args .state) (args .log .now) (l .domain)) in (
       omega (arith, own .before .if1 .taken),
       rw (add-one (l .domain))
-          (wrote-both (args .out .now) 0 passed next (l .inv .1) (rw (own .log-of .ensures) at (c .before .before .write-domain .ensures))),
+          (wrote-both (args .out .now) 0 passed next (l .inv .1)
+          (rw (own .log-of .ensures) at (c .before .before .write-domain .ensures))),
     )
 
 returns : tie.Need-returns Inv-loop μ-loop
@@ -66,8 +68,8 @@ returns c =
     let l = c .before .before .loop in
     let args = c .before .before .before .before .before .args in
     let all : l .domain ≡ args .plan .domains = omega arith in
-    subst (λ (n : ℕ). Wrote (args .out .now) 0 (seenLines (args .plan) (args .state) (args .log .now) n) (l .out) (l .next))
-    all (l .inv .1)
+    let lines = seenLines (args .plan) (args .state) (args .log .now) in
+    subst (λ (n : ℕ). Wrote (args .out .now) 0 (lines n) (l .out) (l .next)) all (l .inv .1)
 
 pub write-domains-spec : {M : Type 1} → statement M
 write-domains-spec =

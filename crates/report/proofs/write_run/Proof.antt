@@ -19,7 +19,8 @@ write-end-requires c κs =
     omega (
       arith,
       written .write-domains .ensures .0,
-      domains-limit plan (start .args .state) log (domains-most plan (start .pre .0)) (start .pre .1) (plan .domains) (omega arith),
+      domains-limit plan (start .args .state) log (domains-most plan (start .pre .0)) (start .pre .1)
+          (plan .domains) (omega arith),
       parts-fit plan (length log),
       start .pre .2,
     )

@@ -45,7 +45,9 @@ returns c =
     wrote-both (args .out .now) (args .at)
     (bytesOf " (" ++ word ++ bytesOf " " ++ decimalOf (args .value)) (bytesOf "))\n")
     (wrote-three (args .out .now) (args .at) (bytesOf " (" ++ word) (bytesOf " ") (decimalOf (args .value))
-    (wrote-both (args .out .now) (args .at) (bytesOf " (") word (first .write-bytes .ensures) (second .write-kind .ensures))
+    (wrote-both (args .out .now) (args .at) (bytesOf " (") word
+    (first .write-bytes .ensures)
+    (second .write-kind .ensures))
     (third .write-numbered .ensures))
     (fourth .write-bytes2 .ensures)
 

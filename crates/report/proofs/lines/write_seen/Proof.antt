@@ -60,7 +60,9 @@ returns c =
     let value = first .before .before .before .u16-at in
     let clock = first .before .before .before .before .u32-at in
     let args = first .before .before .before .before .before .before .before .before .args in
-    seen-written (args .out .now) (args .log .now) (args .at) (args .domain) (args .from) (clock .result) (value .result)
+    seen-written (args .out .now) (args .log .now) (args .at) (args .domain) (args .from)
+    (clock .result)
+    (value .result)
     (clock .ensures)
     (value .ensures .0)
     (first .write-numbered .ensures)
