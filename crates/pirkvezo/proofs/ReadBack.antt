@@ -28,10 +28,10 @@ read-long text scripts =
     read-holds (λ read. PlanLengths (read .plan)) text scripts (λ why. zeros-long)
     (λ fits final.
     record {
-      shares = good .domains .share-places;
-      rights = good .domains .right-places;
-      owners = good .windows .owner-places;
-      lengths = good .windows .length-places;
+      shares = good .domains .shares-size;
+      rights = good .domains .rights-size;
+      owners = good .windows .owners-size;
+      lengths = good .windows .lengths-size;
       masks = masks-length (linesOf text .draft .plan) mostDomains 0;
     })
 

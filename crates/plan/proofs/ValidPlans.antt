@@ -35,8 +35,8 @@ pub record Possible (plan : Plan) : Type 0 where
 
 pub parts : (plan : Plan) → planValid plan ≡ true → Possible plan
 unfolding planValid
-parts plan possible =
-    let sixth = both _ _ possible in
+parts plan valid =
+    let sixth = both _ _ valid in
     let fifth = both _ _ (sixth .0) in
     let fourth = both _ _ (fifth .0) in
     let third = both _ _ (fourth .0) in
@@ -63,8 +63,8 @@ pub record Counts (plan : Plan) : Type 0 where
 
 pub counts-of : (plan : Plan) → countsValid plan ≡ true → Counts plan
 unfolding countsValid
-counts-of plan possible =
-    let third = both _ _ possible in
+counts-of plan valid =
+    let third = both _ _ valid in
     let second = both _ _ (third .0) in
     let first = both _ _ (second .0) in
     let pad = limits _ _ _ (first .0) in
@@ -83,7 +83,7 @@ counts-of plan possible =
     }
 
 pub counts : (plan : Plan) → planValid plan ≡ true → Counts plan
-counts plan possible = counts-of plan (parts plan possible .counts)
+counts plan valid = counts-of plan (parts plan valid .counts)
 
 -- a declared domain
 pub record Declared (plan : Plan) (domain : ℕ) : Type 0 where
@@ -94,17 +94,17 @@ pub record Declared (plan : Plan) (domain : ℕ) : Type 0 where
   pub not-own : maySend plan domain domain ≡ false
   pub mask : maskAt plan domain ≡ maskOf plan domain
 
--- the mask at a place
+-- the mask at an index
 mask-at :
     (plan : Plan) (domain : ℕ) → planValid plan ≡ true → domain < mostDomains → maskAt plan domain ≡ maskFor plan domain
 unfolding maskValid
-mask-at plan domain possible below = eqb-true _ _ (all-below (maskValid plan) mostDomains domain (parts plan possible .masks) below)
+mask-at plan domain valid below = eqb-true _ _ (all-below (maskValid plan) mostDomains domain (parts plan valid .masks) below)
 
 pub declared : (plan : Plan) (domain : ℕ) → planValid plan ≡ true → domain < plan .domains → Declared plan domain
 unfolding domainValid declaredValid
-declared plan domain possible below =
-    let most : plan .domains ≤ mostDomains = counts plan possible .domains-most in
-    let whole : domainValid plan domain ≡ true = all-below (domainValid plan) mostDomains domain (parts plan possible .domains) (omega arith) in
+declared plan domain valid below =
+    let most : plan .domains ≤ mostDomains = counts plan valid .domains-most in
+    let whole : domainValid plan domain ≡ true = all-below (domainValid plan) mostDomains domain (parts plan valid .domains) (omega arith) in
     let own : declaredValid plan domain ≡ true = rw (lt-ltb domain (plan .domains) below) at whole in
     let fourth = both _ _ own in
     let third = both _ _ (fourth .0) in
@@ -116,10 +116,10 @@ declared plan domain possible below =
       colour = leb-true _ _ (second .1);
       rights-most = ltb-true _ _ (third .1);
       not-own = not-true _ (fourth .1);
-      mask = rw (lt-ltb domain (plan .domains) below) at (mask-at plan domain possible (omega arith));
+      mask = rw (lt-ltb domain (plan .domains) below) at (mask-at plan domain valid (omega arith));
     }
 
--- a place that no domain is declared for
+-- an entry that no domain is declared for
 pub record Undeclared (plan : Plan) (domain : ℕ) : Type 0 where
   pub share : shareOf plan domain ≡ 0
   pub rights : rightsAt plan domain ≡ 0
@@ -127,14 +127,14 @@ pub record Undeclared (plan : Plan) (domain : ℕ) : Type 0 where
 
 pub undeclared : (plan : Plan) (domain : ℕ) → planValid plan ≡ true → plan .domains ≤ domain → domain < mostDomains → Undeclared plan domain
 unfolding domainValid undeclaredValid
-undeclared plan domain possible past below =
-    let whole : domainValid plan domain ≡ true = all-below (domainValid plan) mostDomains domain (parts plan possible .domains) below in
+undeclared plan domain valid past below =
+    let whole : domainValid plan domain ≡ true = all-below (domainValid plan) mostDomains domain (parts plan valid .domains) below in
     let none : undeclaredValid plan domain ≡ true = rw (le-ltb domain (plan .domains) past) at whole in
     let second = both _ _ none in
     record {
       share = eqb-true _ _ (second .0);
       rights = eqb-true _ _ (second .1);
-      mask = rw (le-ltb domain (plan .domains) past) at (mask-at plan domain possible below);
+      mask = rw (le-ltb domain (plan .domains) past) at (mask-at plan domain valid below);
     }
 
 -- a declared window
@@ -145,15 +145,15 @@ pub record DeclaredWindow (plan : Plan) (slot : ℕ) : Type 0 where
 
 pub declared-window : (plan : Plan) (slot : ℕ) → planValid plan ≡ true → slot < plan .windows → DeclaredWindow plan slot
 unfolding windowValid
-declared-window plan slot possible below =
-    let most : plan .windows ≤ mostWindows = counts plan possible .windows-most in
-    let whole : windowValid plan slot ≡ true = all-below (windowValid plan) mostWindows slot (parts plan possible .windows) (omega arith) in
+declared-window plan slot valid below =
+    let most : plan .windows ≤ mostWindows = counts plan valid .windows-most in
+    let whole : windowValid plan slot ≡ true = all-below (windowValid plan) mostWindows slot (parts plan valid .windows) (omega arith) in
     let own = rw (lt-ltb slot (plan .windows) below) at whole in
     let second = both _ _ own in
     let length = limits _ _ _ (second .1) in
     record { owner = ltb-true _ _ (second .0); length-least = length .0; length-most = length .1 }
 
--- where every place for a domain is possible, no share is over 1,000
+-- where every entry for a domain is valid, no share is over its limit
 pub shares-most :
     (plan : Plan) → allBelow (domainValid plan) mostDomains ≡ true → (domain : ℕ) → domain < mostDomains → getD (plan .shares) domain 0 ≤ mostShare
 unfolding domainValid declaredValid undeclaredValid
@@ -163,7 +163,7 @@ shares-most plan all domain below = go (ltb domain (plan .domains)) (all-below (
     go true own = limits _ _ _ (both _ _ (both _ _ (both _ _ own .0) .0) .0) .1
     go false none = let zero : shareOf plan domain ≡ 0 = eqb-true _ _ (both _ _ none .0) in omega arith
 
--- where every place for a window is possible, no length is over 1,000,000
+-- where every entry for a window is valid, no length is over its limit
 pub lengths-most :
     (plan : Plan) → allBelow (windowValid plan) mostWindows ≡ true → (slot : ℕ) → slot < mostWindows → getD (plan .lengths) slot 0 ≤ mostLength
 unfolding windowValid

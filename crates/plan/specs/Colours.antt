@@ -1,4 +1,5 @@
--- Document 01, "The core and its tables": a domain's share, its colours, its mask and its holding. Assumes nothing.
+-- Document 01, "The core and its tables": a domain's share, its colours, its mask and its holding.
+-- Assumes nothing.
 use Prim.Native.Nat.{ℕ, zero, suc, _+_, _*_, _-_, _/_, _%_, _^_}
 use mathlib.Core.Bool.{Bool, cond}
 use mathlib.Core.List.{List, [], _∷_}

@@ -28,7 +28,7 @@ use Rattle.lexer.proofs.Reached.{cond-holds}
 use Rattle.refusal.proofs.Passed.{both-passed, not-refused, unless-passed, when-passed}
 use Rattle.reader.proofs.GoodDraft.{GoodDraft}
 use Rattle.reader.proofs.HighBits.{high-off}
-use Rattle.reader.proofs.LastChecks.{Passes, coloured-each, passes, undeclared-none}
+use Rattle.reader.proofs.LastChecks.{Passes, coloured-each, mentions-none, passes}
 use Rattle.reader.proofs.Walking.{lines-good}
 use Rattle.reader.specs.declared.Draft.{Draft}
 use Rattle.reader.specs.Final.{finalVerdict, lacking, planWithMasks}
@@ -77,8 +77,8 @@ module _ (draft : Draft) (good : GoodDraft draft) (fine : Passes draft) where
       let here = good .domains .declared domain below in
       let gap = mostDomains - draft .plan .domains in
       let whole : draft .plan .domains + gap ≡ mostDomains = omega (arith, good .domains .most) in
-      high-off gap _ (draft .plan .domains) (rw whole (here .small)) (λ place from most has.
-      here .noted place has (undeclared-none (draft .named) (draft .plan .domains) mostDomains place (fine .all-declared) (omega arith) from))
+      high-off gap _ (draft .plan .domains) (rw whole (here .small)) (λ index from most has.
+      here .noted index has (mentions-none (draft .named) _ _ index (fine .all-declared) from (omega arith)))
 
   -- the masks are those that the shares give
   mask-pass : (domain : ℕ) → domain < mostDomains → maskValid (planOf draft) domain ≡ true

@@ -43,9 +43,9 @@ pub record GoodDomain (share rights own : ℕ) (named : List ℕ) : Type 0 where
 
 pub record GoodDomains (count : ℕ) (shares rights named : List ℕ) : Type 0 where
   pub most : count ≤ mostDomains
-  pub share-places : length shares ≡ mostDomains
-  pub right-places : length rights ≡ mostDomains
-  pub named-places : length named ≡ mostDomains
+  pub shares-size : length shares ≡ mostDomains
+  pub rights-size : length rights ≡ mostDomains
+  pub named-size : length named ≡ mostDomains
   pub declared : (domain : ℕ) → domain < count → GoodDomain (getD shares domain 0) (getD rights domain 0) domain named
   pub undeclared : (domain : ℕ) → count ≤ domain → (getD shares domain 0 ≡ 0) × (getD rights domain 0 ≡ 0)
 
@@ -56,9 +56,9 @@ domain-next : (count share own-rights : ℕ) (shares rights named marked : List 
 domain-next count share own-rights shares rights named marked so-far next low high recorded =
     record {
       most = omega arith;
-      share-places = length-set shares count share ∙ so-far .share-places;
-      right-places = length-set rights count own-rights ∙ so-far .right-places;
-      named-places = recorded .size ∙ so-far .named-places;
+      shares-size = length-set shares count share ∙ so-far .shares-size;
+      rights-size = length-set rights count own-rights ∙ so-far .rights-size;
+      named-size = recorded .size ∙ so-far .named-size;
       declared = λ domain below. same-or-not domain count (λ same. rw same here) (λ differ. earlier domain differ (omega arith));
       undeclared = λ domain past. rw (past-share domain (omega arith), past-rights domain (omega arith)) (so-far .undeclared domain (omega arith));
     }
@@ -72,8 +72,8 @@ domain-next count share own-rights shares rights named marked so-far next low hi
     here : GoodDomain (getD (set shares count share) count 0) (getD (set rights count own-rights) count 0) count marked
     here =
         rw (
-          getD-set-same shares count share 0 (omega (arith, so-far .share-places)),
-          getD-set-same rights count own-rights 0 (omega (arith, so-far .right-places)),
+          getD-set-same shares count share 0 (omega (arith, so-far .shares-size)),
+          getD-set-same rights count own-rights 0 (omega (arith, so-far .rights-size)),
         )
         record { share-least = low; share-most = high; small = recorded .small; not-own = recorded .not-own; noted = recorded .noted }
 
@@ -99,8 +99,8 @@ pub record GoodWindow (declared owner length : ℕ) : Type 0 where
 
 pub record GoodWindows (declared count : ℕ) (owners lengths : List ℕ) : Type 0 where
   pub most : count ≤ mostWindows
-  pub owner-places : length owners ≡ mostWindows
-  pub length-places : length lengths ≡ mostWindows
+  pub owners-size : length owners ≡ mostWindows
+  pub lengths-size : length lengths ≡ mostWindows
   pub window : (slot : ℕ) → slot < count → GoodWindow declared (getD owners slot 0) (getD lengths slot 0)
   pub no-window : (slot : ℕ) → count ≤ slot → (getD owners slot 0 ≡ 0) × (getD lengths slot 0 ≡ 0)
 
@@ -109,8 +109,8 @@ windows-kept : (declared count : ℕ) (owners lengths : List ℕ) → GoodWindow
 windows-kept declared count owners lengths so-far =
     record {
       most = so-far .most;
-      owner-places = so-far .owner-places;
-      length-places = so-far .length-places;
+      owners-size = so-far .owners-size;
+      lengths-size = so-far .lengths-size;
       window = λ slot below.
           let before = so-far .window slot below in
           record { owned = omega (arith, before .owned); least = before .least; most = before .most };
@@ -122,8 +122,8 @@ window-next : (declared count owner ticks : ℕ) (owners lengths : List ℕ) →
 window-next declared count owner ticks owners lengths so-far room fresh =
     record {
       most = omega arith;
-      owner-places = length-set owners count owner ∙ so-far .owner-places;
-      length-places = length-set lengths count ticks ∙ so-far .length-places;
+      owners-size = length-set owners count owner ∙ so-far .owners-size;
+      lengths-size = length-set lengths count ticks ∙ so-far .lengths-size;
       window = λ slot below. same-or-not slot count (λ same. rw same here) (λ differ. rw (past-owner slot differ, past-length slot differ) (so-far .window slot (omega arith)));
       no-window = λ slot past. rw (past-owner slot (omega arith), past-length slot (omega arith)) (so-far .no-window slot (omega arith));
     }
@@ -137,8 +137,8 @@ window-next declared count owner ticks owners lengths so-far room fresh =
     here : GoodWindow declared (getD (set owners count owner) count 0) (getD (set lengths count ticks) count 0)
     here =
         rw (
-          getD-set-same owners count owner 0 (omega (arith, so-far .owner-places)),
-          getD-set-same lengths count ticks 0 (omega (arith, so-far .length-places)),
+          getD-set-same owners count owner 0 (omega (arith, so-far .owners-size)),
+          getD-set-same lengths count ticks 0 (omega (arith, so-far .lengths-size)),
         ) fresh
 
 -- ---- the draft
@@ -154,7 +154,7 @@ pub record GoodPlan (plan : Plan) (named : List ℕ) : Type 0 where
 abbrev pub GoodDraft : Draft → Type 0
 GoodDraft draft = GoodPlan (draft .plan) (draft .named)
 
--- every share and every length is within its limit, at every place
+-- every share and every length is within its limit, at every index
 module _ {plan : Plan} {named : List ℕ} (good : GoodPlan plan named) where
   pub shares-most : (domain : ℕ) → getD (plan .shares) domain 0 ≤ mostShare
   shares-most domain = go (ltb domain (plan .domains)) refl
@@ -171,14 +171,14 @@ module _ {plan : Plan} {named : List ℕ} (good : GoodPlan plan named) where
       go false e = let none = good .windows .no-window slot (ltb-false _ _ e) .1 in omega arith
 
 -- an array of zeros
-zeros : (count place : ℕ) → _≡_ {A = ℕ} (getD (replicate count 0) place 0) 0
-zeros count place = go (ltb place count) refl
+zeros : (count index : ℕ) → _≡_ {A = ℕ} (getD (replicate count 0) index 0) 0
+zeros count index = go (ltb index count) refl
   where
-    go : (test : Bool) → ltb place count ≡ test → _≡_ {A = ℕ} (getD (replicate count 0) place 0) 0
-    go true e = getD-replicate count place 0 0 (ltb-true place count e)
+    go : (test : Bool) → ltb index count ≡ test → _≡_ {A = ℕ} (getD (replicate count 0) index 0) 0
+    go true e = getD-replicate count index 0 0 (ltb-true index count e)
     go false e =
         let none : List ℕ = replicate count 0 in
-        let past : length none ≤ place = rw (length-replicate {A = ℕ} count 0) (ltb-false place count e) in
+        let past : length none ≤ index = rw (length-replicate {A = ℕ} count 0) (ltb-false index count e) in
         List·getD-eq-default none 0 past
 
 pub draft-first : GoodDraft noDraft
@@ -191,17 +191,17 @@ draft-first =
       domains =
           record {
             most = omega arith;
-            share-places = refl;
-            right-places = refl;
-            named-places = refl;
+            shares-size = refl;
+            rights-size = refl;
+            named-size = refl;
             declared = λ domain below. absurd (omega arith);
             undeclared = λ domain past. (zeros mostDomains domain, zeros mostDomains domain);
           };
       windows =
           record {
             most = omega arith;
-            owner-places = refl;
-            length-places = refl;
+            owners-size = refl;
+            lengths-size = refl;
             window = λ slot below. absurd (omega arith);
             no-window = λ slot past. (zeros mostWindows slot, zeros mostWindows slot);
           };

@@ -31,7 +31,7 @@ use Rattle.reader.specs.Read.{draftLine, linesOf, walkFrom}
 pub next-good : (text : List ℕ) (at : ℕ) (draft : Draft) → GoodDraft draft → at < length text
     → GoodLine text (draft .plan .domains) (draft .named) at (draftLine text at draft)
 next-good text at draft so-far below =
-    line-good text (draft .plan .domains) (draft .named) at (so-far .domains .named-places) (omega arith)
+    line-good text (draft .plan .domains) (draft .named) at (so-far .domains .named-size) (omega arith)
 
 -- it reaches at least as far as it began
 taken-reaches : (form : Form) (declared bracket at end : ℕ) (named marked : List ℕ) (draft : Draft) (store : List ℕ)

@@ -12,9 +12,8 @@ use refusal::Refusal;
 use refusal::Verdict;
 ghost use mathlib.Core.Path.{_≡_};
 ghost use Rattle.plan.specs.Bounds.{ColoursBounded, SharesBounded, TicksBounded};
-ghost use Rattle.plan.specs.Limits.{mostDomains};
-ghost use Rattle.reader.specs.Final.{finalVerdict, firstColourless, firstOffset};
-ghost use Rattle.reader.specs.Final.{firstUndeclared, lacking, planWithMasks};
+ghost use Rattle.reader.specs.Final.{earlierKept, finalVerdict, firstColourless};
+ghost use Rattle.reader.specs.Final.{lacking, mayVerdict, planWithMasks, undeclaredMentions};
 
 // No pad, domain, window or run.
 fn is_lacking(plan: Plan) -> bool
@@ -24,8 +23,8 @@ fn is_lacking(plan: Plan) -> bool
 }
 
 // The earlier of two offsets, each plus one, or 0 for none.
-fn first_offset(a: usize, b: usize) -> usize
-    ensures { λ r. ⌜ r ≡ firstOffset a b ⌝ }
+fn earlier_kept(a: usize, b: usize) -> usize
+    ensures { λ r. ⌜ r ≡ earlierKept a b ⌝ }
 {
     if a == 0 {
         return b;
@@ -36,19 +35,20 @@ fn first_offset(a: usize, b: usize) -> usize
     if a <= b { a } else { b }
 }
 
-// Where the text first names an undeclared domain as a recipient: an offset plus one, or 0 for none.
-fn first_undeclared(named: [usize; DOMAIN_ENTRIES], declared: u32) -> usize
-    ensures { λ r. ⌜ r ≡ firstUndeclared named declared mostDomains ⌝ }
+// Whether some list names a domain that is not declared: where the text does so first.
+fn may_verdict(named: [usize; DOMAIN_ENTRIES], declared: u32) -> Verdict
+    ensures { λ r. ⌜ r ≡ mayVerdict (undeclaredMentions named declared) ⌝ }
 {
     let mut found: usize = 0;
-    let mut domain: usize = 0;
+    let mut domain = declared as usize;
     while domain < DOMAIN_ENTRIES {
-        if declared as usize <= domain {
-            found = first_offset(found, named[domain]);
-        }
+        found = earlier_kept(found, named[domain]);
         domain += 1;
     }
-    found
+    if found == 0 {
+        return Verdict::Accepted;
+    }
+    Verdict::Refused(Refusal::WrongDomain(found - 1))
 }
 
 // The lowest domain whose share gives no colour, or the number of domains.
@@ -78,9 +78,9 @@ pub fn final_verdict(length: usize, draft: Draft) -> Verdict
         return Verdict::Refused(Refusal::RepeatedOrMissing(length));
     }
     let named = draft.named;
-    let undeclared = first_undeclared(named, plan.domains);
-    if 0 < undeclared {
-        return Verdict::Refused(Refusal::WrongDomain(undeclared - 1));
+    let recipients = may_verdict(named, plan.domains);
+    if let Verdict::Refused(refusal) = recipients {
+        return Verdict::Refused(refusal);
     }
     let total = shares_total(plan) as usize;
     if (MOST_SHARES as usize) < total {

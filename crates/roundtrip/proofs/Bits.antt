@@ -26,10 +26,10 @@ bit-clear rights domain lacks =
     let turned : domain + 1 ≡ 1 + domain = omega arith in
     rw (turned, mod-pow-add rights 1 domain, none) (omega arith)
 
-not-bit : (mask place : ℕ) → (hasBit mask place ≡ true → ⊥) → hasBit mask place ≡ false
-not-bit mask place never = go (hasBit mask place) refl
+not-bit : (mask index : ℕ) → (hasBit mask index ≡ true → ⊥) → hasBit mask index ≡ false
+not-bit mask index never = go (hasBit mask index) refl
   where
-    go : (b : Bool) → hasBit mask place ≡ b → hasBit mask place ≡ false
+    go : (b : Bool) → hasBit mask index ≡ b → hasBit mask index ≡ false
     go true e = absurd (never e)
     go false e = e
 

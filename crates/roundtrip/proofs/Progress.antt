@@ -19,7 +19,7 @@ use Rattle.plan.specs.Limits.{mostDomains, mostWindows}
 use Rattle.reader.specs.Draft.{DraftOutcome, noOps, outcomeOf, takeDomain, takeForm, takePad, takeRun, takeWindow, taken}
 use Rattle.roundtrip.specs.Lines.{domainLine, linesFrom, padLine, planLines, runLine, windowLine}
 use Rattle.roundtrip.proofs.Domains.{domain-reads}
-use Rattle.roundtrip.proofs.Filled.{filled-more, firstPlaces}
+use Rattle.roundtrip.proofs.Filled.{filled-more, firstEntries}
 use Rattle.roundtrip.proofs.Forms.{pad-reads, run-reads, window-reads}
 use Rattle.roundtrip.proofs.Walk.{Stands, draftWith, next-line}
 
@@ -27,8 +27,8 @@ use Rattle.roundtrip.proofs.Walk.{Stands, draftWith, next-line}
 abbrev pub soFar : Plan → ℕ → ℕ → ℕ → ℕ → Plan
 soFar plan pad run domains windows =
     planFrom pad run
-    (record { count = domains; shares = firstPlaces domains (plan .shares); rights = firstPlaces domains (plan .rights) })
-    (record { count = windows; owners = firstPlaces windows (plan .owners); lengths = firstPlaces windows (plan .lengths) })
+    (record { count = domains; shares = firstEntries domains (plan .shares); rights = firstEntries domains (plan .rights) })
+    (record { count = windows; owners = firstEntries windows (plan .owners); lengths = firstEntries windows (plan .lengths) })
     (replicate mostDomains 0)
 
 -- ---- what a form adds
@@ -66,7 +66,7 @@ module _ (plan : Plan) (named : List ℕ) (bracket : ℕ) where
 
 -- ---- line by line
 
-module _ (text : List ℕ) (whole : DraftOutcome) (plan : Plan) (possible : planValid plan ≡ true) where
+module _ (text : List ℕ) (whole : DraftOutcome) (plan : Plan) (valid : planValid plan ≡ true) where
   -- these lines are left, and this much of the plan is read
   abbrev Left : List (List ℕ) → Plan → Type 0
   Left lines before = Stands text whole (plan .domains) lines before
@@ -74,7 +74,7 @@ module _ (text : List ℕ) (whole : DraftOutcome) (plan : Plan) (possible : plan
   pad-stands : (more : List (List ℕ)) → Left (padLine plan ∷ more) (soFar plan 0 0 0 0) → Left more (soFar plan (plan .pad) 0 0 0)
   unfolding padLine bytesOf
   pad-stands more stands =
-      let count = counts plan possible in
+      let count = counts plan valid in
       next-line text whole (plan .domains) (padLine plan) more _ _ (omega arith)
       (λ at named quiet left.
       record {
@@ -92,7 +92,7 @@ module _ (text : List ℕ) (whole : DraftOutcome) (plan : Plan) (possible : plan
       → Left more (soFar plan pad (plan .run) domains windows)
   unfolding runLine bytesOf
   run-stands pad domains windows more stands =
-      let count = counts plan possible in
+      let count = counts plan valid in
       next-line text whole (plan .domains) (runLine plan) more _ _ (omega arith)
       (λ at named quiet left.
       record {
@@ -111,8 +111,8 @@ module _ (text : List ℕ) (whole : DraftOutcome) (plan : Plan) (possible : plan
       → Left more (soFar plan pad 0 (domain + 1) 0)
   unfolding domainLine bytesOf
   domain-stands pad domain more below stands =
-      let count = counts plan possible in
-      let own = declared plan domain possible below in
+      let count = counts plan valid in
+      let own = declared plan domain valid below in
       next-line text whole (plan .domains) (domainLine plan domain) more _ _ (omega arith)
       (λ at named quiet left.
       let line =
@@ -134,8 +134,8 @@ module _ (text : List ℕ) (whole : DraftOutcome) (plan : Plan) (possible : plan
       → Left more (soFar plan pad 0 (plan .domains) (slot + 1))
   unfolding windowLine bytesOf
   window-stands pad slot more below stands =
-      let count = counts plan possible in
-      let own = declared-window plan slot possible below in
+      let count = counts plan valid in
+      let own = declared-window plan slot valid below in
       next-line text whole (plan .domains) (windowLine plan slot) more _ _ (omega arith)
       (λ at named quiet left.
       record {

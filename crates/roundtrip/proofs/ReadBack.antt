@@ -22,7 +22,7 @@ use Rattle.roundtrip.proofs.Fits.{text-fits}
 use Rattle.roundtrip.proofs.Progress.{plan-stands, soFar}
 use Rattle.roundtrip.proofs.Walk.{Ended, Stands, draftWith, no-line}
 
-module _ (plan : Plan) (shaped : Shaped plan) (possible : planValid plan ≡ true) where
+module _ (plan : Plan) (shaped : Shaped plan) (valid : planValid plan ≡ true) where
   -- the walk over the written text
   abbrev walked : DraftOutcome
   walked = linesOf (planText plan)
@@ -44,7 +44,7 @@ module _ (plan : Plan) (shaped : Shaped plan) (possible : planValid plan ≡ tru
 
   -- after the last line the whole plan is read, but for its masks
   last-line : Ended walked (plan .domains) (unmasked plan)
-  last-line = rw (read-all plan shaped possible) at (no-line (planText plan) walked (plan .domains) _ (plan-stands (planText plan) walked plan possible [] first-line))
+  last-line = rw (read-all plan shaped valid) at (no-line (planText plan) walked (plan .domains) _ (plan-stands (planText plan) walked plan valid [] first-line))
 
 -- reading a plan's text gives that plan, and an empty script store
 pub read-back :
@@ -54,13 +54,13 @@ pub read-back :
     → length scripts ≡ scriptsLength
     → readOf (planText plan) scripts ≡ record { verdict = Accepted; plan = plan; scripts = noOps }
 unfolding readOf readVerdict
-read-back plan scripts shaped possible long =
+read-back plan scripts shaped valid long =
     let text = planText plan in
-    let read = last-line plan shaped possible in
+    let read = last-line plan shaped valid in
     let lines = outcomeOf (taken (draftWith (unmasked plan) (read .named))) noOps in
     let verdict : readVerdict text scripts lines ≡ Accepted =
-    rw (eq-eqb (length scripts) scriptsLength long, le-ltb mostTextBytes (length text) (text-fits plan possible))
-    (accepted plan (read .named) (length text) possible (read .quiet)) in
+    rw (eq-eqb (length scripts) scriptsLength long, le-ltb mostTextBytes (length text) (text-fits plan valid))
+    (accepted plan (read .named) (length text) valid (read .quiet)) in
     (ap (λ (outcome : DraftOutcome). readWith (readVerdict text scripts outcome) outcome scripts) (read .gave)
     ∙ ap (λ (verdict : Verdict). readWith verdict lines scripts) verdict
-    ∙ ap (λ (plan : Plan). record { verdict = Accepted; plan = plan; scripts = noOps }) (masks-kept plan shaped possible))
+    ∙ ap (λ (plan : Plan). record { verdict = Accepted; plan = plan; scripts = noOps }) (masks-kept plan shaped valid))

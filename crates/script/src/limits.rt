@@ -11,4 +11,4 @@ pub const MOST_TICKS: u32 = 200;
 
 pub const MOST_OPS: usize = 256;
 
-pub const SCRIPTS_LENGTH: usize = 2_048;
+pub const SCRIPTS_LENGTH: usize = MOST_OPS * (LAST_DOMAIN as usize + 1);

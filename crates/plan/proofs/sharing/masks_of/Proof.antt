@@ -18,15 +18,15 @@ use Rattle.plan.proofs.sharing.masks_of.Tie as tie
 -- the mask of a domain, from the shares alone
 abbrev ruleOf : List ℕ → ℕ → ℕ
 ruleOf shares domain =
-    maskFrom (sumTo (λ (place : ℕ). coloursOf (getD shares place 0)) domain) (coloursOf (getD shares domain 0))
+    maskFrom (sumTo (λ (index : ℕ). coloursOf (getD shares index 0)) domain) (coloursOf (getD shares domain 0))
 
 abbrev Inv-loop : tie.InvT-loop
 Inv-loop shares domains masks₀ first₀ i₀ masks first i =
     (i ≤ domains)
     × (domains ≤ mostDomains)
-    × (first ≡ sumTo (λ (place : ℕ). coloursOf (getD shares place 0)) i)
+    × (first ≡ sumTo (λ (index : ℕ). coloursOf (getD shares index 0)) i)
     × (length masks ≡ mostDomains)
-    × ((place : ℕ) → place < mostDomains → getD masks place 0 ≡ cond (ltb place i) (ruleOf shares place) 0)
+    × ((index : ℕ) → index < mostDomains → getD masks index 0 ≡ cond (ltb index i) (ruleOf shares index) 0)
 
 abbrev μ-loop : tie.MeasureT-loop
 μ-loop shares domains masks₀ first₀ i₀ masks first i = domains - i
@@ -52,7 +52,7 @@ unfolding firstColour
 mask-from-requires c κs =
     let loop = c .before .before .loop in
     let start = c .before .before .before .before .before in
-    let rule : ℕ → ℕ = λ place. coloursOf (getD (start .args .plan .shares) place 0) in
+    let rule : ℕ → ℕ = λ index. coloursOf (getD (start .args .plan .shares) index 0) in
     let next : loop .first + rule (loop .i) ≡ sumTo rule (loop .i + 1) = sum-more rule _ (loop .i) (loop .inv .2) in
     let more : sumTo rule (loop .i + 1) ≤ sumTo rule (start .args .plan .domains) = sum-mono rule _ _ (omega arith) in
     let total : sumTo rule (start .args .plan .domains) ≤ domainColours = start .pre .1 in
@@ -94,7 +94,7 @@ returns c =
     let start = c .before .before .before .before in
     let ended : loop .i ≡ start .args .plan .domains = omega arith in
     masks-are (start .args .plan) (loop .masks) (loop .inv .3)
-    (λ place below. loop .inv .4 place below ∙ ap (λ (n : ℕ). cond (ltb place n) (ruleOf (start .args .plan .shares) place) 0) ended)
+    (λ index below. loop .inv .4 index below ∙ ap (λ (n : ℕ). cond (ltb index n) (ruleOf (start .args .plan .shares) index) 0) ended)
 
 pub masks-of-spec : {M : Type 1} → statement M
 masks-of-spec =

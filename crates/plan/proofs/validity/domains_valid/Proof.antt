@@ -34,7 +34,11 @@ loop-less : tie.Need-loop-less Inv-loop μ-loop
 loop-less c = omega arith
 
 loop-again : tie.Need-loop-again Inv-loop μ-loop
-loop-again c = (omega (arith, c .before .before .loop-test), all-below-more _ (c .before .before .before .loop .domain) (c .before .before .before .loop .inv .1) (sym (c .before .domain-valid .ensures) ∙ not-false _ (c .if1 .left)))
+loop-again c =
+    let loop = c .before .before .before .loop in (
+      omega (arith, c .before .before .loop-test),
+      all-below-more _ (loop .domain) (loop .inv .1) (sym (c .before .domain-valid .ensures) ∙ not-false _ (c .if1 .left)),
+    )
 
 returns-2 : tie.Need-returns-2 Inv-loop μ-loop
 returns-2 c = let ended : c .before .loop .domain ≡ mostDomains = omega arith in sym (c .before .loop .inv .1) ∙ ap (allBelow _) ended

@@ -61,7 +61,13 @@ masks-valid-requires c κs = (
 returns-4 : tie.Need-returns-4
 unfolding planValid
 returns-4 c =
-    rw (counted (c .before .before .before .before .before .before), placed (c .before .before .before .before), le-leb _ _ (shared (c .before .before)), sym (c .before .masks-valid .ensures) ∙ not-true _ (c .if4 .taken)) refl
+    rw (
+      counted (c .before .before .before .before .before .before),
+      placed (c .before .before .before .before),
+      le-leb _ _ (shared (c .before .before)),
+      sym (c .before .masks-valid .ensures) ∙ not-true _ (c .if4 .taken),
+    )
+    refl
 
 windows-valid-requires : tie.Need-windows-valid-requires
 windows-valid-requires c κs = search needs

@@ -22,7 +22,7 @@ due : (masks : List ℕ) (plan : Plan) → masks ≡ masksFrom plan mostDomains 
 due masks plan given domain below = ap (λ (those : List ℕ). getD those domain 0) given ∙ mask-due plan domain below
 
 abbrev Inv-loop : tie.InvT-loop
-Inv-loop kept given domain₀ domain = (domain ≤ mostDomains) × (allBelow (λ (place : ℕ). eqb (getD kept place 0) (getD given place 0)) domain ≡ true)
+Inv-loop kept given domain₀ domain = (domain ≤ mostDomains) × (allBelow (λ (index : ℕ). eqb (getD kept index 0) (getD given index 0)) domain ≡ true)
 
 abbrev μ-loop : tie.MeasureT-loop
 μ-loop kept given domain₀ domain = mostDomains - domain
@@ -70,9 +70,9 @@ returns-2 c =
     let start = c .before .before .before .before in
     let ended : loop .domain ≡ mostDomains = omega arith in
     let given = due _ (start .args .plan) (c .before .before .masks-of .ensures) in
-    sym (below-all (maskValid (start .args .plan)) mostDomains λ place below.
-    let same = eqb-true _ _ (all-below _ (loop .domain) place (loop .inv .1) (omega arith)) in
-    eq-eqb _ _ (same ∙ given place below))
+    sym (below-all (maskValid (start .args .plan)) mostDomains λ index below.
+    let same = eqb-true _ _ (all-below _ (loop .domain) index (loop .inv .1) (omega arith)) in
+    eq-eqb _ _ (same ∙ given index below))
 
 pub masks-valid-spec : {M : Type 1} → statement M
 masks-valid-spec =

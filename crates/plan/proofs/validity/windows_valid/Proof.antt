@@ -1,4 +1,4 @@
--- `plan::validity::windows_valid` meets its contract. The loop's invariant: what was found so far is the test over the places passed.
+-- `plan::validity::windows_valid` meets its contract. The loop's invariant: what was found so far is the test over the indices passed.
 -- Assumes nothing.
 use mathlib.Core.Path.{_∙_, _≡_, ap, refl}
 use Prim.Native.Nat.{_-_, _≤_}
@@ -12,10 +12,10 @@ use Rattle.plan.proofs.validity.windows_valid.Statement.{statement}
 use Rattle.plan.proofs.validity.windows_valid.Tie as tie
 
 abbrev Inv-loop : tie.InvT-loop
-Inv-loop plan windows possible₀ slot₀ possible slot = (slot ≤ mostWindows) × (possible ≡ allBelow (windowValid plan) slot)
+Inv-loop plan windows possible₀ slot₀ valid slot = (slot ≤ mostWindows) × (valid ≡ allBelow (windowValid plan) slot)
 
 abbrev μ-loop : tie.MeasureT-loop
-μ-loop plan windows possible₀ slot₀ possible slot = mostWindows - slot
+μ-loop plan windows possible₀ slot₀ valid slot = mostWindows - slot
 
 cast-windows : tie.Need-cast-windows Inv-loop μ-loop
 cast-windows c = search needs
