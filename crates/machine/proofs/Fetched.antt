@@ -14,7 +14,7 @@ use Rattle.script.specs.Limits.{OpWithinLimits}
 use Rattle.script.proofs.Laws.{decode-within}
 
 -- the end of a script is no op
-end-is-none : (op : Op) → End ≡ Fetch op → ⊥
+pub end-is-none : (op : Op) → End ≡ Fetch op → ⊥
 end-is-none op same = let none : _≡_ {A = ℕ} 0 1 = cc in omega arith
 
 module _ (scripts : List ℕ) (domain position : ℕ) (op : Op) (fetched : fetchOf scripts domain position ≡ Fetch op) where

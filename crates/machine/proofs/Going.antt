@@ -17,7 +17,8 @@ use Rattle.plan.proofs.Windows.{length-most, owner-declared, slot-below, start-
 use Rattle.state.specs.StateValidity.{stateValid}
 use Rattle.state.specs.World.{World, endedOf}
 use Rattle.machine.specs.Steps.{RunEffect, runOf}
-use Rattle.machine.specs.View.{RunsTo, clockBound, ranWith}
+use Rattle.machine.specs.View.{RunsTo, ranWith}
+use Rattle.machine.proofs.Invariant.{steps-counts}
 use Rattle.machine.proofs.Runs.{runs-ended, runs-on}
 use Rattle.machine.proofs.Schedule.{Scheduled, steps-scheduled, valid-scheduled}
 
@@ -62,7 +63,7 @@ goes-on steps limit windows total test =
 pub record Going (plan : Plan) (scripts : List ℕ) (quota limit : ℕ) (first present : World) (steps start : ℕ) : Type 0 where
   pub within : steps ≤ limit
   pub ran : RunsTo plan scripts quota steps first present
-  pub starts : start ≡ windowStart plan (present .state .windows)
+  pub starts : steps < limit → start ≡ windowStart plan (present .state .windows)
   pub cache-long : length (present .cache) ≡ length (first .cache)
   pub boxes-long : length (present .boxes) ≡ length (first .boxes)
   pub log-long : length (present .log) ≡ length (first .log)
@@ -72,7 +73,7 @@ module _ (plan : Plan) (scripts : List ℕ) (quota limit : ℕ) (first : World) 
   pub going-first : (start : ℕ) → start ≡ windowStart plan (first .state .windows) → Going plan scripts quota limit first first 0 start
   unfolding runOf
   going-first start starts =
-      record { within = omega arith; ran = refl; starts = starts; cache-long = refl; boxes-long = refl; log-long = refl }
+      record { within = omega arith; ran = refl; starts = λ more. starts; cache-long = refl; boxes-long = refl; log-long = refl }
 
   module _ (present : World) (steps start : ℕ) (going : Going plan scripts quota limit first present steps start) where
     -- some steps more
@@ -80,7 +81,7 @@ module _ (plan : Plan) (scripts : List ℕ) (quota limit : ℕ) (first : World) 
         (next : World) (more start′ : ℕ)
         → more ≤ limit - steps
         → RunsTo plan scripts quota more present next
-        → start′ ≡ windowStart plan (next .state .windows)
+        → (more < limit - steps → start′ ≡ windowStart plan (next .state .windows))
         → length (next .cache) ≡ length (present .cache)
         → length (next .boxes) ≡ length (present .boxes)
         → length (next .log) ≡ length (present .log)
@@ -89,7 +90,7 @@ module _ (plan : Plan) (scripts : List ℕ) (quota limit : ℕ) (first : World) 
         record {
           within = omega (arith, going .within);
           ran = runs-on plan scripts quota steps more first present next (going .ran) ran;
-          starts = starts;
+          starts = λ fewer. starts (omega arith);
           cache-long = cache ∙ going .cache-long;
           boxes-long = boxes ∙ going .boxes-long;
           log-long = log ∙ going .log-long;
@@ -110,11 +111,18 @@ module _ (plan : Plan) (scripts : List ℕ) (quota limit : ℕ) (first : World) 
             let all : steps ≡ limit = omega (arith, going .within) in
             going .ran ∙ ap (λ (n : ℕ). runOf plan scripts quota n first) all
 
-    -- in a window the clock is small too
+    -- in a window the clock is near the window's end
     pub going-clock : planValid plan ≡ true → stateValid plan quota (first .state) ≡ true → present .state .windows < windowsTotal plan
-        → present .state .clock ≤ clockBound
+        → present .state .clock ≤ windowEnd plan (present .state .windows) + 212
     going-clock possible valid inWindow =
         let on-schedule = steps-scheduled plan scripts quota first possible (valid-scheduled plan quota first possible valid) steps in
-        let late = subst (Scheduled plan) (sym (ap (λ (r : RunEffect). r .world) (going .ran))) on-schedule .soon inWindow in
-        let numbers = small plan (present .state .windows) start possible (going .starts) inWindow in
-        omega (arith, numbers)
+        subst (Scheduled plan) (sym (ap (λ (r : RunEffect). r .world) (going .ran))) on-schedule .soon inWindow
+
+    -- and the counts are as many as at first
+    pub going-counts :
+        (length (present .state .positions) ≡ length (first .state .positions)) × (length (present .state .records) ≡ length (first .state .records))
+    going-counts =
+        subst
+        (λ (w : World). (length (w .state .positions) ≡ length (first .state .positions)) × (length (w .state .records) ≡ length (first .state .records)))
+        (sym (ap (λ (r : RunEffect). r .world) (going .ran)))
+        (steps-counts plan scripts quota steps first)

@@ -3,8 +3,8 @@ use Prim.Native.Nat.{ℕ, zero, suc, _<_}
 use mathlib.Core.Bool.{Bool, true, false, cond, _||_}
 use mathlib.Core.List.{List}
 use mathlib.Core.Path.{_≡_, refl, sym, subst}
-use native.Mathlib.Omega.{arith}
 use lib.Dec.{leb}
+use lib.ListN.{length, length-set}
 use borrow.Author.Tests.{leb-false}
 use Rattle.plan.specs.declared.Plan.{Plan}
 use Rattle.plan.specs.Windows.{windowEnd, windowsTotal}
@@ -13,11 +13,10 @@ use Rattle.script.specs.declared.ScriptItem.{ScriptItem}
 use Rattle.script.specs.declared.ScriptItem.the-variants.{Op as Fetch, End}
 use Rattle.state.specs.declared.State.{State}
 use Rattle.state.specs.World.{World, endedOf, recordsAt, runningOf}
-use Rattle.machine.specs.declared.NextStep.{NextStep}
-use Rattle.machine.specs.declared.NextStep.the-variants.{Op as Begin, Switch}
 use Rattle.machine.specs.declared.Turn.{Turn}
-use Rattle.machine.specs.Steps.{activeStep, isEnd, nextItem, nextStepOf, opAt, opStepOf, runOf, stepOf, steps, switchDue, turnOf}
+use Rattle.machine.specs.Steps.{activeStep, isEnd, nextItem, nextStepOf, opStepOf, runOf, stepOf, steps, switchDue, turnOf}
 use Rattle.machine.specs.Switch.{switchOf}
+use Rattle.machine.proofs.Fetched.{end-is-none}
 use Rattle.machine.proofs.Runs.{step-active, step-ended, steps-last}
 
 -- an op is next in a turn: before the window's end, with room in the domain's part of the log, where an op stands next in its script
@@ -33,12 +32,8 @@ pub record Begins (plan : Plan) (scripts : List ℕ) (quota : ℕ) (world : Worl
   pub room : recordsAt (world .state) (runningOf plan (world .state)) < quota
   pub next : nextItem scripts (turnOf plan quota (world .state)) ≡ Fetch op
 
--- a switch is no op
-switch-no-op : (op : Op) → Switch ≡ Begin op → ⊥
-switch-no-op op same = let none : _≡_ {A = ℕ} 0 1 = cc in omega arith
-
 -- the next step is an op only there
-pub op-next : (scripts : List ℕ) (turn : Turn) (op : Op) → nextStepOf scripts turn ≡ Begin op → OpNext scripts turn op
+pub op-next : (scripts : List ℕ) (turn : Turn) (op : Op) → nextStepOf scripts turn ≡ Fetch op → OpNext scripts turn op
 unfolding nextStepOf switchDue
 op-next scripts turn op is =
     go (leb (turn .end) (turn .clock)) refl (nextItem scripts turn) refl (leb (turn .quota) (turn .records)) refl is
@@ -47,11 +42,11 @@ op-next scripts turn op is =
         (late : Bool) → leb (turn .end) (turn .clock) ≡ late
         → (item : ScriptItem) → nextItem scripts turn ≡ item
         → (full : Bool) → leb (turn .quota) (turn .records) ≡ full
-        → cond (late || isEnd item || full) Switch (opAt item) ≡ Begin op
+        → cond (late || isEnd item || full) End item ≡ Fetch op
         → OpNext scripts turn op
-    go true late item next full room is = absurd (switch-no-op op is)
-    go false late End next full room is = absurd (switch-no-op op is)
-    go false late (Fetch found) next true room is = absurd (switch-no-op op is)
+    go true late item next full room is = absurd (end-is-none op is)
+    go false late End next full room is = absurd (end-is-none op is)
+    go false late (Fetch found) next true room is = absurd (end-is-none op is)
     go false late (Fetch found) next false room is =
         record { inTime = leb-false _ _ late; room = leb-false _ _ room; next = cc }
 
@@ -75,11 +70,11 @@ module _
     unfolding activeStep
     step-cases = by-end (endedOf plan (world .state)) refl
       where
-        by-next : (next : NextStep) → nextStepOf scripts (turnOf plan quota (world .state)) ≡ next
+        by-next : (next : ScriptItem) → nextStepOf scripts (turnOf plan quota (world .state)) ≡ next
             → endedOf plan (world .state) ≡ false
             → Holds (activeStep plan quota next world)
-        by-next Switch is running = switch-holds (in-window plan (world .state) running)
-        by-next (Begin op) is running =
+        by-next End is running = switch-holds (in-window plan (world .state) running)
+        by-next (Fetch op) is running =
             let next = op-next scripts _ op is in
             op-holds op
             (record { inWindow = in-window plan (world .state) running; inTime = next .inTime; room = next .room; next = next .next })
@@ -107,3 +102,16 @@ module _
     steps-hold world holds zero = holds
     steps-hold world holds (suc count) =
         subst Holds (sym (steps-last plan scripts quota count world)) (step-holds _ (steps-hold world holds count))
+
+-- no step changes how many counts a state has
+abbrev SameCounts : World → World → Type 0
+SameCounts one other =
+    (length (one .state .positions) ≡ length (other .state .positions)) × (length (one .state .records) ≡ length (other .state .records))
+
+pub steps-counts : (plan : Plan) (scripts : List ℕ) (quota count : ℕ) (world : World) → SameCounts (steps plan scripts quota count world) world
+unfolding opStepOf switchOf
+steps-counts plan scripts quota count world =
+    steps-hold plan scripts quota (λ reached. SameCounts reached world)
+    (λ reached kept inWindow. kept)
+    (λ reached op kept begins. (simp length-set (kept .0), simp length-set (kept .1)))
+    world (refl, refl) count

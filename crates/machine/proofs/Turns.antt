@@ -21,9 +21,8 @@ use Rattle.ops.specs.View.{effectWith, viewOf}
 use Rattle.ops.proofs.Ticks.{effect-ticks}
 use Rattle.state.specs.declared.State.{State}
 use Rattle.state.specs.World.{World}
-use Rattle.machine.specs.declared.NextStep.the-variants.{Switch}
 use Rattle.machine.specs.declared.Turn.{Turn}
-use Rattle.machine.specs.Steps.{isEnd, nextItem, nextStepOf, opAt, opStepOf, switchDue}
+use Rattle.machine.specs.Steps.{isEnd, nextItem, nextStepOf, opStepOf, switchDue}
 use Rattle.machine.specs.Switch.{flushedClock, paddedClock, switchOf, switchedCache}
 use Rattle.machine.specs.View.{OpRan, turnAt, turned, worldWith}
 use Rattle.machine.proofs.Tests.{neither}
@@ -61,11 +60,11 @@ switch-stepped plan state cache boxes log end clock cache′ ends clocked flushe
 
 module _ (scripts : List ℕ) (turn : Turn) where
   -- the clock has reached the end, or the domain's log is full
-  pub next-switch : (leb (turn .end) (turn .clock) || leb (turn .quota) (turn .records)) ≡ true → Switch ≡ nextStepOf scripts turn
+  pub next-switch : (leb (turn .end) (turn .clock) || leb (turn .quota) (turn .records)) ≡ true → End ≡ nextStepOf scripts turn
   unfolding nextStepOf switchDue
   next-switch test = go (leb (turn .end) (turn .clock)) (nextItem scripts turn) (leb (turn .quota) (turn .records)) test
     where
-      go : (late : Bool) (item : ScriptItem) (full : Bool) → (late || full) ≡ true → Switch ≡ cond (late || isEnd item || full) Switch (opAt item)
+      go : (late : Bool) (item : ScriptItem) (full : Bool) → (late || full) ≡ true → End ≡ cond (late || isEnd item || full) End item
       go true item full test = refl
       go false (Fetch op) full test = rw test refl
       go false End full test = refl
@@ -73,13 +72,13 @@ module _ (scripts : List ℕ) (turn : Turn) where
   -- or neither: what stands next in the script decides
   pub next-item : (item : ScriptItem) → item ≡ nextItem scripts turn
       → (leb (turn .end) (turn .clock) || leb (turn .quota) (turn .records)) ≡ false
-      → opAt item ≡ nextStepOf scripts turn
+      → item ≡ nextStepOf scripts turn
   unfolding nextStepOf switchDue
   next-item item is test =
       let tests = neither (leb (turn .end) (turn .clock)) (leb (turn .quota) (turn .records)) test in
       rw (tests .0, tests .1, ← is) (go item)
     where
-      go : (item : ScriptItem) → opAt item ≡ cond (isEnd item || false) Switch (opAt item)
+      go : (item : ScriptItem) → item ≡ cond (isEnd item || false) End item
       go (Fetch op) = refl
       go End = refl
 
@@ -107,7 +106,7 @@ op-ran plan op turn cache boxes log done cache′ boxes′ log′ within did kep
     record {
       next-is = refl;
       ticks = omega (arith, operated-ticks plan (turn .owner) op cache boxes done cache′ boxes′ within did);
-      world = λ state stands. rw (← did, kept, stands .clock-is, stands .position-is, stands .records-is) refl;
+      world = λ state stands. rw (← did, kept, stands .windows-is, stands .clock-is, stands .position-is, stands .records-is) refl;
     }
 
 -- an op looks at nothing of a plan but its recipients and masks

@@ -1,29 +1,31 @@
 -- A window's ops and its switch: what they are handed, and that as many steps lead to what they leave. Assumes nothing.
 use mathlib.Core.Path.{_≡_, refl, sym, ap, subst, _∙_}
-use mathlib.Core.Bool.{true}
+use mathlib.Core.Bool.{false, true}
 use mathlib.Core.List.{List}
-use Prim.Native.Nat.{ℕ, suc, _+_, _*_, _≤_, _<_}
+use Prim.Native.Nat.{ℕ, suc, _+_, _*_, _-_, _≤_, _<_}
 use native.Mathlib.Nat.{mul-le-mul-left, mul-suc}
 use native.Mathlib.Numerals.{add-one}
 use native.Mathlib.Omega.{arith}
-use lib.ListN.{length}
+use lib.ListN.{length, set}
 use borrow.Author.Tests.{lt-leb}
 use Rattle.plan.specs.declared.Plan.{Plan}
-use Rattle.plan.specs.Limits.{mostDomains}
+use Rattle.plan.specs.Limits.{leastPad, mostDomains}
 use Rattle.plan.specs.Validity.{planValid}
-use Rattle.plan.specs.Windows.{windowEnd, windowStart, windowsTotal}
+use Rattle.plan.specs.Windows.{windowEnd, windowLength, windowStart, windowsTotal}
 use Rattle.plan.proofs.Windows.{owner-declared}
+use Rattle.cache.proofs.Ticks.{flush-ticks}
 use Rattle.state.specs.declared.State.{State}
-use Rattle.state.specs.World.{World, endedOf}
-use Rattle.machine.specs.declared.Advance.{Advance}
+use Rattle.state.specs.World.{World, endedOf, positionAt, recordsAt, runningOf}
 use Rattle.machine.specs.declared.Turn.{Turn}
-use Rattle.machine.specs.Steps.{turnOf}
+use Rattle.machine.specs.declared.WindowProgress.{WindowProgress}
 use Rattle.machine.specs.Switch.{flushedClock, paddedClock, switchedCache}
-use Rattle.machine.specs.View.{InTurn, TurnRan, WindowRan, clockBound, turned, worldWith}
-use Rattle.machine.proofs.Going.{small}
+use Rattle.machine.specs.View.{InTurn, RunsTo, TurnRan, WindowRan, clockBound, turnMoved, turned, worldWith}
+use Rattle.machine.proofs.Going.{Going, going-on, small, windows-small}
 use Rattle.machine.proofs.Runs.{runs-on, runs-one}
 use Rattle.machine.proofs.Schedule.{next-start}
 use Rattle.machine.proofs.Turns.{switch-stepped}
+
+-- ---- what a turn is handed
 
 -- a declared domain's part lies within the log
 pub part-room : (quota domains owner size : ℕ) → owner < domains → 8 * (quota * domains) ≤ size → 8 * (quota * owner + quota) ≤ size
@@ -32,101 +34,157 @@ part-room quota domains owner size below fits =
     let one : quota * suc owner ≡ quota * owner + quota = mul-suc quota owner in
     omega arith
 
--- what a turn's numbers are small enough for
+-- the turn of a state whose window starts at `start`
+abbrev pub turnFrom : Plan → ℕ → State → ℕ → Turn
+turnFrom plan quota state start =
+    record {
+      windows = state .windows;
+      owner = runningOf plan state;
+      end = start + windowLength plan (state .windows);
+      quota = quota;
+      clock = state .clock;
+      position = positionAt state (runningOf plan state);
+      records = recordsAt state (runningOf plan state);
+    }
+
+-- its numbers are small, so that nothing in it wraps
 pub record Room (turn : Turn) (logLength : ℕ) : Type 0 where
+  pub windows : turn .windows ≤ clockBound
   pub owner : turn .owner < mostDomains
-  pub clock : turn .clock ≤ clockBound
-  pub end : turn .end + 213 ≤ clockBound
+  pub late : turn .clock ≤ turn .end + 212
+  pub end : turn .end ≤ clockBound
   pub log : 8 * (turn .quota * turn .owner + turn .quota) ≤ logLength
 
 module _
-    (plan : Plan) (quota : ℕ) (state : State) (start : ℕ) (turn : Turn)
-    (possible : planValid plan ≡ true)
-    (inWindow : state .windows < windowsTotal plan)
-    (starts : start ≡ windowStart plan (state .windows))
-    (turn-is : turn ≡ turnOf plan quota state)
-  where
-    pub turn-room : (logLength : ℕ) → state .clock ≤ clockBound → 8 * (quota * plan .domains) ≤ logLength → Room turn logLength
-    turn-room logLength near fits =
-        let numbers = small plan (state .windows) start possible starts inWindow in
-        subst (λ (t : Turn). Room t logLength) (sym turn-is)
-        (record {
-          owner = numbers .owner-below;
-          clock = near;
-          end = omega arith;
-          log = part-room quota (plan .domains) _ logLength (owner-declared plan (state .windows) possible) fits;
-        })
+    (plan : Plan) (quota : ℕ) (state : State) (start : ℕ)
+    (possible : planValid plan ≡ true) (inWindow : state .windows < windowsTotal plan) (starts : start ≡ windowStart plan (state .windows)) where
+  pub turn-room : (logLength : ℕ) → state .clock ≤ windowEnd plan (state .windows) + 212 → 8 * (quota * plan .domains) ≤ logLength
+      → Room (turnFrom plan quota state start) logLength
+  turn-room logLength late fits =
+      let numbers = small plan (state .windows) start possible starts inWindow in
+      record {
+        windows = omega (arith, windows-small plan possible);
+        owner = numbers .owner-below;
+        late = omega arith;
+        end = omega arith;
+        log = part-room quota (plan .domains) _ logLength (owner-declared plan (state .windows) possible) fits;
+      }
 
-    pub turn-here : length (state .positions) ≡ mostDomains → length (state .records) ≡ mostDomains
-        → InTurn plan (plan .rights) (plan .masks) state turn
-    turn-here positions records =
-        let below = small plan (state .windows) start possible starts inWindow .owner-below in
-        subst (InTurn plan (plan .rights) (plan .masks) state) (sym turn-is)
-        (record {
-          not-ended = inWindow;
-          owner-is = refl;
-          end-is = refl;
-          rights-are = refl;
-          masks-are = refl;
-          stands =
-              record {
-                clock-is = refl;
-                position-is = refl;
-                records-is = refl;
-                positions-long = omega arith;
-                records-long = omega arith;
-              };
-        })
-
-    module _
-        (scripts : List ℕ) (limit : ℕ) (before : World) (steps : ℕ) (last : Turn) (left : State) (cache boxes log : List ℕ)
-        (left-is : left ≡ turned state last)
-        (within : steps ≤ limit)
-        (ran : WindowRan plan scripts (turn .quota) limit steps before (worldWith (turned state last) cache boxes log))
-      where
-        -- the ops lead to the state that is left
-        to-left : WindowRan plan scripts quota limit steps before (worldWith left cache boxes log)
-        to-left =
-            subst (λ (s : State). WindowRan plan scripts quota limit steps before (worldWith s cache boxes log)) (sym left-is)
-            (subst (λ (q : ℕ). WindowRan plan scripts q limit steps before (worldWith (turned state last) cache boxes log))
-            (ap (λ (t : Turn). t .quota) turn-is) ran)
-
-        same-window : left .windows ≡ state .windows
-        same-window = ap (λ (s : State). s .windows) left-is
-
-        -- the limit is reached
-        pub turn-stops : 0 < limit → limit ≤ steps
-            → TurnRan plan scripts quota limit (record { steps = steps; state = left; start = start }) before (worldWith left cache boxes log)
-        turn-stops some reached =
-            record { some = omega arith; within = within; ran = to-left .ran; starts = starts ∙ ap (windowStart plan) (sym same-window) }
-
-        -- a switch follows
-        pub turn-switches :
-            (clock : ℕ) (cache′ : List ℕ)
-            → steps < limit
-            → last .end ≡ turn .end
-            → clock ≡ paddedClock (last .end) (plan .pad) (flushedClock (last .clock) (last .end) cache)
-            → cache′ ≡ switchedCache cache
-            → let next : State = record { windows = left .windows + 1; clock = clock; positions = left .positions; records = left .records } in
-            TurnRan plan scripts quota limit (record { steps = steps + 1; state = next; start = last .end + plan .pad }) before (worldWith next cache′ boxes log)
-        unfolding endedOf
-        turn-switches clock cache′ more same-end clocked flushed =
-            let clock-is : left .clock ≡ last .clock = ap (λ (s : State). s .clock) left-is in
-            let ends : windowEnd plan (left .windows) ≡ last .end =
-            ap (windowEnd plan) same-window ∙ sym (same-end ∙ ap (λ (t : Turn). t .end) turn-is) in
-            let switched =
-            switch-stepped plan left cache boxes log (last .end) clock cache′ ends
-            (clocked ∙ ap (λ (c : ℕ). paddedClock (last .end) (plan .pad) (flushedClock c (last .end) cache)) (sym clock-is)) flushed in
+  pub turn-here : length (state .positions) ≡ mostDomains → length (state .records) ≡ mostDomains
+      → InTurn plan (plan .rights) (plan .masks) state (turnFrom plan quota state start)
+  turn-here positions records =
+      let numbers = small plan (state .windows) start possible starts inWindow in
+      record {
+        not-ended = inWindow;
+        owner-is = refl;
+        end-is = sym (numbers .end-is);
+        rights-are = refl;
+        masks-are = refl;
+        stands =
             record {
-              some = omega arith;
-              within = omega arith;
-              ran =
-                  runs-on plan scripts quota steps 1 before (worldWith left cache boxes log) _ (to-left .ran)
-                  (runs-one plan scripts quota (worldWith left cache boxes log) _
-                  (lt-leb (windowsTotal plan) (left .windows) (omega (arith, same-window)))
-                  (to-left .due more ∙ sym switched));
-              starts =
-                  ap (λ (n : ℕ). n + plan .pad) (sym ends)
-                  ∙ sym (next-start plan (left .windows))
-                  ∙ ap (windowStart plan) (sym (add-one (left .windows)));
-            }
+              windows-is = refl;
+              clock-is = refl;
+              position-is = refl;
+              records-is = refl;
+              positions-long = omega arith;
+              records-long = omega arith;
+            };
+      }
+
+-- ---- its ops, and its switch
+
+-- the turn and its steps after the switch
+abbrev pub switchedTo : WindowProgress → ℕ → WindowProgress
+switchedTo ran clock =
+    record {
+      steps = ran .steps + 1;
+      turn =
+          record {
+            windows = ran .turn .windows + 1;
+            owner = ran .turn .owner;
+            end = ran .turn .end;
+            quota = ran .turn .quota;
+            clock = clock;
+            position = ran .turn .position;
+            records = ran .turn .records;
+          };
+    }
+
+module _ (limit pad : ℕ) (first : Turn) (ran : WindowProgress) (within : ran .steps ≤ limit) (moved : ran .turn ≡ turnMoved first (ran .turn)) where
+  -- the limit is reached
+  pub turn-stops : 0 < limit → limit ≤ ran .steps → TurnRan limit pad first ran
+  turn-stops some reached =
+      record { some = omega arith; within = within; owner-is = ap (λ (t : Turn). t .owner) moved; next = λ fewer. absurd (omega arith) }
+
+  -- or a switch follows
+  module _ (clock : ℕ) (cache : List ℕ) (more : ran .steps < limit)
+      (clocked : clock ≡ paddedClock (ran .turn .end) pad (flushedClock (ran .turn .clock) (ran .turn .end) cache)) where
+    pub turn-switches : leastPad ≤ pad → ran .turn .clock ≤ first .end + 212 → TurnRan limit pad first (switchedTo ran clock)
+    unfolding paddedClock flushedClock
+    turn-switches least late =
+        record {
+          some = omega arith;
+          within = omega arith;
+          owner-is = ap (λ (t : Turn). t .owner) moved;
+          next = λ fewer.
+              (ap (λ (t : Turn). t .windows + 1) moved, omega (arith, clocked, ap (λ (t : Turn). t .end) moved, flush-ticks cache, late, least));
+        }
+
+    pub switch-runs :
+        (plan : Plan) (scripts rights masks : List ℕ) (state : State) (before : World) (boxes log cache′ : List ℕ)
+        → WindowRan plan scripts (first .quota) limit (ran .steps) before (worldWith (turned state (ran .turn)) cache boxes log)
+        → cache′ ≡ switchedCache cache
+        → InTurn plan rights masks state first
+        → plan .pad ≡ pad
+        → RunsTo plan scripts (first .quota) (ran .steps + 1) before (worldWith (turned state (switchedTo ran clock .turn)) cache′ boxes log)
+    unfolding endedOf
+    switch-runs plan scripts rights masks state before boxes log cache′ did flushed here pads =
+        let left = turned state (ran .turn) in
+        let windows = ap (λ (t : Turn). t .windows) moved in
+        let ends : windowEnd plan (ran .turn .windows) ≡ ran .turn .end =
+        ap (windowEnd plan) windows ∙ here .end-is ∙ sym (ap (λ (t : Turn). t .end) moved) in
+        let running : endedOf plan left ≡ false = lt-leb (windowsTotal plan) (ran .turn .windows) (omega (arith, windows, here .not-ended)) in
+        runs-on plan scripts (first .quota) (ran .steps) 1 before (worldWith left cache boxes log) _ (did .ran)
+        (runs-one plan scripts (first .quota) (worldWith left cache boxes log) _ running
+        (did .due more
+        ∙ sym (switch-stepped plan left cache boxes log (ran .turn .end) clock cache′ ends
+        (clocked ∙ ap (λ (n : ℕ). paddedClock (ran .turn .end) n (flushedClock (ran .turn .clock) (ran .turn .end) cache)) (sym pads)) flushed)))
+
+-- ---- a turn within a run
+
+-- the state with the numbers of a turn, put where a domain's stand
+abbrev turnedAt : State → ℕ → Turn → State
+turnedAt state owner turn =
+    record {
+      windows = turn .windows;
+      clock = turn .clock;
+      positions = set (state .positions) owner (turn .position);
+      records = set (state .records) owner (turn .records);
+    }
+
+-- a turn of a run: one that ends before the limit leaves the clock at the next window's start
+pub going-turn :
+    (plan : Plan) (scripts : List ℕ) (quota limit : ℕ) (first : World) (state : State) (cache boxes log : List ℕ) (steps start : ℕ)
+    (turn : Turn) (ran : WindowProgress) (cache′ boxes′ log′ : List ℕ)
+    → Going plan scripts quota limit first (worldWith state cache boxes log) steps start
+    → windowEnd plan (turn .windows) ≡ turn .end
+    → TurnRan (limit - steps) (plan .pad) turn ran
+    → RunsTo plan scripts quota (ran .steps) (worldWith state cache boxes log) (worldWith (turned state (ran .turn)) cache′ boxes′ log′)
+    → length cache′ ≡ length cache
+    → length boxes′ ≡ length boxes
+    → length log′ ≡ length log
+    → Going plan scripts quota limit first (worldWith (turnedAt state (turn .owner) (ran .turn)) cache′ boxes′ log′) (steps + ran .steps) (ran .turn .clock)
+going-turn plan scripts quota limit first state cache boxes log steps start turn ran cache′ boxes′ log′ going ends did runs same-cache same-boxes same-log =
+    subst
+    (λ (owner : ℕ). Going plan scripts quota limit first (worldWith (turnedAt state owner (ran .turn)) cache′ boxes′ log′) (steps + ran .steps) (ran .turn .clock))
+    (did .owner-is)
+    (going-on plan scripts quota limit first (worldWith state cache boxes log) steps start going _ (ran .steps) _ (did .within) runs starts
+    same-cache same-boxes same-log)
+  where
+    starts : ran .steps < limit - steps → ran .turn .clock ≡ windowStart plan (ran .turn .windows)
+    starts more =
+        let next = did .next more in
+        next .1
+        ∙ ap (λ (n : ℕ). n + plan .pad) (sym ends)
+        ∙ sym (next-start plan (turn .windows))
+        ∙ ap (windowStart plan) (sym (next .0 ∙ add-one (turn .windows)))

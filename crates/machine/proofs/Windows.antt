@@ -1,4 +1,5 @@
 -- The ops of one window, with the running domain's numbers kept apart from the state. Assumes nothing.
+use mathlib.Core.Bool.{false}
 use mathlib.Core.Path.{_≡_, refl, sym, ap, ap₂, subst, _∙_}
 use mathlib.Core.List.{List}
 use Prim.Native.Nat.{ℕ, _+_, _*_, _≤_, _<_}
@@ -7,16 +8,17 @@ use lib.ListN.{length, length-set}
 use lib.Seq.{getD-set-same, set-getD, set-set}
 use borrow.Author.Tests.{lt-leb}
 use Rattle.plan.specs.declared.Plan.{Plan}
+use Rattle.plan.specs.Windows.{windowEnd, windowOwner, windowsTotal}
 use Rattle.script.specs.declared.Op.{Op}
+use Rattle.script.specs.declared.ScriptItem.{ScriptItem}
+use Rattle.script.specs.declared.ScriptItem.the-variants.{Op as Fetch, End}
 use Rattle.ops.specs.View.{viewOf}
 use Rattle.state.specs.declared.State.{State}
 use Rattle.state.specs.World.{World, endedOf, positionAt, recordsAt}
-use Rattle.machine.specs.declared.NextStep.{NextStep}
-use Rattle.machine.specs.declared.NextStep.the-variants.{Op as Begin, Switch}
 use Rattle.machine.specs.declared.Turn.{Turn}
 use Rattle.machine.specs.Steps.{activeStep, nextStepOf, opStepOf, runOf, stepOf, turnOf}
 use Rattle.machine.specs.Switch.{switchOf}
-use Rattle.machine.specs.View.{InTurn, OpRan, RunsTo, Stands, clockBound, turnAt, turned, worldWith}
+use Rattle.machine.specs.View.{InTurn, OpRan, RunsTo, Stands, turnAt, turnMoved, turned, worldWith}
 use Rattle.machine.proofs.Invariant.{op-next}
 use Rattle.machine.proofs.Runs.{runs-on, runs-one, step-active}
 use Rattle.machine.proofs.Turns.{op-step-view}
@@ -24,7 +26,7 @@ use Rattle.machine.proofs.Turns.{op-step-view}
 -- a state that stands where a turn says is as the turn leaves it
 turned-same : (state : State) (turn : Turn) → Stands state turn → turned state turn ≡ state
 turned-same state turn stands =
-    rw (← (stands .clock-is), ← (stands .position-is), ← (stands .records-is)) (rw (set-getD (state .positions), set-getD (state .records)) refl)
+    rw (← (stands .windows-is), ← (stands .clock-is), ← (stands .position-is), ← (stands .records-is)) (rw (set-getD (state .positions), set-getD (state .records)) refl)
 
 -- the last turn counts
 turned-twice : (state : State) (turn : Turn) (clock : ℕ) → turned (turned state turn) (turnAt turn clock) ≡ turned state (turnAt turn clock)
@@ -35,12 +37,13 @@ module _ (plan : Plan) (scripts rights masks : List ℕ) (state : State) (turn :
   own-turn : turnOf plan (turn .quota) state ≡ turn
   own-turn = λ i.
       record {
-        owner = here .owner-is i;
-        end = here .end-is i;
+        windows = here .stands .windows-is i;
+        owner = (ap (windowOwner plan) (here .stands .windows-is) ∙ here .owner-is) i;
+        end = (ap (windowEnd plan) (here .stands .windows-is) ∙ here .end-is) i;
         quota = turn .quota;
         clock = here .stands .clock-is i;
-        position = (ap (positionAt state) (here .owner-is) ∙ here .stands .position-is) i;
-        records = (ap (recordsAt state) (here .owner-is) ∙ here .stands .records-is) i;
+        position = (ap (λ (w : ℕ). positionAt state (windowOwner plan w)) (here .stands .windows-is) ∙ ap (positionAt state) (here .owner-is) ∙ here .stands .position-is) i;
+        records = (ap (λ (w : ℕ). recordsAt state (windowOwner plan w)) (here .stands .windows-is) ∙ ap (recordsAt state) (here .owner-is) ∙ here .stands .records-is) i;
       }
 
   -- the turn after one op more is that state's turn
@@ -56,6 +59,7 @@ module _ (plan : Plan) (scripts rights masks : List ℕ) (state : State) (turn :
         masks-are = here .masks-are;
         stands =
             record {
+              windows-is = refl;
               clock-is = refl;
               position-is = getD-set-same (state .positions) (turn .owner) (turn .position + 1) 0 positions;
               records-is = getD-set-same (state .records) (turn .owner) (turn .records + 1) 0 records;
@@ -66,29 +70,33 @@ module _ (plan : Plan) (scripts rights masks : List ℕ) (state : State) (turn :
 
   module _ (cache boxes log : List ℕ) where
     -- the step is the one that the code chose
-    step-chosen : (next : NextStep) → next ≡ nextStepOf scripts turn
-        → stepOf plan scripts (turn .quota) (worldWith state cache boxes log) ≡ activeStep plan (turn .quota) next (worldWith state cache boxes log)
+    not-ended : endedOf plan state ≡ false
     unfolding endedOf
-    step-chosen next is =
-        step-active plan scripts (turn .quota) (worldWith state cache boxes log) (lt-leb _ _ (here .not-ended))
-        ∙ ap (λ (t : Turn). activeStep plan (turn .quota) (nextStepOf scripts t) (worldWith state cache boxes log)) own-turn
-        ∙ ap (λ (n : NextStep). activeStep plan (turn .quota) n (worldWith state cache boxes log)) (sym is)
+    not-ended = lt-leb (windowsTotal plan) (state .windows) (omega (arith, here .not-ended, here .stands .windows-is))
 
-    step-switches : Switch ≡ nextStepOf scripts turn
+    step-chosen : (next : ScriptItem) → next ≡ nextStepOf scripts turn
+        → stepOf plan scripts (turn .quota) (worldWith state cache boxes log) ≡ activeStep plan (turn .quota) next (worldWith state cache boxes log)
+    step-chosen next is =
+        step-active plan scripts (turn .quota) (worldWith state cache boxes log) not-ended
+        ∙ ap (λ (t : Turn). activeStep plan (turn .quota) (nextStepOf scripts t) (worldWith state cache boxes log)) own-turn
+        ∙ ap (λ (n : ScriptItem). activeStep plan (turn .quota) n (worldWith state cache boxes log)) (sym is)
+
+    step-switches : End ≡ nextStepOf scripts turn
         → stepOf plan scripts (turn .quota) (worldWith state cache boxes log) ≡ switchOf plan (worldWith state cache boxes log)
     unfolding activeStep
-    step-switches is = step-chosen Switch is
+    step-switches is = step-chosen End is
 
     -- one op
     op-runs : (op : Op) (next : Turn) (cache′ boxes′ log′ : List ℕ)
-        → Begin op ≡ nextStepOf scripts turn
+        → Fetch op ≡ nextStepOf scripts turn
         → OpRan (viewOf rights masks) op turn next cache boxes log cache′ boxes′ log′
         → RunsTo plan scripts (turn .quota) 1 (worldWith state cache boxes log) (worldWith (turned state next) cache′ boxes′ log′)
-    unfolding endedOf activeStep
+    unfolding activeStep
     op-runs op next cache′ boxes′ log′ is did =
-        runs-one plan scripts (turn .quota) (worldWith state cache boxes log) _ (lt-leb _ _ (here .not-ended))
-        (step-chosen (Begin op) is
-        ∙ ap (λ (d : ℕ). opStepOf plan (turn .quota) d op (worldWith state cache boxes log)) (here .owner-is)
+        runs-one plan scripts (turn .quota) (worldWith state cache boxes log) _ not-ended
+        (step-chosen (Fetch op) is
+        ∙ ap (λ (d : ℕ). opStepOf plan (turn .quota) d op (worldWith state cache boxes log))
+        (ap (windowOwner plan) (here .stands .windows-is) ∙ here .owner-is)
         ∙ sym (op-step-view plan (turn .quota) (turn .owner) op (worldWith state cache boxes log))
         ∙ ap₂ (λ (r m : List ℕ). opStepOf (viewOf r m) (turn .quota) (turn .owner) op (worldWith state cache boxes log)) (here .rights-are) (here .masks-are)
         ∙ sym (did .world state (here .stands)))
@@ -102,10 +110,8 @@ Done plan scripts rights masks quota steps turn before state cache boxes log =
 pub record Turning
     (rights masks scripts : List ℕ) (limit : ℕ) (first : Turn) (cache₀ boxes₀ log₀ cache boxes log : List ℕ) (steps : ℕ) (turn : Turn) : Type 0 where
   pub within : steps ≤ limit
-  pub owner-is : turn .owner ≡ first .owner
-  pub end-is : turn .end ≡ first .end
-  pub quota-is : turn .quota ≡ first .quota
-  pub clock-most : turn .clock ≤ clockBound
+  pub moved : turn ≡ turnMoved first turn
+  pub late : turn .clock ≤ first .end + 212
   pub cache-long : length cache ≡ length cache₀
   pub boxes-long : length boxes ≡ length boxes₀
   pub log-long : length log ≡ length log₀
@@ -116,15 +122,13 @@ pub record Turning
 
 module _ (rights masks scripts : List ℕ) (limit : ℕ) (first : Turn) (cache₀ boxes₀ log₀ : List ℕ) where
   -- before the first op
-  pub turn-first : first .clock ≤ clockBound → Turning rights masks scripts limit first cache₀ boxes₀ log₀ cache₀ boxes₀ log₀ 0 first
+  pub turn-first : first .clock ≤ first .end + 212 → Turning rights masks scripts limit first cache₀ boxes₀ log₀ cache₀ boxes₀ log₀ 0 first
   unfolding runOf
-  turn-first most =
+  turn-first late =
       record {
         within = omega arith;
-        owner-is = refl;
-        end-is = refl;
-        quota-is = refl;
-        clock-most = most;
+        moved = refl;
+        late = late;
         cache-long = refl;
         boxes-long = refl;
         log-long = refl;
@@ -140,21 +144,18 @@ module _ (rights masks scripts : List ℕ) (limit : ℕ) (first : Turn) (cache�
       (cache boxes log : List ℕ) (steps : ℕ) (turn : Turn) (op : Op) (next : Turn) (cache′ boxes′ log′ : List ℕ)
       → Turning rights masks scripts limit first cache₀ boxes₀ log₀ cache boxes log steps turn
       → steps < limit
-      → first .end + 213 ≤ clockBound
-      → Begin op ≡ nextStepOf scripts turn
+      → Fetch op ≡ nextStepOf scripts turn
       → OpRan (viewOf rights masks) op turn next cache boxes log cache′ boxes′ log′
       → length cache′ ≡ length cache
       → length boxes′ ≡ length boxes
       → length log′ ≡ length log
       → Turning rights masks scripts limit first cache₀ boxes₀ log₀ cache′ boxes′ log′ (steps + 1) next
-  turn-more cache boxes log steps turn op next cache′ boxes′ log′ turning more near is ran same-cache same-boxes same-log =
+  turn-more cache boxes log steps turn op next cache′ boxes′ log′ turning more is ran same-cache same-boxes same-log =
       subst (Turning rights masks scripts limit first cache₀ boxes₀ log₀ cache′ boxes′ log′ (steps + 1)) (sym (ran .next-is))
       (record {
         within = omega arith;
-        owner-is = turning .owner-is;
-        end-is = turning .end-is;
-        quota-is = turning .quota-is;
-        clock-most = omega (arith, op-next scripts turn op (sym is) .inTime, turning .end-is, ran .ticks);
+        moved = ap (λ (t : Turn). turnAt t (next .clock)) (turning .moved);
+        late = omega (arith, op-next scripts turn op (sym is) .inTime, ap (λ (t : Turn). t .end) (turning .moved), ran .ticks);
         cache-long = same-cache ∙ turning .cache-long;
         boxes-long = same-boxes ∙ turning .boxes-long;
         log-long = same-log ∙ turning .log-long;
@@ -180,7 +181,7 @@ module _ (rights masks scripts : List ℕ) (limit : ℕ) (first : Turn) (cache�
       one plan state here =
           subst
           (λ (quota : ℕ). RunsTo plan scripts quota 1 (worldWith state cache boxes log) (worldWith (turned state after) cache′ boxes′ log′))
-          (turning .quota-is)
+          (ap (λ (t : Turn). t .quota) (turning .moved))
           (op-runs plan scripts rights masks state turn here cache boxes log op after cache′ boxes′ log′ is
           (subst (λ (t : Turn). OpRan (viewOf rights masks) op turn t cache boxes log cache′ boxes′ log′) (ran .next-is) ran))
 
@@ -192,14 +193,14 @@ module _ (rights masks scripts : List ℕ) (limit : ℕ) (first : Turn) (cache�
       → 8 * (first .quota * first .owner + first .quota) ≤ length log₀
       → 8 * (turn .quota * turn .owner + turn .records) + 8 ≤ length log
   record-room cache boxes log steps turn turning below fits =
-      let before : turn .quota * turn .owner ≡ first .quota * first .owner = ap₂ (λ (q o : ℕ). q * o) (turning .quota-is) (turning .owner-is) in
-      omega (arith, turning .quota-is, turning .log-long)
+      let before : turn .quota * turn .owner ≡ first .quota * first .owner = ap (λ (t : Turn). t .quota * t .owner) (turning .moved) in
+      omega (arith, ap (λ (t : Turn). t .quota) (turning .moved), turning .log-long)
 
   -- a switch is next
   pub turn-ends :
       (cache boxes log : List ℕ) (steps : ℕ) (turn : Turn)
       → Turning rights masks scripts limit first cache₀ boxes₀ log₀ cache boxes log steps turn
-      → Switch ≡ nextStepOf scripts turn
+      → End ≡ nextStepOf scripts turn
       → (plan : Plan) (state : State)
       → InTurn plan rights masks state first
       → stepOf plan scripts (first .quota) (worldWith (turned state turn) cache boxes log)
@@ -208,5 +209,5 @@ module _ (rights masks scripts : List ℕ) (limit : ℕ) (first : Turn) (cache�
       subst
       (λ (quota : ℕ).
       stepOf plan scripts quota (worldWith (turned state turn) cache boxes log) ≡ switchOf plan (worldWith (turned state turn) cache boxes log))
-      (turning .quota-is)
+      (ap (λ (t : Turn). t .quota) (turning .moved))
       (step-switches plan scripts rights masks (turned state turn) turn (turning .done plan state begins .1) cache boxes log is)

@@ -14,8 +14,6 @@ use Rattle.records.specs.Records.{recordStored}
 use Rattle.ops.specs.Ops.{effectOf}
 use Rattle.state.specs.declared.State.{State}
 use Rattle.state.specs.World.{World, endedOf, positionAt, recordsAt, runningOf}
-use Rattle.machine.specs.declared.NextStep.{NextStep}
-use Rattle.machine.specs.declared.NextStep.the-variants.{Op as Begin, Switch}
 use Rattle.machine.specs.declared.Turn.{Turn}
 use Rattle.machine.specs.Switch.{switchOf}
 
@@ -43,6 +41,7 @@ opStepOf plan quota domain op world =
 abbrev pub turnOf : Plan → ℕ → State → Turn
 turnOf plan quota state =
     record {
+      windows = state .windows;
       owner = runningOf plan state;
       end = windowEnd plan (state .windows);
       quota = quota;
@@ -65,19 +64,14 @@ unfoldable pub switchDue : List ℕ → Turn → Bool
 switchDue scripts turn =
     leb (turn .end) (turn .clock) || isEnd (nextItem scripts turn) || leb (turn .quota) (turn .records)
 
--- the op that stands in a script; past its end there is none
-abbrev pub opAt : ScriptItem → NextStep
-opAt (Fetch op) = Begin op
-opAt End = Switch
-
--- the next step in a window: a switch where one is due, otherwise the op that stands next in the script
-unfoldable pub nextStepOf : List ℕ → Turn → NextStep
-nextStepOf scripts turn = cond (switchDue scripts turn) Switch (opAt (nextItem scripts turn))
+-- the next step in a window: where no switch is due, the op that stands next in the script; `End` is the switch
+unfoldable pub nextStepOf : List ℕ → Turn → ScriptItem
+nextStepOf scripts turn = cond (switchDue scripts turn) End (nextItem scripts turn)
 
 -- what that step leaves
-unfoldable pub activeStep : Plan → ℕ → NextStep → World → World
-activeStep plan quota Switch world = switchOf plan world
-activeStep plan quota (Begin op) world = opStepOf plan quota (runningOf plan (world .state)) op world
+unfoldable pub activeStep : Plan → ℕ → ScriptItem → World → World
+activeStep plan quota (Fetch op) world = opStepOf plan quota (runningOf plan (world .state)) op world
+activeStep plan quota End world = switchOf plan world
 
 -- one step; an ended run stays as it is
 unfoldable pub stepOf : Plan → List ℕ → ℕ → World → World

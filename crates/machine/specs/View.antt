@@ -5,12 +5,12 @@ use mathlib.Core.Path.{_≡_}
 use mathlib.Core.List.{List}
 use lib.ListN.{length, set}
 use Rattle.plan.specs.declared.Plan.{Plan}
-use Rattle.plan.specs.Windows.{windowEnd, windowOwner, windowStart, windowsTotal}
+use Rattle.plan.specs.Windows.{windowEnd, windowOwner, windowsTotal}
 use Rattle.script.specs.declared.Op.{Op}
 use Rattle.state.specs.declared.State.{State}
 use Rattle.state.specs.World.{World, positionAt, recordsAt}
-use Rattle.machine.specs.declared.Advance.{Advance}
 use Rattle.machine.specs.declared.Turn.{Turn}
+use Rattle.machine.specs.declared.WindowProgress.{WindowProgress}
 use Rattle.machine.specs.Steps.{RunEffect, opStepOf, runOf, stepOf}
 use Rattle.machine.specs.Switch.{switchOf}
 
@@ -30,11 +30,11 @@ ranWith steps world = record { done = steps; world = world }
 abbrev pub RunsTo : Plan → List ℕ → ℕ → ℕ → World → World → Type 0
 RunsTo plan scripts quota steps before after = ranWith steps after ≡ runOf plan scripts quota steps before
 
--- a state with the clock, the position and the number of records that a turn has come to
+-- a state with the windows, the clock, the position and the number of records that a turn has come to
 abbrev pub turned : State → Turn → State
 turned state turn =
     record {
-      windows = state .windows;
+      windows = turn .windows;
       clock = turn .clock;
       positions = set (state .positions) (turn .owner) (turn .position);
       records = set (state .records) (turn .owner) (turn .records);
@@ -44,6 +44,7 @@ turned state turn =
 abbrev pub turnAt : Turn → ℕ → Turn
 turnAt turn clock =
     record {
+      windows = turn .windows;
       owner = turn .owner;
       end = turn .end;
       quota = turn .quota;
@@ -52,8 +53,22 @@ turnAt turn clock =
       records = turn .records + 1;
     }
 
+-- a turn that has moved on: in the same window it has come to another clock, position and number of records
+abbrev pub turnMoved : Turn → Turn → Turn
+turnMoved first turn =
+    record {
+      windows = first .windows;
+      owner = first .owner;
+      end = first .end;
+      quota = first .quota;
+      clock = turn .clock;
+      position = turn .position;
+      records = turn .records;
+    }
+
 -- a state stands where a turn says
 pub record Stands (state : State) (turn : Turn) : Type 0 where
+  pub windows-is : state .windows ≡ turn .windows
   pub clock-is : state .clock ≡ turn .clock
   pub position-is : positionAt state (turn .owner) ≡ turn .position
   pub records-is : recordsAt state (turn .owner) ≡ turn .records
@@ -73,9 +88,9 @@ pub record OpRan
 
 -- the turn of a state in a run that has not ended, beside the plan's recipients and masks
 pub record InTurn (plan : Plan) (rights masks : List ℕ) (state : State) (turn : Turn) : Type 0 where
-  pub not-ended : state .windows < windowsTotal plan
-  pub owner-is : windowOwner plan (state .windows) ≡ turn .owner
-  pub end-is : windowEnd plan (state .windows) ≡ turn .end
+  pub not-ended : turn .windows < windowsTotal plan
+  pub owner-is : windowOwner plan (turn .windows) ≡ turn .owner
+  pub end-is : windowEnd plan (turn .windows) ≡ turn .end
   pub rights-are : plan .rights ≡ rights
   pub masks-are : plan .masks ≡ masks
   pub stands : Stands state turn
@@ -85,9 +100,9 @@ pub record WindowRan (plan : Plan) (scripts : List ℕ) (quota limit steps : ℕ
   pub ran : RunsTo plan scripts quota steps before after
   pub due : steps < limit → stepOf plan scripts quota after ≡ switchOf plan after
 
--- what a window's ops and its switch leave: a step at least, as many as the limit at most
-pub record TurnRan (plan : Plan) (scripts : List ℕ) (quota limit : ℕ) (advance : Advance) (before after : World) : Type 0 where
-  pub some : 0 < advance .steps
-  pub within : advance .steps ≤ limit
-  pub ran : RunsTo plan scripts quota (advance .steps) before after
-  pub starts : advance .start ≡ windowStart plan (advance .state .windows)
+-- a window's ops and its switch, where the limit allows it: as many steps lead there
+pub record TurnRan (limit pad : ℕ) (turn : Turn) (progress : WindowProgress) : Type 0 where
+  pub some : 0 < progress .steps
+  pub within : progress .steps ≤ limit
+  pub owner-is : progress .turn .owner ≡ turn .owner
+  pub next : progress .steps < limit → (progress .turn .windows ≡ turn .windows + 1) × (progress .turn .clock ≡ turn .end + pad)

@@ -1,11 +1,12 @@
 // The machine of an accepted plan: the switch, one step and n steps.
 pub mod stepping;
 
-use script::Op;
 use state::State;
 
 // Where the running domain stands in its window: all that decides its next step, beside its script.
 pub struct Turn {
+    // windows completed
+    pub windows: u64,
     // the running domain
     pub owner: usize,
     // the window's end
@@ -18,15 +19,9 @@ pub struct Turn {
     pub records: u64,
 }
 
-// What the next step of a run is that has not ended.
-pub enum NextStep {
-    Op(Op),
-    Switch,
-}
-
-// What the ops of one window answer, beside the cache table, the boxes and the log.
+// What the ops of one window answer, or these and its switch, beside the cache table, the boxes and the log.
 pub struct WindowProgress {
-    // the number of ops done
+    // the number of steps done
     pub steps: u64,
     pub turn: Turn,
 }
@@ -36,6 +31,4 @@ pub struct Advance {
     // the number of steps done
     pub steps: u64,
     pub state: State,
-    // when the window starts that the run is in then
-    pub start: u64,
 }

@@ -1,6 +1,5 @@
 // One step, an op or a switch, and n of them.
 use crate::Advance;
-use crate::NextStep;
 use crate::Turn;
 use crate::WindowProgress;
 use cache::flush::flush_kernel;
@@ -18,17 +17,16 @@ ghost use mathlib.Core.Path.{_≡_};
 ghost use mathlib.Core.Bool.{true};
 ghost use Prim.Native.Nat.{_+_, _*_, _<_, _≤_, max};
 ghost use lib.ListN.{length};
-ghost use Rattle.plan.specs.Limits.{mostDomains, mostPad};
+ghost use Rattle.plan.specs.Limits.{leastPad, mostDomains, mostPad};
 ghost use Rattle.plan.specs.Validity.{planValid};
-ghost use Rattle.plan.specs.Windows.{windowStart, windowsTotal};
 ghost use Rattle.script.specs.Limits.{OpWithinLimits, mostOps, scriptsLength};
 ghost use Rattle.cache.specs.Lines.{tableLength};
 ghost use Rattle.ops.specs.Ops.{boxesLength};
 ghost use Rattle.ops.specs.View.{viewOf};
 ghost use Rattle.state.specs.StateValidity.{stateValid};
-ghost use Rattle.machine.specs.Steps.{nextStepOf, runOf, turnOf};
+ghost use Rattle.machine.specs.Steps.{nextStepOf, runOf};
 ghost use Rattle.machine.specs.Switch.{flushedClock, paddedClock, switchedCache};
-ghost use Rattle.machine.specs.View.{InTurn, OpRan, TurnRan, WindowRan, clockBound, ranWith, turned, worldWith};
+ghost use Rattle.machine.specs.View.{InTurn, OpRan, RunsTo, TurnRan, WindowRan, clockBound, ranWith, turnMoved, turned, worldWith};
 
 fn later(one: u64, other: u64) -> u64
     ensures { λ r. ⌜ r ≡ max one other ⌝ }
@@ -38,7 +36,7 @@ fn later(one: u64, other: u64) -> u64
 
 // The switch: the clock raised to the window's end if lower, both flushes, and the pad. Answers the clock at the next window's start.
 fn switch(cache: &mut [u16], clock: u64, end: u64, pad: u64) -> u64
-    requires { ⌜ (length (now cache) ≡ tableLength) × (clock ≤ clockBound) × (end ≤ clockBound) × (pad ≤ mostPad) ⌝ }
+    requires { ⌜ (length (now cache) ≡ tableLength) × (clock ≤ end + 212) × (end ≤ clockBound) × (pad ≤ mostPad) ⌝ }
     ensures { λ r.
         ⌜ (r ≡ paddedClock end pad (flushedClock clock end (now (cache .entry))))
         × (now (cache .exit) ≡ switchedCache (now (cache .entry))) ⌝ }
@@ -50,18 +48,14 @@ fn switch(cache: &mut [u16], clock: u64, end: u64, pad: u64) -> u64
 }
 
 // The next step in a window.
-fn next_step(scripts: &[u32], turn: Turn) -> NextStep
+fn next_step(scripts: &[u32], turn: Turn) -> ScriptItem
     requires { ⌜ (turn .owner < mostDomains) × (length (now scripts) ≡ scriptsLength) ⌝ }
     ensures { λ r. ⌜ r ≡ nextStepOf (now (scripts .entry)) turn ⌝ }
 {
     if (turn.end <= turn.clock) | (turn.quota <= turn.records) {
-        return NextStep::Switch;
+        return ScriptItem::End;
     }
-    let item = fetch(scripts, turn.owner as u32, turn.position);
-    match item {
-        ScriptItem::Op(op) => NextStep::Op(op),
-        ScriptItem::End => NextStep::Switch,
-    }
+    fetch(scripts, turn.owner as u32, turn.position)
 }
 
 // One op of the running domain, with its record stored. Answers the turn after it.
@@ -87,6 +81,7 @@ fn op_step(
     let seen = done.seen;
     store_record(log, turn.quota, owner as u64, turn.records, seen, clock);
     Turn {
+        windows: turn.windows,
         owner,
         end: turn.end,
         quota: turn.quota,
@@ -108,11 +103,11 @@ fn run_window(
     boxes: &mut [u32],
     log: &mut [u8],
 ) -> WindowProgress
-    requires { ⌜ (first .owner < mostDomains) × (first .clock ≤ clockBound) × (first .end + 213 ≤ clockBound)
+    requires { ⌜ (first .owner < mostDomains) × (first .clock ≤ first .end + 212) × (first .end ≤ clockBound)
         × (length (now scripts) ≡ scriptsLength) × (length (now cache) ≡ tableLength) × (length (now boxes) ≡ boxesLength)
         × (8 * (first .quota * first .owner + first .quota) ≤ length (now log)) ⌝ }
-    ensures { λ r. ⌜ (r .steps ≤ limit) × (r .turn .owner ≡ first .owner) × (r .turn .end ≡ first .end)
-        × (r .turn .clock ≤ clockBound) × ((plan : Plan) (state : State)
+    ensures { λ r. ⌜ (r .steps ≤ limit) × (r .turn ≡ turnMoved first (r .turn))
+        × (r .turn .clock ≤ first .end + 212) × ((plan : Plan) (state : State)
         → InTurn plan (now (rights .entry)) (now (masks .entry)) state first
         → WindowRan plan (now (scripts .entry)) (first .quota) limit (r .steps)
         (worldWith state (now (cache .entry)) (now (boxes .entry)) (now (log .entry)))
@@ -122,7 +117,7 @@ fn run_window(
     let mut turn = first;
     while steps < limit {
         let next = next_step(scripts, turn);
-        let NextStep::Op(op) = next else {
+        let ScriptItem::Op(op) = next else {
             break;
         };
         turn = op_step(rights, masks, op, turn, cache, boxes, log);
@@ -131,98 +126,51 @@ fn run_window(
     WindowProgress { steps, turn }
 }
 
-// The running domain's turn, in the window that starts at `start`.
-fn turn_of(plan: Plan, quota: u64, state: State, start: u64) -> Turn
-    requires { ⌜ (planValid plan ≡ true) × (state .windows < windowsTotal plan)
-        × (start ≡ windowStart plan (state .windows)) ⌝ }
-    ensures { λ r. ⌜ r ≡ turnOf plan quota state ⌝ }
-{
-    let owners = plan.owners;
-    let lengths = plan.lengths;
-    let positions = state.positions;
-    let records = state.records;
-    let slot = (state.windows % plan.windows as u64) as usize;
-    let owner = owners[slot] as usize;
-    Turn {
-        owner,
-        end: start + lengths[slot] as u64,
-        quota,
-        clock: state.clock,
-        position: positions[owner],
-        records: records[owner],
-    }
-}
-
-// The state that a turn leaves.
-fn state_after(state: State, turn: Turn) -> State
-    requires { ⌜ turn .owner < mostDomains ⌝ }
-    ensures { λ r. ⌜ r ≡ turned state turn ⌝ }
-{
-    let owner = turn.owner;
-    let mut positions = state.positions;
-    let mut records = state.records;
-    positions[owner] = turn.position;
-    records[owner] = turn.records;
-    State {
-        windows: state.windows,
-        clock: turn.clock,
-        positions,
-        records,
-    }
-}
-
-// The ops of the window that a run is in, and its switch where the limit allows one step more.
+// The ops of a window, and its switch where the limit allows one step more.
 fn run_turn(
-    plan: Plan,
+    rights: &[u32; 8],
+    masks: &[u16; 8],
     scripts: &[u32],
-    quota: u64,
+    pad: u64,
     limit: u64,
-    state: State,
-    start: u64,
+    first: Turn,
     cache: &mut [u16],
     boxes: &mut [u32],
     log: &mut [u8],
-) -> Advance
-    requires { ⌜ (planValid plan ≡ true) × (state .windows < windowsTotal plan)
-        × (start ≡ windowStart plan (state .windows)) × (state .clock ≤ clockBound) × (0 < limit)
+) -> WindowProgress
+    requires { ⌜ (leastPad ≤ pad) × (pad ≤ mostPad) × (0 < limit) × (first .windows ≤ clockBound)
+        × (first .owner < mostDomains) × (first .clock ≤ first .end + 212) × (first .end ≤ clockBound)
         × (length (now scripts) ≡ scriptsLength) × (length (now cache) ≡ tableLength) × (length (now boxes) ≡ boxesLength)
-        × (8 * (quota * plan .domains) ≤ length (now log)) ⌝ }
-    ensures { λ r. ⌜ TurnRan plan (now (scripts .entry)) quota limit r
+        × (8 * (first .quota * first .owner + first .quota) ≤ length (now log)) ⌝ }
+    ensures { λ r. ⌜ TurnRan limit pad first r × ((plan : Plan) (state : State)
+        → InTurn plan (now (rights .entry)) (now (masks .entry)) state first
+        → plan .pad ≡ pad
+        → RunsTo plan (now (scripts .entry)) (first .quota) (r .steps)
         (worldWith state (now (cache .entry)) (now (boxes .entry)) (now (log .entry)))
-        (worldWith (r .state) (now (cache .exit)) (now (boxes .exit)) (now (log .exit))) ⌝ }
+        (worldWith (turned state (r .turn)) (now (cache .exit)) (now (boxes .exit)) (now (log .exit)))) ⌝ }
 {
-    let rights = plan.rights;
-    let masks = plan.masks;
-    let turn = turn_of(plan, quota, state, start);
-    let spent = run_window(&rights, &masks, scripts, limit, turn, cache, boxes, log);
-    let last = spent.turn;
-    let left = state_after(state, last);
-    let steps = spent.steps;
-    if limit <= steps {
-        return Advance {
-            steps,
-            state: left,
-            start,
-        };
+    let ran = run_window(rights, masks, scripts, limit, first, cache, boxes, log);
+    if limit <= ran.steps {
+        return ran;
     }
-    let pad = plan.pad as u64;
+    let last = ran.turn;
     let clock = switch(cache, last.clock, last.end, pad);
-    let positions = left.positions;
-    let records = left.records;
-    Advance {
-        steps: steps + 1,
-        state: State {
-            windows: left.windows + 1,
+    WindowProgress {
+        steps: ran.steps + 1,
+        turn: Turn {
+            windows: last.windows + 1,
+            owner: last.owner,
+            end: last.end,
+            quota: last.quota,
             clock,
-            positions,
-            records,
+            position: last.position,
+            records: last.records,
         },
-        start: last.end + pad,
     }
 }
 
-// Steps up to a limit, or to the run's end, window by window. Only the first window's start is worked out; each next one
-// follows from the last.
+// Steps up to a limit, or to the run's end, window by window. Only the first window's start is worked out: a switch leaves
+// the clock at the next one's.
 pub fn run_steps(
     plan: Plan,
     scripts: &[u32],
@@ -236,35 +184,50 @@ pub fn run_steps(
     requires { ⌜ (planValid plan ≡ true) × (stateValid plan quota state ≡ true)
         × (length (now scripts) ≡ scriptsLength) × (length (now cache) ≡ tableLength) × (length (now boxes) ≡ boxesLength)
         × (8 * (quota * plan .domains) ≤ length (now log)) ⌝ }
-    ensures { λ r. ⌜ (ranWith (r .steps) (worldWith (r .state) (now (cache .exit)) (now (boxes .exit)) (now (log .exit)))
+    ensures { λ r. ⌜ ranWith (r .steps) (worldWith (r .state) (now (cache .exit)) (now (boxes .exit)) (now (log .exit)))
         ≡ runOf plan (now (scripts .entry)) quota limit
-        (worldWith state (now (cache .entry)) (now (boxes .entry)) (now (log .entry))))
-        × (r .start ≡ windowStart plan (r .state .windows)) ⌝ }
+        (worldWith state (now (cache .entry)) (now (boxes .entry)) (now (log .entry))) ⌝ }
 {
+    let rights = plan.rights;
+    let masks = plan.masks;
+    let declared = plan.windows as u64;
+    let pad = plan.pad as u64;
     let total = windows_total(plan);
     let mut steps: u64 = 0;
     let mut present = state;
     let mut start = window_start(plan, state.windows);
     while (steps < limit) & (present.windows < total) {
-        let turn = run_turn(
-            plan,
-            scripts,
+        let slot = (present.windows % declared) as usize;
+        let owner = plan.owners[slot] as usize;
+        let turn = Turn {
+            windows: present.windows,
+            owner,
+            end: start + plan.lengths[slot] as u64,
             quota,
+            clock: present.clock,
+            position: present.positions[owner],
+            records: present.records[owner],
+        };
+        let ran = run_turn(
+            &rights,
+            &masks,
+            scripts,
+            pad,
             limit - steps,
-            present,
-            start,
+            turn,
             cache,
             boxes,
             log,
         );
-        let left = turn.state;
-        steps += turn.steps;
-        present = left;
-        start = turn.start;
+        present.windows = ran.turn.windows;
+        present.clock = ran.turn.clock;
+        present.positions[owner] = ran.turn.position;
+        present.records[owner] = ran.turn.records;
+        start = ran.turn.clock;
+        steps += ran.steps;
     }
     Advance {
         steps,
         state: present,
-        start,
     }
 }

@@ -1,18 +1,17 @@
 -- The state that a host lends to its next call is the state that the last one left: a lent state's
 -- arrays have their lengths, and every step
 -- keeps them. Assumes nothing.
-use mathlib.Core.Path.{refl}
+use mathlib.Core.Path.{refl, _∙_}
 use mathlib.Core.List.{List}
 use Prim.Native.Nat.{ℕ}
-use lib.ListN.{length, length-set}
+use lib.ListN.{length}
 use Rattle.plan.specs.declared.Plan.{Plan}
 use Rattle.records.specs.Records.{partRecords}
 use Rattle.state.specs.declared.State.{State}
 use Rattle.state.specs.World.{World, freshState}
-use Rattle.machine.specs.Steps.{opStepOf, steps}
-use Rattle.machine.specs.Switch.{switchOf}
+use Rattle.machine.specs.Steps.{steps}
 use Rattle.machine.specs.View.{worldWith}
-use Rattle.machine.proofs.Invariant.{steps-hold}
+use Rattle.machine.proofs.Invariant.{steps-counts}
 use Rattle.refusal.specs.declared.Verdict.{Verdict}
 use Rattle.refusal.specs.declared.Verdict.the-variants.{Accepted, Refused}
 use Rattle.engine.specs.Checks.{freshVerdict, runVerdict}
@@ -52,12 +51,9 @@ abbrev Long : World → Type 0
 Long world = StateLengths (world .state)
 
 run-long : (plan : Plan) (scripts : List ℕ) (quota limit : ℕ) (world : World) → Long world → Long (steps plan scripts quota limit world)
-unfolding switchOf opStepOf
 run-long plan scripts quota limit world long =
-    steps-hold plan scripts quota Long
-    (λ before kept inWindow. record { positions = kept .positions; records = kept .records })
-    (λ before op kept begins. record { positions = simp length-set (kept .positions); records = simp length-set (kept .records) })
-    world long limit
+    let kept = steps-counts plan scripts quota limit world in
+    record { positions = kept .0 ∙ long .positions; records = kept .1 ∙ long .records }
 
 call-long :
     (verdict : Verdict) (plan : Plan) (scripts : List ℕ) (world : World) (limit : ℕ) → Long world → Long (runFrom verdict plan scripts world limit .world)

@@ -16,7 +16,7 @@ use Rattle.line.specs.Keywords.{formKeywordAt, bodyOf}
 use Rattle.line.specs.Lines.{closedLine, bodyLine, tokenLine, lineAt}
 use Rattle.reader.specs.Draft.{noDraft, noOps, takePad, takeRun, takeDomain, takeWindow, takeOp, takeLine}
 use Rattle.plan.specs.Parts.{withPad, withRun, withDomain, withWindow, withMasks}
-use Rattle.reader.specs.Final.{lacking, firstUndeclared, firstColourless, finalVerdict, planWithMasks}
+use Rattle.reader.specs.Final.{lacking, mentionsFrom, firstOf, firstColourless, finalVerdict, planWithMasks}
 use Rattle.reader.specs.Read.{walkFrom, readVerdict, readOf}
 use Rattle.engine.proofs.Computing.{computing}
 use Rattle.report.specs.Lines.{kindAndValue, seenLine, recordLines, domainLines, seenLines}
@@ -38,7 +38,7 @@ unfolding
     formKeywordAt bodyOf closedLine bodyLine tokenLine lineAt
     noDraft noOps takePad takeRun takeDomain takeWindow takeOp takeLine
     withPad withRun withDomain withWindow withMasks
-    lacking firstUndeclared firstColourless finalVerdict planWithMasks
+    lacking mentionsFrom firstOf firstColourless finalVerdict planWithMasks
     walkFrom readVerdict readOf
 reading = 0
 

@@ -12,13 +12,11 @@ use Rattle.plan.specs.Validity.{planValid}
 use Rattle.plan.proofs.Windows.{owner-declared}
 use Rattle.plan.specs.Windows.{windowEnd, windowOwner, windowsTotal}
 use Rattle.script.specs.declared.ScriptItem.{ScriptItem}
-use Rattle.script.specs.declared.ScriptItem.the-variants.{End}
+use Rattle.script.specs.declared.ScriptItem.the-variants.{Op as Fetch, End}
 use Rattle.script.specs.Fetch.{decodeOf, fetchOf}
 use Rattle.ops.specs.Ops.{boxIndex}
 use Rattle.state.specs.World.{World, endedOf, positionAt, recordsAt, runningOf}
-use Rattle.machine.specs.declared.NextStep.{NextStep}
-use Rattle.machine.specs.declared.NextStep.the-variants.{Op as Begin, Switch}
-use Rattle.machine.specs.Steps.{activeStep, isEnd, nextItem, nextStepOf, opAt, stepOf, switchDue, turnOf}
+use Rattle.machine.specs.Steps.{activeStep, isEnd, nextItem, nextStepOf, stepOf, switchDue, turnOf}
 use Rattle.machine.specs.Switch.{switchOf}
 use Rattle.machine.proofs.Fetched.{fetched-within}
 use Rattle.machine.proofs.Invariant.{op-next, step-cases}
@@ -56,6 +54,7 @@ module _ (plan : Plan) (quota domain : ℕ) {Kept : ℕ → Type 0} (to : (sende
   same-turn : turnOf plan quota (one .state) ≡ turnOf plan quota (other .state)
   same-turn = λ i.
       record {
+        windows = a .windows i;
         owner = windowOwner plan (a .windows i);
         end = windowEnd plan (a .windows i);
         quota = quota;
@@ -80,7 +79,7 @@ module _ (plan : Plan) (quota domain : ℕ) {Kept : ℕ → Type 0} (to : (sende
       let item : nextItem scripts turn ≡ nextItem scripts′ turn =
       rw running (fetch-alike scripts scripts′ domain (positionAt (one .state) domain) same) in
       ap
-      (λ (found : ScriptItem). cond (leb (turn .end) (turn .clock) || isEnd found || leb (turn .quota) (turn .records)) Switch (opAt found))
+      (λ (found : ScriptItem). cond (leb (turn .end) (turn .clock) || isEnd found || leb (turn .quota) (turn .records)) End found)
       item
       ∙ ap (nextStepOf scripts′) same-turn
 
@@ -92,10 +91,10 @@ module _ (plan : Plan) (quota domain : ℕ) {Kept : ℕ → Type 0} (to : (sende
   unfolding activeStep
   step-alike scripts scripts′ same whole = by-end (endedOf plan (one .state)) refl
     where
-      by-next : (next : NextStep) → nextStepOf scripts (turnOf plan quota (one .state)) ≡ next
+      by-next : (next : ScriptItem) → nextStepOf scripts (turnOf plan quota (one .state)) ≡ next
           → Together plan quota domain Kept one other (activeStep plan quota next one) (activeStep plan quota next other)
-      by-next Switch is = both refl refl
-      by-next (Begin op) is =
+      by-next End is = both refl refl
+      by-next (Fetch op) is =
           rw (running, same-running)
           (still (op-alike plan quota domain to op (fetched-within scripts _ (positionAt (one .state) _) op (op-next scripts _ op is .next)) whole a))
 

@@ -1,88 +1,187 @@
 -- `machine::stepping::run_steps` meets its contract. The loop's invariant is `Going`. Assumes nothing.
 use mathlib.Core.List.{[]}
-use mathlib.Core.Path.{_∙_}
+use mathlib.Core.Path.{_∙_, refl}
 use Prim.Native.Nat.{_-_, _<_}
 use native.Mathlib.Omega.{arith}
+use lib.ListN.{length}
 use borrow.Author.Needs.{needs}
-use Rattle.plan.specs.Windows.{windowsTotal}
+use Rattle.plan.specs.Windows.{windowLength, windowOwner, windowsTotal}
 use Rattle.plan.proofs.ValidPlans.{counts}
-use Rattle.machine.specs.View.{worldWith}
-use Rattle.machine.proofs.Going.{Going, goes-on, going-clock, going-done, going-first, going-on}
+use Rattle.machine.specs.View.{InTurn, worldWith}
+use Rattle.machine.proofs.Going.{Going, Small, goes-on, going-clock, going-counts, going-done, going-first, small}
 use Rattle.machine.proofs.Schedule.{valid-scheduled}
+use Rattle.machine.proofs.WholeTurns.{Room, going-turn, turn-here, turn-room, turnFrom}
 use Rattle.machine.proofs.stepping.run_steps.Statement.{statement}
 use Rattle.machine.proofs.stepping.run_steps.Tie as tie
 
 abbrev Inv-loop : tie.InvT-loop
-Inv-loop plan scripts quota limit cache₀ boxes₀ log₀ total steps₀ present₀ start₀ cache boxes log steps present start =
+Inv-loop scripts quota limit cache₀ boxes₀ log₀ plan rights masks declared pad total steps₀ present₀ start₀ cache boxes log steps present start =
     Going plan scripts quota limit (worldWith present₀ cache₀ boxes₀ log₀) (worldWith present cache boxes log) steps start
 
 abbrev μ-loop : tie.MeasureT-loop
-μ-loop plan scripts quota limit cache₀ boxes₀ log₀ total steps₀ present₀ start₀ cache boxes log steps present start =
+μ-loop scripts quota limit cache₀ boxes₀ log₀ plan rights masks declared pad total steps₀ present₀ start₀ cache boxes log steps present start =
     limit - steps
 
--- the limit is not reached, and the run is in a window
+-- ---- in the loop: the limit is not reached, and the run is in a window
+
 more :
-    (c : tie.Then1 Inv-loop μ-loop)
-    → let args = c .before .before .before .before .before .before .before .before .before .args in let loop = c .before .before .loop in
-    (loop .steps < args .limit) × (loop .present .windows < windowsTotal (args .plan))
-more c = goes-on _ _ _ _ (rw (c .before .before .before .before .windows-total .ensures) at (c .if1 .taken))
+    (c : tie.In-loop Inv-loop μ-loop)
+    → let args = c .before .before .before .before .before .before .before .before .before .before .args in let loop = c .before .loop in
+    (loop .steps < args .limit) × (loop .present .windows < windowsTotal (args .t1))
+more c = goes-on _ _ _ _ (rw (c .before .before .before .windows-total .ensures) at (c .loop-test .taken))
+
+smalls : (c : tie.In-loop Inv-loop μ-loop) → let loop = c .before .loop in Small (c .before .before .before .before .before .before .before .before .before .before .args .t1) (loop .present .windows) (loop .start)
+smalls c = small _ _ _ (c .before .before .before .before .before .before .before .before .before .before .pre .0) (c .before .loop .inv .starts (more c .0)) (more c .1)
+
+-- the turn, small enough for what follows, and the state's
+room :
+    (c : tie.In-loop Inv-loop μ-loop)
+    → let args = c .before .before .before .before .before .before .before .before .before .before .args in let loop = c .before .loop in
+    Room (turnFrom (args .t1) (args .quota) (loop .present) (loop .start)) (length (loop .log))
+room c =
+    let pre = c .before .before .before .before .before .before .before .before .before .before .pre in
+    let inv = c .before .loop .inv in
+    turn-room _ _ (c .before .loop .present) _ (pre .0) (more c .1) (inv .starts (more c .0)) _
+    (going-clock _ _ _ _ _ _ _ _ inv (pre .0) (pre .1) (more c .1)) (rw (inv .log-long) (pre .5))
+
+here :
+    (c : tie.In-loop Inv-loop μ-loop)
+    → let args = c .before .before .before .before .before .before .before .before .before .before .args in let loop = c .before .loop in
+    InTurn (args .t1) (args .t1 .rights) (args .t1 .masks) (loop .present) (turnFrom (args .t1) (args .quota) (loop .present) (loop .start))
+here c =
+    let kept = going-counts _ _ _ _ _ _ _ _ (c .before .loop .inv) in
+    let good = c .before .before .before .before .before .before .before .before .before .before .good .1 .1 .1 .1 .0 in
+    turn-here _ _ (c .before .loop .present) _ (c .before .before .before .before .before .before .before .before .before .before .pre .0) (more c .1) (c .before .loop .inv .starts (more c .0))
+    (kept .0 ∙ search (needs, good)) (kept .1 ∙ search (needs, good))
+
+cast-declared : tie.Need-cast-declared Inv-loop μ-loop
+cast-declared c = search needs
+
+cast-pad : tie.Need-cast-pad Inv-loop μ-loop
+cast-pad c = search needs
 
 windows-total-requires : tie.Need-windows-total-requires Inv-loop μ-loop
-windows-total-requires c κs = let count = counts _ (c .before .before .before .before .pre .0) in (count .run-most, count .windows-most)
+windows-total-requires c κs = let count = counts _ (c .before .before .before .before .before .before .pre .0) in (count .run-most, count .windows-most)
 
 window-start-requires : tie.Need-window-start-requires Inv-loop μ-loop
 window-start-requires c κs =
-    let pre = c .before .before .before .before .before .pre in
-    (pre .0, valid-scheduled _ _ (worldWith (c .before .before .before .before .before .args .state) [] [] []) (pre .0) (pre .1) .windows)
+    let pre = c .before .before .before .before .before .before .before .pre in
+    (pre .0, valid-scheduled _ _ (worldWith (c .before .before .before .before .before .before .before .args .state) [] [] []) (pre .0) (pre .1) .windows)
 
 loop-holds : tie.Need-loop-holds Inv-loop μ-loop
 loop-holds c = going-first _ _ _ _ _ _ (c .window-start .ensures)
 
+rem-slot : tie.Need-rem-slot Inv-loop μ-loop
+rem-slot c = counts _ (c .before .before .before .before .before .before .before .before .before .before .pre .0) .windows-least
+
+mul-owner : tie.Need-mul-owner Inv-loop μ-loop
+mul-owner c = omega (arith, smalls c .slot-below)
+
+element-copy-out-owner : tie.Need-element-copy-out-owner Inv-loop μ-loop
+element-copy-out-owner c = smalls c .slot-below
+
+cast-owner : tie.Need-cast-owner Inv-loop μ-loop
+unfolding windowOwner
+cast-owner c = omega (arith, smalls (c .before) .owner-below)
+
+mul-t31 : tie.Need-mul-t31 Inv-loop μ-loop
+mul-t31 c = omega (arith, smalls (c .before) .slot-below)
+
+element-copy-out-t34 : tie.Need-element-copy-out-t34 Inv-loop μ-loop
+element-copy-out-t34 c = smalls (c .before) .slot-below
+
+cast-t30 : tie.Need-cast-t30 Inv-loop μ-loop
+unfolding windowLength
+cast-t30 c = omega (arith, smalls (c .before .before) .length-below)
+
+add-t37 : tie.Need-add-t37 Inv-loop μ-loop
+unfolding windowLength
+add-t37 c = omega (arith, smalls (c .before .before))
+
+mul-t39 : tie.Need-mul-t39 Inv-loop μ-loop
+unfolding windowOwner
+mul-t39 c = omega (arith, smalls (c .before .before) .owner-below)
+
+element-copy-out-t42 : tie.Need-element-copy-out-t42 Inv-loop μ-loop
+unfolding windowOwner
+element-copy-out-t42 c = smalls (c .before .before) .owner-below
+
+mul-t43 : tie.Need-mul-t43 Inv-loop μ-loop
+unfolding windowOwner
+mul-t43 c = omega (arith, smalls (c .before .before .before) .owner-below)
+
+element-copy-out-t46 : tie.Need-element-copy-out-t46 Inv-loop μ-loop
+unfolding windowOwner
+element-copy-out-t46 c = smalls (c .before .before .before) .owner-below
+
 sub-run-turn : tie.Need-sub-run-turn Inv-loop μ-loop
-sub-run-turn c = omega (arith, more c .0)
+sub-run-turn c = omega (arith, more (c .before .before .before .before .before .before) .0)
 
 run-turn-requires : tie.Need-run-turn-requires Inv-loop μ-loop
+unfolding windowOwner windowLength
 run-turn-requires c κs =
-    let pre = c .before .before .before .before .before .before .before .before .before .before .before .before .pre in
-    let inv = c .before .before .before .before .before .loop .inv in
-    let on = more (c .before .before .before) in (
-      pre .0,
-      on .1,
-      inv .starts,
-      going-clock _ _ _ _ _ _ _ _ inv (pre .0) (pre .1) (on .1),
-      omega (arith, on .0),
+    let pre = c .before .before .before .before .before .before .before .before .before .before .before .before .before .before .before .before .before .before .before .pre in
+    let count = counts _ (pre .0) in
+    let inv = c .before .before .before .before .before .before .before .before .before .before .loop .inv in
+    let turn = room (c .before .before .before .before .before .before .before .before .before) in (
+      count .pad-least,
+      count .pad-most,
+      omega (arith, more (c .before .before .before .before .before .before .before .before .before) .0),
+      turn .windows,
+      turn .owner,
+      turn .late,
+      turn .end,
       pre .2,
       inv .cache-long ∙ pre .3,
       inv .boxes-long ∙ pre .4,
-      rw (inv .log-long) (pre .5),
+      turn .log,
     )
 
+mul-present : tie.Need-mul-present Inv-loop μ-loop
+unfolding windowOwner
+mul-present c = omega (arith, smalls (c .before .before .before .before .before .before .before .before .before .before .before .before .before .before .before .before) .owner-below)
+
+element-write-present : tie.Need-element-write-present Inv-loop μ-loop
+unfolding windowOwner
+element-write-present c = smalls (c .before .before .before .before .before .before .before .before .before .before .before .before .before .before .before .before) .owner-below
+
+mul-present-2 : tie.Need-mul-present-2 Inv-loop μ-loop
+unfolding windowOwner
+mul-present-2 c = omega (arith, smalls (c .before .before .before .before .before .before .before .before .before .before .before .before .before .before .before .before) .owner-below)
+
+element-write-present-2 : tie.Need-element-write-present-2 Inv-loop μ-loop
+unfolding windowOwner
+element-write-present-2 c = smalls (c .before .before .before .before .before .before .before .before .before .before .before .before .before .before .before .before) .owner-below
+
 add-steps : tie.Need-add-steps Inv-loop μ-loop
-add-steps c = omega (arith, more (c .before .before .before .before .before .before .before .before .before .before .before .before) .0, c .before .before .before .before .before .before .before .before .run-turn .ensures .within, c .before .before .before .before .before .before .before .before .before .before .before .before .before .before .before .before .before .before .before .before .before .fits .limit)
+add-steps c = omega (arith, more (c .before .before .before .before .before .before .before .before .before .before .before .before .before .before .before .before .before) .0, c .before .before .before .before .before .before .before .run-turn .ensures .0 .within, c .before .before .before .before .before .before .before .before .before .before .before .before .before .before .before .before .before .before .before .before .before .before .before .before .before .before .before .fits .limit)
 
 loop-less : tie.Need-loop-less Inv-loop μ-loop
-loop-less c = omega (arith, more (c .before .before .before .before .before .before .before .before .before .before .before .before) .0, c .before .before .before .before .before .before .before .before .run-turn .ensures .some)
+loop-less c = omega (arith, more (c .before .before .before .before .before .before .before .before .before .before .before .before .before .before .before .before .before) .0, c .before .before .before .before .before .before .before .run-turn .ensures .0 .some)
 
 loop-again : tie.Need-loop-again Inv-loop μ-loop
+unfolding windowOwner windowLength
 loop-again c =
-    let turn = c .before .before .before .before .before .before .before .before .run-turn in
+    let args = c .before .before .before .before .before .before .before .before .before .before .before .before .before .before .before .before .before .before .before .before .before .before .before .before .before .before .before .args in
+    let loop = c .before .before .before .before .before .before .before .before .before .before .before .before .before .before .before .before .before .before .loop in
+    let turn = c .before .before .before .before .before .before .before .run-turn in
     let did = turn .ensures in
-    going-on _ _ _ _ _ _ _ _ (c .before .before .before .before .before .before .before .before .before .before .before .before .before .before .loop .inv) _ _ _ (did .within) (did .ran) (did .starts)
+    let begins = here (c .before .before .before .before .before .before .before .before .before .before .before .before .before .before .before .before .before) in
+    going-turn (args .t1) _ _ _ _ (loop .present) _ _ _ _ _ (turnFrom (args .t1) (args .quota) (loop .present) (loop .start)) (turn .result) _ _ _ (loop .inv)
+    (begins .end-is) (did .0) (did .1 _ _ begins refl)
     (turn .kept .1 .1 .1 .1 .1 .1 .0) (turn .kept .1 .1 .1 .1 .1 .1 .1 .0) (turn .kept .1 .1 .1 .1 .1 .1 .1 .1 .0)
 
 same-length : tie.Need-same-length Inv-loop μ-loop
-same-length c = c .before .before .loop .inv .cache-long
+same-length c = c .before .loop .inv .cache-long
 
 same-length-2 : tie.Need-same-length-2 Inv-loop μ-loop
-same-length-2 c = c .before .before .loop .inv .boxes-long
+same-length-2 c = c .before .loop .inv .boxes-long
 
 same-length-3 : tie.Need-same-length-3 Inv-loop μ-loop
-same-length-3 c = c .before .before .loop .inv .log-long
+same-length-3 c = c .before .loop .inv .log-long
 
 returns : tie.Need-returns Inv-loop μ-loop
-returns c =
-    let inv = c .before .before .loop .inv in
-    (going-done _ _ _ _ _ _ _ _ inv (rw (c .before .before .before .before .windows-total .ensures) at (c .if1 .left)), inv .starts)
+returns c = going-done _ _ _ _ _ _ _ _ (c .before .loop .inv) (rw (c .before .before .before .windows-total .ensures) at (c .loop-test .left))
 
 pub run-steps-spec : {M : Type 1} → statement M
 run-steps-spec =
@@ -90,11 +189,29 @@ run-steps-spec =
     (tie.spec
     Inv-loop
     μ-loop
+    cast-declared
+    cast-pad
     windows-total-requires
     window-start-requires
     loop-holds
+    rem-slot
+    mul-owner
+    element-copy-out-owner
+    cast-owner
+    mul-t31
+    element-copy-out-t34
+    cast-t30
+    add-t37
+    mul-t39
+    element-copy-out-t42
+    mul-t43
+    element-copy-out-t46
     sub-run-turn
     run-turn-requires
+    mul-present
+    element-write-present
+    mul-present-2
+    element-write-present-2
     add-steps
     loop-less
     loop-again

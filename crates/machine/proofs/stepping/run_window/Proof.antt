@@ -1,8 +1,9 @@
 -- `machine::stepping::run_window` meets its contract. The loop's invariant is `Turning`. Assumes nothing.
-use mathlib.Core.Path.{_∙_, sym}
+use mathlib.Core.Path.{_∙_, ap, sym}
 use Prim.Native.Nat.{_-_}
 use native.Mathlib.Omega.{arith}
 use borrow.Author.Needs.{needs}
+use Rattle.machine.specs.declared.Turn.{Turn}
 use Rattle.machine.proofs.Fetched.{fetched-below, fetched-within}
 use Rattle.machine.proofs.Invariant.{op-next}
 use Rattle.machine.proofs.Windows.{Turning, record-room, turn-ends, turn-first, turn-more}
@@ -21,7 +22,7 @@ loop-holds : tie.Need-loop-holds Inv-loop μ-loop
 loop-holds c = turn-first _ _ _ _ _ _ _ _ (c .before .before .before .before .pre .1)
 
 next-step-requires : tie.Need-next-step-requires Inv-loop μ-loop
-next-step-requires c κs = let pre = c .before .before .before .before .before .before .pre in (omega (arith, c .before .loop .inv .owner-is, pre .0), pre .3)
+next-step-requires c κs = let pre = c .before .before .before .before .before .before .pre in (omega (arith, ap (λ (t : Turn). t .owner) (c .before .loop .inv .moved), pre .0), pre .3)
 
 enum-known-next : tie.Need-enum-known-next Inv-loop μ-loop
 enum-known-next c = search needs
@@ -34,10 +35,10 @@ op-step-requires c κs =
     let pre = c .before .before .before .before .before .before .before .before .before .before .before .before .before .pre in
     let inv = c .before .before .before .before .before .before .before .before .loop .inv in
     let begins = op-next _ _ _ (sym (c .before .before .before .before .before .before .next-step .ensures) ∙ c .before .before .before .before .next .given .1) in (
-      omega (arith, inv .owner-is, pre .0),
+      omega (arith, ap (λ (t : Turn). t .owner) (inv .moved), pre .0),
       fetched-within _ _ _ _ (begins .next),
       fetched-below _ _ _ _ (begins .next),
-      inv .clock-most,
+      omega (arith, ap (λ (t : Turn). t .end) (inv .moved), begins .inTime, pre .2),
       inv .cache-long ∙ pre .4,
       inv .boxes-long ∙ pre .5,
       record-room _ _ _ _ _ _ _ _ _ _ _ _ _ inv (begins .room) (pre .6),
@@ -51,10 +52,9 @@ loop-less c = omega (arith, c .before .before .before .before .before .before .b
 
 loop-again : tie.Need-loop-again Inv-loop μ-loop
 loop-again c =
-    let pre = c .before .before .before .before .before .before .before .before .before .before .before .before .before .before .before .before .before .before .before .before .pre in
     let chosen = sym (c .before .before .before .before .before .before .before .before .before .before .before .next .given .1) ∙ c .before .before .before .before .before .before .before .before .before .before .before .before .before .next-step .ensures in
     let did = c .before .before .before .before .before .before .op-step in
-    turn-more _ _ _ _ _ _ _ _ _ _ _ _ _ _ _ _ _ _ (c .before .before .before .before .before .before .before .before .before .before .before .before .before .before .before .loop .inv) (c .before .before .before .before .before .before .before .before .before .before .before .before .before .before .loop-test .taken) (pre .2) chosen
+    turn-more _ _ _ _ _ _ _ _ _ _ _ _ _ _ _ _ _ _ (c .before .before .before .before .before .before .before .before .before .before .before .before .before .before .before .loop .inv) (c .before .before .before .before .before .before .before .before .before .before .before .before .before .before .loop-test .taken) chosen
     (did .ensures) (did .kept .1 .1 .1 .1 .0) (did .kept .1 .1 .1 .1 .1 .0) (did .kept .1 .1 .1 .1 .1 .1 .0)
 
 same-length : tie.Need-same-length Inv-loop μ-loop
@@ -70,9 +70,8 @@ returns : tie.Need-returns Inv-loop μ-loop
 returns c =
     let inv = c .before .loop .inv in (
       inv .within,
-      inv .owner-is,
-      inv .end-is,
-      inv .clock-most,
+      inv .moved,
+      inv .late,
       λ plan state begins. record { ran = inv .done plan state begins .0; due = λ fewer. absurd (omega (arith, c .loop-test)) },
     )
 
@@ -90,9 +89,8 @@ returns-2 c =
     let inv = c .before .before .before .before .loop .inv in
     let chosen = sym (c .enum-told .given .1) ∙ c .before .before .next-step .ensures in (
       inv .within,
-      inv .owner-is,
-      inv .end-is,
-      inv .clock-most,
+      inv .moved,
+      inv .late,
       λ plan state begins.
       record { ran = inv .done plan state begins .0; due = λ fewer. turn-ends _ _ _ _ _ _ _ _ _ _ _ _ _ inv chosen plan state begins },
     )
