@@ -16,11 +16,11 @@ use Rattle.isolation.specs.Calls.{afterCall, isRefused, runAnswer, stepA
 use Rattle.isolation.proofs.OneRun.Verdicts.{run-accepted, run-refused}
 
 -- a thing that a call left as it was handed leaves the list's own as it was
-left-same : {A : Type 0} (thing : Handed A) (value : A) → leftIn thing value (handed thing value) ≡ value
+pub left-same : {A : Type 0} (thing : Handed A) (value : A) → leftIn thing value (handed thing value) ≡ value
 left-same own value = refl
 left-same (foreign other) value = refl
 
-is-own : {A : Type 0} (thing : Handed A) → IsOwn thing → thing ≡ own
+pub is-own : {A : Type 0} (thing : Handed A) → IsOwn thing → thing ≡ own
 is-own own owned = refl
 is-own (foreign other) owned = absurd owned
 

@@ -1,0 +1,6 @@
+-- What is proved of lists of a host's calls.
+pub mod Calls
+pub mod Lists
+pub mod Shown
+pub mod Texts
+pub mod Isolation

@@ -1,0 +1,86 @@
+-- A list from a text: the plan that `pirkvezo_read_plan` wrote is valid, so the fresh start is not refused; and it stands for the
+-- plan that was read. Assumes nothing.
+use mathlib.Core.Bool.{Bool, true, false, false≢true}
+use mathlib.Core.Path.{_≡_, refl, sym, ap, _∙_}
+use borrow.Author.Tests.{eq-eqb}
+use lib.ListN.{length}
+use Rattle.plan.specs.Validity.{planValid}
+use Rattle.cache.specs.Lines.{tableLength}
+use Rattle.ops.specs.Ops.{boxesLength}
+use Rattle.refusal.specs.declared.Verdict.{Verdict}
+use Rattle.refusal.specs.declared.Verdict.the-variants.{Accepted, Refused}
+use Rattle.reader.specs.Read.{ReadOutcome, readOf}
+use Rattle.reader.proofs.Accepted.{accepted-valid}
+use Rattle.engine.specs.Checks.{freshVerdict}
+use Rattle.engine.specs.FreshStart.{freshFrom, freshStartOf}
+use Rattle.isolation.specs.Calls.{isRefused}
+use Rattle.isolation.proofs.OneRun.Verdicts.{refused-number}
+use Rattle.pirkvezo.specs.Answers.{allFit, answerOf, planFits, verdictNumber, wrongLength}
+use Rattle.pirkvezo.specs.Numbers.{numbersFrom, planLength, planNumbers, planOf, stateOf}
+use Rattle.pirkvezo.specs.Reading.{ReadCall, hostRead, readDone, readWith}
+use Rattle.pirkvezo.specs.Starting.{FreshCall, freshDone, hostFreshStart, hostFreshWith}
+use Rattle.pirkvezo.proofs.ReadBack.{read-back}
+use Rattle.host.specs.Calls.{HostList, IsHostList, IsTextList, ReadArrays, freshReturn, isRefusal, readReturn}
+use Rattle.host.specs.Statement.{runOfHost}
+use Rattle.host.proofs.Calls.{byLengths, fitting}
+use Rattle.host.proofs.Shown.{all-fit}
+
+not-refused : (verdict : Verdict) → isRefused verdict ≡ false → verdict ≡ Accepted
+not-refused Accepted accepted = refl
+not-refused (Refused refusal) accepted = absurd (false≢true (sym accepted ∙ refused-number refusal))
+
+module _ (arrays : ReadArrays) (list : HostList) (is : IsTextList arrays list) where
+  abbrev reading : ReadOutcome
+  reading = readOf (arrays .text) (arrays .scripts)
+
+  read-is : readReturn arrays ≡ readDone reading (arrays .answer)
+  unfolding hostRead
+  read-is =
+      fitting (λ (call : ReadCall). call .number) (planFits (arrays .plan) (arrays .answer))
+      (readWith (verdictNumber wrongLength) (arrays .scripts) (arrays .plan) (answerOf wrongLength 0 0 (arrays .answer)))
+      (readDone reading (arrays .answer)) refl (ap isRefusal (is .read)) .1
+
+  accepted : reading .verdict ≡ Accepted
+  unfolding readDone
+  accepted = not-refused (reading .verdict) (sym (ap (λ (call : ReadCall). isRefusal (call .number)) read-is) ∙ ap isRefusal (is .read))
+
+  plan-is : list .plan ≡ planNumbers (reading .plan)
+  unfolding readDone
+  plan-is = is .plan-written ∙ ap (λ (call : ReadCall). call .plan) read-is
+
+  scripts-are : list .scripts ≡ reading .scripts
+  unfolding readDone
+  scripts-are = is .scripts-written ∙ ap (λ (call : ReadCall). call .scripts) read-is
+
+  meant-plan : planOf (list .plan) ≡ reading .plan
+  meant-plan = ap planOf plan-is ∙ read-back (arrays .text) (arrays .scripts)
+
+  plan-long : length (list .plan) ≡ planLength
+  unfolding planNumbers numbersFrom
+  plan-long = ap length plan-is
+
+  valid : planValid (planOf (list .plan)) ≡ true
+  valid = ap planValid meant-plan ∙ accepted-valid (arrays .text) (arrays .scripts) accepted
+
+  fresh-accepted : freshVerdict (planOf (list .plan)) (list .oldCache) (list .oldBoxes) ≡ Accepted
+  unfolding freshVerdict
+  fresh-accepted = rw (eq-eqb _ tableLength (is .cache-fits), eq-eqb _ boxesLength (is .boxes-fit), valid) refl
+
+  fresh-fits : allFit (list .plan) (list .oldState) (list .startAnswer) ≡ true
+  fresh-fits = all-fit (list .plan) (list .oldState) (list .startAnswer) plan-long (is .state-fits) (is .answer-fits)
+
+  abbrev startedBy : Bool → Verdict → FreshCall
+  startedBy fits verdict =
+      byLengths fits
+      (hostFreshWith (verdictNumber wrongLength) (list .oldState) (list .oldCache) (list .oldBoxes) (answerOf wrongLength 0 0 (list .startAnswer)))
+      (freshDone (freshFrom verdict (stateOf (list .oldState)) (list .oldCache) (list .oldBoxes)) (list .startAnswer))
+
+  started : freshReturn list .number ≡ 0
+  unfolding hostFreshStart freshStartOf freshDone
+  started = λ i. startedBy (fresh-fits i) (fresh-accepted i) .number
+
+  pub text-list : IsHostList list
+  text-list = record { started = started; proper = is .proper }
+
+  pub text-run : runOfHost list ≡ record { plan = reading .plan; scripts = reading .scripts; log = list .log }
+  text-run = λ i. record { plan = meant-plan i; scripts = scripts-are i; log = list .log }
