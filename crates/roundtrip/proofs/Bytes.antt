@@ -5,7 +5,6 @@ use mathlib.Core.Bool.{true, and-eq-true-iff}
 use mathlib.Core.List.{List, [], _∷_, _++_, append-assoc}
 use mathlib.Core.Path.{_≡_, refl}
 use lib.Dec.{leb}
-use lib.ListN.{getD}
 use borrow.Author.Tests.{leb-true, lt-ltb}
 use Rattle.lexer.specs.Bytes.{isDigit}
 use Rattle.lexer.specs.Decimal.{decimalOf}
@@ -14,11 +13,9 @@ use Rattle.lexer.proofs.Decimals.{decimal-all}
 use Rattle.lexer.proofs.Scanned.{all-append, all-weaker}
 use Rattle.lists.specs.Ascii.{bytesOf}
 use Rattle.plan.specs.declared.Plan.{Plan}
-use Rattle.plan.specs.Colours.{shareOf}
-use Rattle.plan.specs.Rights.{rightsAt}
 use Rattle.roundtrip.specs.Accepted.{isByte}
 use Rattle.roundtrip.specs.Lines.{domainLine, followed, joined, linesFrom, padLine}
-use Rattle.roundtrip.specs.Lines.{planLines, planText, recipientsOf, runLine, spaced, windowLine}
+use Rattle.roundtrip.specs.Lines.{planLines, planText, runLine, spaced, windowLine}
 
 abbrev Bytes : List ℕ → Type 0
 Bytes text = allBytes isByte text ≡ true
@@ -53,27 +50,27 @@ none = refl
 recipients : (numbers : List ℕ) → Bytes (spaced numbers)
 unfolding spaced
 recipients [] = none
-recipients (number ∷ more) = both _ _ (both _ _ (signs .2) (decimal number)) (recipients more)
+recipients (number ∷ more) = both _ _ (both _ _ (signs .2) (decimal _)) (recipients more)
 
 pad : (plan : Plan) → Bytes (padLine plan)
 unfolding padLine
-pad plan = both _ _ (both _ _ (words .0) (decimal (plan .pad))) (signs .0)
+pad plan = both _ _ (both _ _ (words .0) (decimal _)) (signs .0)
 
 run : (plan : Plan) → Bytes (runLine plan)
 unfolding runLine
-run plan = both _ _ (both _ _ (words .1) (decimal (plan .run))) (signs .0)
+run plan = both _ _ (both _ _ (words .1) (decimal _)) (signs .0)
 
 window : (plan : Plan) (slot : ℕ) → Bytes (windowLine plan slot)
 unfolding windowLine
 window plan slot =
-    let owner = both _ _ (words .2) (decimal (getD (plan .owners) slot 0)) in
-    both _ _ (both _ _ (both _ _ owner (words .3)) (decimal (getD (plan .lengths) slot 0))) (signs .1)
+    let owner = both _ _ (words .2) (decimal _) in
+    both _ _ (both _ _ (both _ _ owner (words .3)) (decimal _)) (signs .1)
 
 domain : (plan : Plan) (number : ℕ) → Bytes (domainLine plan number)
 unfolding domainLine
 domain plan number =
-    let share = both _ _ (both _ _ (both _ _ (words .4) (decimal number)) (words .5)) (decimal (shareOf plan number)) in
-    both _ _ (both _ _ (both _ _ share (words .6)) (recipients (recipientsOf (rightsAt plan number)))) (signs .1)
+    let share = both _ _ (both _ _ (both _ _ (words .4) (decimal _)) (words .5)) (decimal _) in
+    both _ _ (both _ _ (both _ _ share (words .6)) (recipients _)) (signs .1)
 
 -- ---- the text
 
