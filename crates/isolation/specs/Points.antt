@@ -7,8 +7,9 @@ use mathlib.Core.Path.{_≡_}
 use lib.Dec.{eqb, ltb}
 use lib.ListN.{getD, length}
 use Rattle.plan.specs.declared.Plan.{Plan}
-use Rattle.plan.specs.Limits.{mostDomains}
+use Rattle.plan.specs.Limits.{mostDomains, mostRunTicks}
 use Rattle.plan.specs.Windows.{windowOwner, windowsTotal}
+use Rattle.script.specs.Limits.{scriptsLength}
 use Rattle.records.specs.Records.{partRecords}
 use Rattle.ops.specs.Ops.{boxIndex}
 use Rattle.state.specs.World.{World}
@@ -50,6 +51,11 @@ isOpOf run window count =
 unfoldable pub opsOf : FreshRun → ℕ → ℕ → ℕ
 opsOf run window zero = 0
 opsOf run window (suc count) = opsOf run window count + cond (isOpOf run window count) 1 0
+
+-- no run from a fresh start has more steps before its end: each is a window's switch, and a window
+-- takes a tick or more, or one of the ops of the script store
+abbrev pub mostSteps : ℕ
+mostSteps = mostRunTicks + scriptsLength
 
 -- after `count` steps a run is in a window of a domain that a predicate names
 pub record InWindowOf (Named : ℕ → Type 0) (run : FreshRun) (count : ℕ) : Type 0 where
