@@ -8,18 +8,19 @@ use Rattle.lists.specs.Part.{part, splice}
 use Rattle.script.specs.Fetch.{opOf, decodeOf, fetchOf}
 use Rattle.script.specs.Stored.{storedOf}
 use Rattle.plan.specs.Colours.{coloursOf, firstColour, hasBit, holdingOf, maskFrom, maskOf, masksFrom, sharesTotal}
-use Rattle.plan.specs.Validity.{domainCountsValid, declaredValid, undeclaredValid, domainValid, maskValid, windowValid, planValid}
+use Rattle.plan.specs.Validity.{countsValid, declaredValid, undeclaredValid, domainValid, maskValid, windowValid, planValid}
 use Rattle.plan.specs.Sums.{sumTo, allBelow}
 use Rattle.plan.specs.Windows.{windowOwner, windowLength, windowStart, windowEnd, windowsTotal, ticksTotal}
 use Rattle.lexer.specs.Decimal.{digitsOf, decimalOf}
 use Rattle.lexer.specs.Scan.{scanFrom, scanOf, allBytes}
 use Rattle.lexer.specs.Tokens.{valueAfter, decimalValue, digitsToken, runToken, longestRun, tokenFrom, tokenAt}
-use Rattle.syntax.specs.Ops.{opKeywordAt, opNumbers}
-use Rattle.syntax.specs.Recipients.{recipientAt, mention, recipientsFrom, recipientsAt}
+use Rattle.syntax.specs.Brackets.{passHead, bracketedNumber, bracketedOp}
+use Rattle.syntax.specs.Keywords.{follows}
+use Rattle.syntax.specs.Ops.{numberOp, sendOp, opKeywords, opAt}
+use Rattle.syntax.specs.Recipients.{nextRecipient, recipientAt, mention, recipientsFrom, recipientsAt}
 use Rattle.syntax.specs.Tokens.{sameBytes, isWord, passOpen, passClose, passLineEnd, passWord, takeNumber}
-use Rattle.forms.specs.Forms.{padBody, runBody, lengthBody, windowBody, scriptBody, opBody, listedBody, mayBody, shareBody, domainBody}
-use Rattle.line.specs.Keywords.{formKeywordAt, bodyOf}
-use Rattle.line.specs.Lines.{closedLine, bodyLine, tokenLine, lineAt}
+use Rattle.forms.specs.Forms.{padForm, runForm, declaredDomain, windowForm, opForm, nextDomain, listedDomain, mayForm, domainForm}
+use Rattle.line.specs.Lines.{closedLine, notedLine, formKeywords, formLine, lineAt}
 use Rattle.reader.specs.Draft.{noDraft, noOps, planWithPad, planWithRun, planWithDomain, planWithWindow, takePad, takeRun, takeDomain, takeWindow, takeOp, takeLine}
 use Rattle.reader.specs.Final.{lacking, firstUndeclared, firstColourless, finalVerdict, planWithMasks}
 use Rattle.reader.specs.Read.{walkFrom, refusedRead, readOf}
@@ -43,5 +44,5 @@ use Rattle.report.specs.Planrun.{ranLines, planrunOf}
 use Rattle.worked_example.specs.Table.{fullRun, shares, lineHundred, boxLines, leastPad, dirtyTo, flushes, tableAfter, allMiss, fiveReads, sixthRead, firstWindowAt, stepAt, beginsBeforeEnd, noneAtEnd, emptyText, entries, allHold}
 
 pub settled : allHold entries ≡ true
-unfolding bytesOf part splice opOf decodeOf fetchOf storedOf coloursOf sharesTotal firstColour maskFrom maskOf holdingOf hasBit domainCountsValid declaredValid undeclaredValid domainValid maskValid windowValid planValid sumTo allBelow windowOwner windowLength windowStart windowEnd windowsTotal ticksTotal digitsOf decimalOf scanFrom scanOf allBytes valueAfter decimalValue digitsToken runToken longestRun tokenFrom tokenAt noPlan noDraft noOps planWithPad planWithRun planWithDomain planWithWindow takePad takeRun takeDomain takeWindow takeOp takeLine lacking firstUndeclared firstColourless finalVerdict masksFrom planWithMasks padBody runBody lengthBody windowBody opKeywordAt opNumbers scriptBody opBody recipientAt mention recipientsFrom recipientsAt listedBody mayBody shareBody domainBody formKeywordAt bodyOf closedLine bodyLine tokenLine lineAt walkFrom refusedRead readOf sameBytes isWord passOpen passClose passLineEnd passWord takeNumber lookupL1 lookupL2 lookupOf lookupAt accessOf countWhere dirtyLines validLines kernelFlushTicks l1FlushTicks kernelFlushed l1Flushed has behind used lineAllowed l1EntryValid allEmpty waysValid setValid boxValid tablesValid clockValid domainCountsValid stateValid ownsLine touchOf deniedOf passedOf sendOf boxObservation receiveOf computeOf effectOf recordBytes partRecords recordStored logPart opStepOf closedOf fetchedStep activeStep stepOf steps runOf flushedClock paddedClock switchOf endedOf freshState logQueryOf logStatusOf stateVerdict freshVerdict runVerdict logVerdict freshStartOf freshWorld ranFrom runCallOf stepCallOf seenLine domainLines seenLines endLine runLines refusalLine ranLines planrunOf fullRun shares lineHundred boxLines leastPad dirtyTo flushes tableAfter allMiss fiveReads sixthRead firstWindowAt stepAt beginsBeforeEnd noneAtEnd emptyText entries allHold
+unfolding bytesOf part splice opOf decodeOf fetchOf storedOf coloursOf sharesTotal firstColour maskFrom maskOf holdingOf hasBit countsValid declaredValid undeclaredValid domainValid maskValid windowValid planValid sumTo allBelow windowOwner windowLength windowStart windowEnd windowsTotal ticksTotal digitsOf decimalOf scanFrom scanOf allBytes valueAfter decimalValue digitsToken runToken longestRun tokenFrom tokenAt noPlan noDraft noOps planWithPad planWithRun planWithDomain planWithWindow takePad takeRun takeDomain takeWindow takeOp takeLine lacking firstUndeclared firstColourless finalVerdict masksFrom planWithMasks padForm runForm declaredDomain windowForm follows numberOp sendOp opKeywords opAt passHead bracketedNumber bracketedOp opForm nextRecipient recipientAt mention recipientsFrom recipientsAt nextDomain listedDomain mayForm domainForm closedLine notedLine formKeywords formLine lineAt walkFrom refusedRead readOf sameBytes isWord passOpen passClose passLineEnd passWord takeNumber lookupL1 lookupL2 lookupOf lookupAt accessOf countWhere dirtyLines validLines kernelFlushTicks l1FlushTicks kernelFlushed l1Flushed has behind used lineAllowed l1EntryValid allEmpty waysValid setValid boxValid tablesValid clockValid domainCountsValid stateValid ownsLine touchOf deniedOf passedOf sendOf boxObservation receiveOf computeOf effectOf recordBytes partRecords recordStored logPart opStepOf closedOf fetchedStep activeStep stepOf steps runOf flushedClock paddedClock switchOf endedOf freshState logQueryOf logStatusOf stateVerdict freshVerdict runVerdict logVerdict freshStartOf freshWorld ranFrom runCallOf stepCallOf seenLine domainLines seenLines endLine runLines refusalLine ranLines planrunOf fullRun shares lineHundred boxLines leastPad dirtyTo flushes tableAfter allMiss fiveReads sixthRead firstWindowAt stepAt beginsBeforeEnd noneAtEnd emptyText entries allHold
 settled = refl
