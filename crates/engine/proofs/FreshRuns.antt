@@ -11,9 +11,8 @@ use Rattle.records.specs.Records.{partRecords}
 use Rattle.state.specs.declared.State.{State}
 use Rattle.state.specs.StateValidity.{stateValid}
 use Rattle.state.specs.World.{World, endedOf}
-use Rattle.machine.specs.Steps.{steps}
+use Rattle.machine.specs.Steps.{runOf, steps}
 use Rattle.machine.specs.View.{worldWith}
-use Rattle.machine.proofs.Runs.{run-world}
 use Rattle.reachable.proofs.Ending.{ends}
 use Rattle.reachable.proofs.Reached.{boxes-length, cache-length, log-length, reachedWorld, state-valid, tables-valid}
 use Rattle.refusal.specs.declared.Verdict.{Verdict}
@@ -45,14 +44,14 @@ pub record Left (plan : Plan) (log : List ℕ) (world : World) : Type 0 where
 
 pub run-left :
     (plan : Plan) (scripts log : List ℕ) (limit : ℕ) → planValid plan ≡ true → Left plan log (runCallOf plan scripts (freshWorld log) limit .world)
-unfolding runCallOf ranFrom freshWorld steps
+unfolding runCallOf ranFrom freshWorld runOf
 run-left plan scripts log limit possible = go (runVerdict plan scripts (freshWorld log))
   where
     reached : (count : ℕ) → Left plan log (steps plan scripts (partRecords plan (length log)) count (freshWorld log))
     reached count = record { possible = state-valid plan scripts log count possible; long = log-length plan scripts log count possible }
 
     go : (verdict : Verdict) → Left plan log (runFrom verdict plan scripts (freshWorld log) limit .world)
-    go Accepted = subst (Left plan log) (sym (run-world plan scripts (partRecords plan (length log)) limit (freshWorld log))) (reached limit)
+    go Accepted = reached limit
     go (Refused refusal) = reached 0
 
 -- a run that goes on from any world which so many steps reach, beside a script store of the right length, is not refused
@@ -75,7 +74,7 @@ pub fresh-run-accepted : (plan : Plan) (scripts log : List ℕ)
     → planValid plan ≡ true
     → length scripts ≡ scriptsLength
     → runVerdict plan scripts (freshWorld log) ≡ Accepted
-unfolding steps
+unfolding runOf
 fresh-run-accepted plan scripts log possible store = reached-accepted plan scripts log 0 possible store
 
 -- and it ends, where its limit is large enough for every plan
@@ -88,5 +87,4 @@ unfolding runCallOf ranFrom freshWorld
 fresh-run-ends plan scripts log limit possible store large =
     let quota = partRecords plan (length log) in
     ap (λ (verdict : Verdict). runFrom verdict plan scripts (freshWorld log) limit .ending) (fresh-run-accepted plan scripts log possible store)
-    ∙ ap (λ (world : World). endingOf (endedOf plan (world .state))) (run-world plan scripts quota limit (freshWorld log))
     ∙ ap endingOf (ends plan scripts quota possible limit log large)

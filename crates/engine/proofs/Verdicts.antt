@@ -20,7 +20,7 @@ use Rattle.records.proofs.Parts.{parts-fit}
 use Rattle.records.specs.Records.{logPart, partRecords}
 use Rattle.state.specs.StateValidity.{clockValid, domainCountsValid, stateValid}
 use Rattle.state.specs.World.{World, endedOf, freshState, positionAt, recordsAt}
-use Rattle.machine.proofs.Going.{part-room}
+use Rattle.machine.proofs.WholeTurns.{part-room}
 use Rattle.machine.specs.Steps.{runOf}
 use Rattle.machine.specs.View.{ranWith}
 use Rattle.refusal.specs.declared.Refusal.{Refusal}

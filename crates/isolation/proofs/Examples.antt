@@ -17,7 +17,7 @@ use Rattle.script.specs.Fetch.{opOf, decodeOf, fetchOf}
 use Rattle.script.specs.Stored.{storedOf}
 use Rattle.plan.specs.declared.Plan.{Plan}
 use Rattle.plan.specs.Colours.{coloursOf, sharesTotal, firstColour, maskFrom, maskOf, hasBit}
-use Rattle.plan.specs.Validity.{domainCountsValid, declaredValid, undeclaredValid, domainValid, maskValid, windowValid, planValid}
+use Rattle.plan.specs.Validity.{countsValid, declaredValid, undeclaredValid, domainValid, maskValid, windowValid, planValid}
 use Rattle.plan.specs.Sums.{sumTo, allBelow}
 use Rattle.plan.proofs.Sums.{all-below}
 use Rattle.plan.specs.Windows.{windowOwner, windowLength, windowStart, windowEnd, windowsTotal, ticksTotal}
@@ -30,7 +30,7 @@ use Rattle.state.specs.declared.State.{State}
 use Rattle.state.specs.TableValidity.{lineAllowed, l1EntryValid, allEmpty, waysValid, setValid, boxValid, tablesValid}
 use Rattle.state.specs.StateValidity.{clockValid, domainCountsValid, stateValid}
 use Rattle.state.specs.World.{World, endedOf, freshState, positionAt}
-use Rattle.machine.specs.Steps.{opStepOf, closedOf, fetchedStep, activeStep, stepOf, steps, runOf}
+use Rattle.machine.specs.Steps.{opStepOf, switchDue, nextStepOf, activeStep, stepOf, runOf}
 use Rattle.machine.specs.Switch.{flushedClock, paddedClock, switchOf}
 use Rattle.engine.specs.LogQuery.{logQueryOf, logStatusOf}
 use Rattle.engine.specs.Checks.{stateVerdict, freshVerdict, runVerdict, logVerdict}
@@ -120,7 +120,7 @@ other =
 
 -- every definition that the examples compute with, named once
 computing : ℕ
-unfolding part splice opOf decodeOf fetchOf storedOf coloursOf sharesTotal firstColour maskFrom maskOf hasBit domainCountsValid declaredValid undeclaredValid domainValid maskValid windowValid planValid sumTo allBelow windowOwner windowLength windowStart windowEnd windowsTotal ticksTotal lookupL1 lookupL2 lookupOf lookupAt accessOf countWhere dirtyLines validLines kernelFlushTicks l1FlushTicks kernelFlushed l1Flushed has behind used lineAllowed l1EntryValid allEmpty waysValid setValid boxValid tablesValid clockValid domainCountsValid stateValid ownsLine touchOf deniedOf passedOf sendOf boxObservation receiveOf computeOf effectOf recordBytes partRecords recordStored logPart opStepOf closedOf fetchedStep activeStep stepOf steps runOf flushedClock paddedClock switchOf endedOf freshState logQueryOf logStatusOf stateVerdict freshVerdict runVerdict logVerdict freshStartOf freshWorld ranFrom runCallOf stepCallOf runAnswer stepAnswer logAnswer afterCall verdictOf stepsCounted afterCalls stepsOfCalls Proper startWorld worldAfter opsOf
+unfolding part splice opOf decodeOf fetchOf storedOf coloursOf sharesTotal firstColour maskFrom maskOf hasBit countsValid declaredValid undeclaredValid domainValid maskValid windowValid planValid sumTo allBelow windowOwner windowLength windowStart windowEnd windowsTotal ticksTotal lookupL1 lookupL2 lookupOf lookupAt accessOf countWhere dirtyLines validLines kernelFlushTicks l1FlushTicks kernelFlushed l1Flushed has behind used lineAllowed l1EntryValid allEmpty waysValid setValid boxValid tablesValid clockValid domainCountsValid stateValid ownsLine touchOf deniedOf passedOf sendOf boxObservation receiveOf computeOf effectOf recordBytes partRecords recordStored logPart opStepOf switchDue nextStepOf activeStep stepOf runOf flushedClock paddedClock switchOf endedOf freshState logQueryOf logStatusOf stateVerdict freshVerdict runVerdict logVerdict freshStartOf freshWorld ranFrom runCallOf stepCallOf runAnswer stepAnswer logAnswer afterCall verdictOf stepsCounted afterCalls stepsOfCalls Proper startWorld worldAfter opsOf
 computing = 0
 
 one-is : IsList one

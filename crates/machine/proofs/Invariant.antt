@@ -1,8 +1,10 @@
 -- What holds along a run: whatever a switch and an op that begins keep holds after any number of steps. Assumes nothing.
 use Prim.Native.Nat.{ℕ, zero, suc, _<_}
-use mathlib.Core.Bool.{Bool, true, false}
+use mathlib.Core.Bool.{Bool, true, false, cond, _||_}
 use mathlib.Core.List.{List}
-use mathlib.Core.Path.{_≡_, refl}
+use mathlib.Core.Path.{_≡_, refl, sym, subst}
+use native.Mathlib.Omega.{arith}
+use lib.Dec.{leb}
 use borrow.Author.Tests.{leb-false}
 use Rattle.plan.specs.declared.Plan.{Plan}
 use Rattle.plan.specs.Windows.{windowEnd, windowsTotal}
@@ -11,16 +13,47 @@ use Rattle.script.specs.declared.ScriptItem.{ScriptItem}
 use Rattle.script.specs.declared.ScriptItem.the-variants.{Op as Fetch, End}
 use Rattle.state.specs.declared.State.{State}
 use Rattle.state.specs.World.{World, endedOf, recordsAt, runningOf}
-use Rattle.machine.specs.Steps.{activeStep, closedOf, fetchedStep, nextOf, opStepOf, stepOf, steps}
+use Rattle.machine.specs.declared.NextStep.{NextStep}
+use Rattle.machine.specs.declared.NextStep.the-variants.{Op as Begin, Switch}
+use Rattle.machine.specs.declared.Turn.{Turn}
+use Rattle.machine.specs.Steps.{activeStep, isEnd, nextItem, nextStepOf, opAt, opStepOf, runOf, stepOf, steps, switchDue, turnOf}
 use Rattle.machine.specs.Switch.{switchOf}
-use Rattle.machine.proofs.Tests.{neither}
+use Rattle.machine.proofs.Runs.{step-active, step-ended, steps-last}
 
--- an op begins: in a window, before its end, with room in the domain's part of the log, where an op stands next in its script
+-- an op is next in a turn: before the window's end, with room in the domain's part of the log, where an op stands next in its script
+pub record OpNext (scripts : List ℕ) (turn : Turn) (op : Op) : Type 0 where
+  pub inTime : turn .clock < turn .end
+  pub room : turn .records < turn .quota
+  pub next : nextItem scripts turn ≡ Fetch op
+
+-- an op begins: it is next in a window
 pub record Begins (plan : Plan) (scripts : List ℕ) (quota : ℕ) (world : World) (op : Op) : Type 0 where
   pub inWindow : world .state .windows < windowsTotal plan
   pub inTime : world .state .clock < windowEnd plan (world .state .windows)
   pub room : recordsAt (world .state) (runningOf plan (world .state)) < quota
-  pub next : nextOf plan scripts (world .state) ≡ Fetch op
+  pub next : nextItem scripts (turnOf plan quota (world .state)) ≡ Fetch op
+
+-- a switch is no op
+switch-no-op : (op : Op) → Switch ≡ Begin op → ⊥
+switch-no-op op same = let none : _≡_ {A = ℕ} 0 1 = cc in omega arith
+
+-- the next step is an op only there
+pub op-next : (scripts : List ℕ) (turn : Turn) (op : Op) → nextStepOf scripts turn ≡ Begin op → OpNext scripts turn op
+unfolding nextStepOf switchDue
+op-next scripts turn op is =
+    go (leb (turn .end) (turn .clock)) refl (nextItem scripts turn) refl (leb (turn .quota) (turn .records)) refl is
+  where
+    go :
+        (late : Bool) → leb (turn .end) (turn .clock) ≡ late
+        → (item : ScriptItem) → nextItem scripts turn ≡ item
+        → (full : Bool) → leb (turn .quota) (turn .records) ≡ full
+        → cond (late || isEnd item || full) Switch (opAt item) ≡ Begin op
+        → OpNext scripts turn op
+    go true late item next full room is = absurd (switch-no-op op is)
+    go false late End next full room is = absurd (switch-no-op op is)
+    go false late (Fetch found) next true room is = absurd (switch-no-op op is)
+    go false late (Fetch found) next false room is =
+        record { inTime = leb-false _ _ late; room = leb-false _ _ room; next = cc }
 
 -- a run that has not ended is in a window
 pub in-window : (plan : Plan) (state : State) → endedOf plan state ≡ false → state .windows < windowsTotal plan
@@ -38,37 +71,22 @@ module _
     (switch-holds : world .state .windows < windowsTotal plan → Holds (switchOf plan world))
     (op-holds : (op : Op) → Begins plan scripts quota world op → Holds (opStepOf plan quota (runningOf plan (world .state)) op world))
   where
-    active-cases : world .state .windows < windowsTotal plan → Holds (activeStep plan scripts quota world)
-    unfolding activeStep closedOf fetchedStep
-    active-cases inWindow = go (closedOf plan quota (world .state)) refl
-      where
-        fetched :
-            (next : ScriptItem)
-            → nextOf plan scripts (world .state) ≡ next
-            → closedOf plan quota (world .state) ≡ false
-            → Holds (fetchedStep plan quota next world)
-        fetched (Fetch op) next open-still =
-            let tests = neither _ _ open-still in
-            op-holds op (record { inWindow = inWindow; inTime = leb-false _ _ (tests .0); room = leb-false _ _ (tests .1); next = next })
-        fetched End next open-still = switch-holds inWindow
-
-        go :
-            (closed : Bool)
-            → closedOf plan quota (world .state) ≡ closed
-            → Holds (elim closed [ true ↦ switchOf plan world | false ↦ fetchedStep plan quota (nextOf plan scripts (world .state)) world ])
-        go true test = switch-holds inWindow
-        go false test = fetched (nextOf plan scripts (world .state)) refl test
-
     pub step-cases : Holds (stepOf plan scripts quota world)
-    unfolding stepOf
-    step-cases = go (endedOf plan (world .state)) refl
+    unfolding activeStep
+    step-cases = by-end (endedOf plan (world .state)) refl
       where
-        go :
-            (ended : Bool)
-            → endedOf plan (world .state) ≡ ended
-            → Holds (elim ended [ true ↦ world | false ↦ activeStep plan scripts quota world ])
-        go true test = ended-holds test
-        go false test = active-cases (in-window plan (world .state) test)
+        by-next : (next : NextStep) → nextStepOf scripts (turnOf plan quota (world .state)) ≡ next
+            → endedOf plan (world .state) ≡ false
+            → Holds (activeStep plan quota next world)
+        by-next Switch is running = switch-holds (in-window plan (world .state) running)
+        by-next (Begin op) is running =
+            let next = op-next scripts _ op is in
+            op-holds op
+            (record { inWindow = in-window plan (world .state) running; inTime = next .inTime; room = next .room; next = next .next })
+
+        by-end : (ended : Bool) → endedOf plan (world .state) ≡ ended → Holds (stepOf plan scripts quota world)
+        by-end true ended = subst Holds (sym (step-ended plan scripts quota world ended)) (ended-holds ended)
+        by-end false running = subst Holds (sym (step-active plan scripts quota world running)) (by-next _ refl running)
 
 -- what a switch and an op that begins keep holds after any number of steps
 module _
@@ -78,12 +96,14 @@ module _
     (Holds : World → Type 0)
     (after-switch : (world : World) → Holds world → world .state .windows < windowsTotal plan → Holds (switchOf plan world))
     (after-op :
-    (world : World) (op : Op) → Holds world → Begins plan scripts quota world op → Holds (opStepOf plan quota (runningOf plan (world .state)) op world))
+    (world : World) (op : Op) → Holds world → Begins plan scripts quota world op
+    → Holds (opStepOf plan quota (runningOf plan (world .state)) op world))
   where
-    pub step-holds : (world : World) → Holds world → Holds (stepOf plan scripts quota world)
+    step-holds : (world : World) → Holds world → Holds (stepOf plan scripts quota world)
     step-holds world holds = step-cases plan scripts quota world Holds (λ ended. holds) (after-switch world holds) (λ op. after-op world op holds)
 
     pub steps-hold : (world : World) → Holds world → (count : ℕ) → Holds (steps plan scripts quota count world)
-    unfolding steps
+    unfolding runOf
     steps-hold world holds zero = holds
-    steps-hold world holds (suc count) = step-holds _ (steps-hold world holds count)
+    steps-hold world holds (suc count) =
+        subst Holds (sym (steps-last plan scripts quota count world)) (step-holds _ (steps-hold world holds count))

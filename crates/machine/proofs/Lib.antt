@@ -6,4 +6,5 @@ pub mod Runs
 pub mod Schedule
 pub mod Tests
 pub mod Turns
+pub mod WholeTurns
 pub mod Windows

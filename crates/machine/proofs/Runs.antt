@@ -1,14 +1,15 @@
--- Runs and their steps: what a run under a limit leaves is so many steps, an ended world stays, and a run of a + b steps is a run of a, then one of b.
+-- Runs and their steps: n steps may be taken apart at either end, an ended world stays, and a run of a + b steps is a run of a, then one of b.
 -- Assumes nothing.
-use Prim.Native.Nat.{ℕ, zero, suc, _+_, _≤_}
+use Prim.Native.Nat.{ℕ, zero, suc, _+_, _-_, _≤_}
 use mathlib.Core.Bool.{Bool, true, false}
 use mathlib.Core.List.{List}
 use mathlib.Core.Path.{_≡_, refl, sym, ap, subst, _∙_}
-use native.Mathlib.Nat.{add-suc, add-zero, suc-add, zero-add}
+use native.Mathlib.Nat.{add-zero, suc-add, zero-add}
 use native.Mathlib.Omega.{arith}
 use Rattle.plan.specs.declared.Plan.{Plan}
 use Rattle.state.specs.World.{World, endedOf}
-use Rattle.machine.specs.Steps.{RunEffect, activeStep, oneMore, runOf, stepOf, steps}
+use Rattle.machine.specs.Steps.{RunEffect, activeStep, nextStepOf, oneMore, runOf, stepOf, steps, turnOf}
+use Rattle.machine.specs.View.{RunsTo, ranWith}
 
 module _ (plan : Plan) (scripts : List ℕ) (quota : ℕ) where
   -- ---- one step
@@ -17,49 +18,27 @@ module _ (plan : Plan) (scripts : List ℕ) (quota : ℕ) where
   unfolding stepOf
   step-ended world ended = rw (ended, stepOf)
 
-  pub step-active : (world : World) → endedOf plan (world .state) ≡ false → stepOf plan scripts quota world ≡ activeStep plan scripts quota world
+  pub step-active : (world : World) → endedOf plan (world .state) ≡ false
+      → stepOf plan scripts quota world ≡ activeStep plan quota (nextStepOf scripts (turnOf plan quota (world .state))) world
   unfolding stepOf
   step-active world running = rw (running, stepOf)
 
-  -- ---- so many steps
-
-  -- the first step may be taken apart instead of the last
-  pub steps-first : (count : ℕ) (world : World) → steps plan scripts quota (suc count) world ≡ steps plan scripts quota count (stepOf plan scripts quota world)
-  unfolding steps
-  steps-first zero world = refl
-  steps-first (suc count) world = ap (stepOf plan scripts quota) (steps-first count world)
-
-  -- a + b steps are a steps, then b
-  pub steps-add : (one other : ℕ) (world : World)
-      → steps plan scripts quota (one + other) world ≡ steps plan scripts quota other (steps plan scripts quota one world)
-  unfolding steps
-  steps-add one zero world = ap (λ count. steps plan scripts quota count world) (add-zero one)
-  steps-add one (suc other) world =
-      ap (λ count. steps plan scripts quota count world) (add-suc one other) ∙ ap (stepOf plan scripts quota) (steps-add one other world)
-
-  -- an ended world stays
-  pub steps-ended : (count : ℕ) (world : World) → endedOf plan (world .state) ≡ true → steps plan scripts quota count world ≡ world
-  unfolding steps
-  steps-ended zero world ended = refl
-  steps-ended (suc count) world ended = ap (stepOf plan scripts quota) (steps-ended count world ended) ∙ step-ended world ended
-
   -- ---- a run under a limit
 
-  pub run-ended : (limit : ℕ) (world : World) → endedOf plan (world .state) ≡ true
-      → runOf plan scripts quota limit world ≡ record { done = 0; world = world }
+  pub run-ended : (limit : ℕ) (world : World) → endedOf plan (world .state) ≡ true → runOf plan scripts quota limit world ≡ ranWith 0 world
   unfolding runOf
   run-ended zero world ended = refl
   run-ended (suc limit) world ended = rw (ended, runOf)
 
-  pub run-more : (limit : ℕ) (world : World) → endedOf plan (world .state) ≡ false
-      → runOf plan scripts quota (suc limit) world ≡ oneMore (runOf plan scripts quota limit (activeStep plan scripts quota world))
+  run-more : (limit : ℕ) (world : World) → endedOf plan (world .state) ≡ false
+      → runOf plan scripts quota (suc limit) world ≡ oneMore (runOf plan scripts quota limit (stepOf plan scripts quota world))
   unfolding runOf
   run-more limit world running = rw (running, runOf)
 
   -- a run of one step or more, by whether it had ended
   by-end : (Holds : RunEffect → Type 0) (limit : ℕ) (world : World)
-      → (endedOf plan (world .state) ≡ true → Holds (record { done = 0; world = world }))
-      → (endedOf plan (world .state) ≡ false → Holds (oneMore (runOf plan scripts quota limit (activeStep plan scripts quota world))))
+      → (endedOf plan (world .state) ≡ true → Holds (ranWith 0 world))
+      → (endedOf plan (world .state) ≡ false → Holds (oneMore (runOf plan scripts quota limit (stepOf plan scripts quota world))))
       → Holds (runOf plan scripts quota (suc limit) world)
   by-end Holds limit world at-end before = go (endedOf plan (world .state)) refl
     where
@@ -67,28 +46,8 @@ module _ (plan : Plan) (scripts : List ℕ) (quota : ℕ) where
       go true test = subst Holds (sym (run-ended (suc limit) world test)) (at-end test)
       go false test = subst Holds (sym (run-more limit world test)) (before test)
 
-  -- a run leaves what as many steps as its limit leave
-  pub run-world : (limit : ℕ) (world : World) → runOf plan scripts quota limit world .world ≡ steps plan scripts quota limit world
-  unfolding runOf steps
-  run-world zero world = refl
-  run-world (suc limit) world =
-      by-end (λ ran. ran .world ≡ steps plan scripts quota (suc limit) world) limit world
-      (λ ended. sym (steps-ended (suc limit) world ended))
-      (λ running.
-      run-world limit (activeStep plan scripts quota world)
-      ∙ ap (steps plan scripts quota limit) (sym (step-active world running))
-      ∙ sym (steps-first limit world))
-
-  -- the number of steps done is at most the limit
-  pub run-done : (limit : ℕ) (world : World) → runOf plan scripts quota limit world .done ≤ limit
-  unfolding runOf
-  run-done zero world = omega arith
-  run-done (suc limit) world =
-      let rest = run-done limit (activeStep plan scripts quota world) in
-      by-end (λ ran. ran .done ≤ suc limit) limit world (λ ended. omega arith) (λ running. omega arith)
-
   -- a run, then another: the steps done are counted together
-  abbrev pub thenRun : RunEffect → ℕ → RunEffect
+  abbrev thenRun : RunEffect → ℕ → RunEffect
   thenRun ran limit =
       record {
         done = ran .done + runOf plan scripts quota limit (ran .world) .done;
@@ -101,30 +60,71 @@ module _ (plan : Plan) (scripts : List ℕ) (quota : ℕ) where
   run-add zero other world =
       let ran = runOf plan scripts quota other world in
       ap (λ limit. runOf plan scripts quota limit world) (zero-add other)
-      ∙ (λ i. record { done = sym (zero-add (ran .done)) i; world = ran .world })
+      ∙ (λ i. ranWith (sym (zero-add (ran .done)) i) (ran .world))
   run-add (suc one) other world =
       ap (λ limit. runOf plan scripts quota limit world) (suc-add one other)
       ∙ by-end (λ ran. runOf plan scripts quota (suc (one + other)) world ≡ thenRun ran other) one world
       (λ ended.
       run-ended (suc (one + other)) world ended
-      ∙ sym (ap (λ ran. record { done = 0 + ran .done; world = ran .world }) (run-ended other world ended)))
+      ∙ sym (ap (λ ran. ranWith (0 + ran .done) (ran .world)) (run-ended other world ended)))
       (λ running. run-more (one + other) world running ∙ ap oneMore (run-add one other _) ∙ one-more (runOf plan scripts quota one _) other)
     where
       one-more : (ran : RunEffect) (limit : ℕ) → oneMore (thenRun ran limit) ≡ thenRun (oneMore ran) limit
       one-more ran limit =
           let rest = runOf plan scripts quota limit (ran .world) in
           let count : ran .done + rest .done + 1 ≡ ran .done + 1 + rest .done = omega arith in
-          λ i. record { done = count i; world = rest .world }
+          λ i. ranWith (count i) (rest .world)
 
-  -- a run of one step more, where the run has not ended
-  pub run-next : (count : ℕ) (world present next : World)
-      → record { done = count; world = present } ≡ runOf plan scripts quota count world
-      → endedOf plan (present .state) ≡ false
-      → next ≡ activeStep plan scripts quota present
-      → record { done = count + 1; world = next } ≡ runOf plan scripts quota (count + 1) world
+  -- ---- steps that lead on
+
+  -- one step of a run that has not ended
+  pub runs-one : (world next : World) → endedOf plan (world .state) ≡ false → stepOf plan scripts quota world ≡ next
+      → RunsTo plan scripts quota 1 world next
   unfolding runOf
-  run-next count world present next so-far running stepped =
-      (λ i. record { done = count + 1; world = stepped i })
-      ∙ ap (λ (one : RunEffect). record { done = count + one .done; world = one .world }) (sym (run-more 0 present running))
-      ∙ ap (λ (ran : RunEffect). thenRun ran 1) so-far
-      ∙ sym (run-add count 1 world)
+  runs-one world next running stepped = (λ i. ranWith 1 (sym stepped i)) ∙ sym (run-more 0 world running)
+
+  -- first so many, then so many more
+  pub runs-on : (one other : ℕ) (first present next : World) → RunsTo plan scripts quota one first present → RunsTo plan scripts quota other present next
+      → RunsTo plan scripts quota (one + other) first next
+  runs-on one other first present next so-far more =
+      ap (λ (ran : RunEffect). ranWith (one + ran .done) (ran .world)) more
+      ∙ ap (λ (ran : RunEffect). thenRun ran other) so-far
+      ∙ sym (run-add one other first)
+
+  -- a run that has ended is the whole run
+  pub runs-ended : (count limit : ℕ) (first last : World) → RunsTo plan scripts quota count first last → count ≤ limit
+      → endedOf plan (last .state) ≡ true
+      → ranWith count last ≡ runOf plan scripts quota limit first
+  runs-ended count limit first last so-far within ended =
+      let left : count + (limit - count) ≡ limit = omega arith in
+      (λ i. ranWith (sym (add-zero count) i) last)
+      ∙ ap (λ (ran : RunEffect). ranWith (count + ran .done) (ran .world)) (sym (run-ended (limit - count) last ended))
+      ∙ ap (λ (ran : RunEffect). thenRun ran (limit - count)) so-far
+      ∙ sym (run-add count (limit - count) first)
+      ∙ ap (λ (n : ℕ). runOf plan scripts quota n first) left
+
+  -- ---- n steps
+
+  -- an ended world stays
+  pub steps-ended : (count : ℕ) (world : World) → endedOf plan (world .state) ≡ true → steps plan scripts quota count world ≡ world
+  steps-ended count world ended = ap (λ (ran : RunEffect). ran .world) (run-ended count world ended)
+
+  -- a + b steps are a steps, then b
+  pub steps-add : (one other : ℕ) (world : World)
+      → steps plan scripts quota (one + other) world ≡ steps plan scripts quota other (steps plan scripts quota one world)
+  steps-add one other world = ap (λ (ran : RunEffect). ran .world) (run-add one other world)
+
+  steps-first : (count : ℕ) (world : World) → steps plan scripts quota (suc count) world ≡ steps plan scripts quota count (stepOf plan scripts quota world)
+  steps-first count world =
+      by-end (λ ran. ran .world ≡ steps plan scripts quota count (stepOf plan scripts quota world)) count world
+      (λ ended. sym (ap (steps plan scripts quota count) (step-ended world ended) ∙ steps-ended count world ended))
+      (λ running. refl)
+
+  -- the last step of them is taken apart
+  pub steps-last : (count : ℕ) (world : World) → steps plan scripts quota (suc count) world ≡ stepOf plan scripts quota (steps plan scripts quota count world)
+  unfolding runOf
+  steps-last zero world = steps-first zero world
+  steps-last (suc count) world =
+      steps-first (suc count) world
+      ∙ steps-last count (stepOf plan scripts quota world)
+      ∙ ap (stepOf plan scripts quota) (sym (steps-first count world))

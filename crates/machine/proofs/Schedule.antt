@@ -111,12 +111,7 @@ pub steps-scheduled : (plan : Plan) (scripts : List ℕ) (quota : ℕ) (world : 
 steps-scheduled plan scripts quota world possible on-schedule =
     steps-hold plan scripts quota (Scheduled plan) (after-switch plan possible) (after-op plan possible scripts quota) world on-schedule
 
-pub step-scheduled : (plan : Plan) (scripts : List ℕ) (quota : ℕ) (world : World) → planValid plan ≡ true → Scheduled plan world
-    → Scheduled plan (stepOf plan scripts quota world)
-unfolding steps
-step-scheduled plan scripts quota world possible on-schedule = steps-scheduled plan scripts quota world possible on-schedule 1
-
--- a state that passes the check for 14 is on schedule
+-- a valid state (14) is on schedule
 pub valid-scheduled : (plan : Plan) (quota : ℕ) (world : World) → planValid plan ≡ true → stateValid plan quota (world .state) ≡ true
     → Scheduled plan world
 unfolding stateValid clockValid

@@ -1,113 +1,212 @@
--- The ops of one window, with the running domain's numbers kept apart from the state: a law for each turn of the loop and for each way out.
--- Assumes nothing.
-use mathlib.Core.Path.{_≡_, refl, sym, ap, _∙_}
-use mathlib.Core.Bool.{true, false, _||_}
+-- The ops of one window, with the running domain's numbers kept apart from the state. Assumes nothing.
+use mathlib.Core.Path.{_≡_, refl, sym, ap, ap₂, subst, _∙_}
 use mathlib.Core.List.{List}
-use Prim.Native.Nat.{ℕ, _+_, _^_, _≤_}
-use lib.Dec.{leb}
-use lib.ListN.{length}
+use Prim.Native.Nat.{ℕ, _+_, _*_, _≤_, _<_}
+use native.Mathlib.Omega.{arith}
+use lib.ListN.{length, length-set}
 use lib.Seq.{getD-set-same, set-getD, set-set}
 use borrow.Author.Tests.{lt-leb}
 use Rattle.plan.specs.declared.Plan.{Plan}
-use Rattle.script.specs.declared.ScriptItem.{ScriptItem}
-use Rattle.script.specs.declared.ScriptItem.the-variants.{Op as Fetch, End}
 use Rattle.script.specs.declared.Op.{Op}
-use Rattle.script.specs.Fetch.{fetchOf}
 use Rattle.ops.specs.View.{viewOf}
 use Rattle.state.specs.declared.State.{State}
-use Rattle.state.specs.World.{endedOf, positionAt, recordsAt}
-use Rattle.machine.specs.Steps.{activeStep, opStepOf, runOf}
+use Rattle.state.specs.World.{World, endedOf, positionAt, recordsAt}
+use Rattle.machine.specs.declared.NextStep.{NextStep}
+use Rattle.machine.specs.declared.NextStep.the-variants.{Op as Begin, Switch}
+use Rattle.machine.specs.declared.Turn.{Turn}
+use Rattle.machine.specs.Steps.{activeStep, nextStepOf, opStepOf, runOf, stepOf, turnOf}
 use Rattle.machine.specs.Switch.{switchOf}
-use Rattle.machine.specs.View.{InTurn, InWindow, ranWith, turned, worldWith}
-use Rattle.machine.proofs.Runs.{run-next}
-use Rattle.machine.proofs.Turns.{due-closed, due-end, stepped-op}
+use Rattle.machine.specs.View.{InTurn, OpRan, RunsTo, Stands, clockBound, turnAt, turned, worldWith}
+use Rattle.machine.proofs.Invariant.{op-next}
+use Rattle.machine.proofs.Runs.{runs-on, runs-one, step-active}
+use Rattle.machine.proofs.Turns.{op-step-view}
 
--- what holds each time the loop comes round: so many ops are done, and a run of as many steps leaves what they left
+-- a state that stands where a turn says is as the turn leaves it
+turned-same : (state : State) (turn : Turn) → Stands state turn → turned state turn ≡ state
+turned-same state turn stands =
+    rw (← (stands .clock-is), ← (stands .position-is), ← (stands .records-is)) (rw (set-getD (state .positions), set-getD (state .records)) refl)
+
+-- the last turn counts
+turned-twice : (state : State) (turn : Turn) (clock : ℕ) → turned (turned state turn) (turnAt turn clock) ≡ turned state (turnAt turn clock)
+turned-twice state turn clock = rw (set-set (state .positions), set-set (state .records)) refl
+
+module _ (plan : Plan) (scripts rights masks : List ℕ) (state : State) (turn : Turn) (here : InTurn plan rights masks state turn) where
+  -- the state's own turn is this one
+  own-turn : turnOf plan (turn .quota) state ≡ turn
+  own-turn = λ i.
+      record {
+        owner = here .owner-is i;
+        end = here .end-is i;
+        quota = turn .quota;
+        clock = here .stands .clock-is i;
+        position = (ap (positionAt state) (here .owner-is) ∙ here .stands .position-is) i;
+        records = (ap (recordsAt state) (here .owner-is) ∙ here .stands .records-is) i;
+      }
+
+  -- the turn after one op more is that state's turn
+  next-turn : (clock : ℕ) → InTurn plan rights masks (turned state (turnAt turn clock)) (turnAt turn clock)
+  next-turn clock =
+      let positions = here .stands .positions-long in
+      let records = here .stands .records-long in
+      record {
+        not-ended = here .not-ended;
+        owner-is = here .owner-is;
+        end-is = here .end-is;
+        rights-are = here .rights-are;
+        masks-are = here .masks-are;
+        stands =
+            record {
+              clock-is = refl;
+              position-is = getD-set-same (state .positions) (turn .owner) (turn .position + 1) 0 positions;
+              records-is = getD-set-same (state .records) (turn .owner) (turn .records + 1) 0 records;
+              positions-long = rw (length-set (state .positions)) positions;
+              records-long = rw (length-set (state .records)) records;
+            };
+      }
+
+  module _ (cache boxes log : List ℕ) where
+    -- the step is the one that the code chose
+    step-chosen : (next : NextStep) → next ≡ nextStepOf scripts turn
+        → stepOf plan scripts (turn .quota) (worldWith state cache boxes log) ≡ activeStep plan (turn .quota) next (worldWith state cache boxes log)
+    unfolding endedOf
+    step-chosen next is =
+        step-active plan scripts (turn .quota) (worldWith state cache boxes log) (lt-leb _ _ (here .not-ended))
+        ∙ ap (λ (t : Turn). activeStep plan (turn .quota) (nextStepOf scripts t) (worldWith state cache boxes log)) own-turn
+        ∙ ap (λ (n : NextStep). activeStep plan (turn .quota) n (worldWith state cache boxes log)) (sym is)
+
+    step-switches : Switch ≡ nextStepOf scripts turn
+        → stepOf plan scripts (turn .quota) (worldWith state cache boxes log) ≡ switchOf plan (worldWith state cache boxes log)
+    unfolding activeStep
+    step-switches is = step-chosen Switch is
+
+    -- one op
+    op-runs : (op : Op) (next : Turn) (cache′ boxes′ log′ : List ℕ)
+        → Begin op ≡ nextStepOf scripts turn
+        → OpRan (viewOf rights masks) op turn next cache boxes log cache′ boxes′ log′
+        → RunsTo plan scripts (turn .quota) 1 (worldWith state cache boxes log) (worldWith (turned state next) cache′ boxes′ log′)
+    unfolding endedOf activeStep
+    op-runs op next cache′ boxes′ log′ is did =
+        runs-one plan scripts (turn .quota) (worldWith state cache boxes log) _ (lt-leb _ _ (here .not-ended))
+        (step-chosen (Begin op) is
+        ∙ ap (λ (d : ℕ). opStepOf plan (turn .quota) d op (worldWith state cache boxes log)) (here .owner-is)
+        ∙ sym (op-step-view plan (turn .quota) (turn .owner) op (worldWith state cache boxes log))
+        ∙ ap₂ (λ (r m : List ℕ). opStepOf (viewOf r m) (turn .quota) (turn .owner) op (worldWith state cache boxes log)) (here .rights-are) (here .masks-are)
+        ∙ sym (did .world state (here .stands)))
+
+-- some ops of a window are done: as many steps lead to the state that they left, and the turn is that state's
+abbrev pub Done : Plan → List ℕ → List ℕ → List ℕ → ℕ → ℕ → Turn → World → State → List ℕ → List ℕ → List ℕ → Type 0
+Done plan scripts rights masks quota steps turn before state cache boxes log =
+    RunsTo plan scripts quota steps before (worldWith state cache boxes log) × InTurn plan rights masks state turn
+
+-- what holds each time the loop comes round
 pub record Turning
-    (rights masks scripts : List ℕ) (owner end quota limit begun place count : ℕ) (cache₀ boxes₀ log₀ cache boxes log : List ℕ)
-    (steps clock position records : ℕ) : Type 0 where
+    (rights masks scripts : List ℕ) (limit : ℕ) (first : Turn) (cache₀ boxes₀ log₀ cache boxes log : List ℕ) (steps : ℕ) (turn : Turn) : Type 0 where
   pub within : steps ≤ limit
-  pub clock-most : clock ≤ 2 ^ 62 + 213
+  pub owner-is : turn .owner ≡ first .owner
+  pub end-is : turn .end ≡ first .end
+  pub quota-is : turn .quota ≡ first .quota
+  pub clock-most : turn .clock ≤ clockBound
   pub cache-long : length cache ≡ length cache₀
   pub boxes-long : length boxes ≡ length boxes₀
   pub log-long : length log ≡ length log₀
-  pub ran :
+  pub done :
       (plan : Plan) (state : State)
-      → InWindow plan (state .windows) owner end rights masks
-      → InTurn plan state owner begun place count
-      → ranWith steps (worldWith (turned state owner clock position records) cache boxes log)
-      ≡ runOf plan scripts quota steps (worldWith state cache₀ boxes₀ log₀)
+      → InTurn plan rights masks state first
+      → Done plan scripts rights masks (first .quota) steps turn (worldWith state cache₀ boxes₀ log₀) (turned state turn) cache boxes log
 
-module _ (plan : Plan) (scripts : List ℕ) (quota : ℕ) (state : State) (owner end begun place count : ℕ) (rights masks : List ℕ)
-    (handed : InWindow plan (state .windows) owner end rights masks) (begins : InTurn plan state owner begun place count) where
-  -- the numbers that a turned state has
-  position-at : (clock position records : ℕ) → positionAt (turned state owner clock position records) owner ≡ position
-  position-at clock position records = getD-set-same (state .positions) owner position 0 (begins .positions-long)
-
-  records-at : (clock position records : ℕ) → recordsAt (turned state owner clock position records) owner ≡ records
-  records-at clock position records = getD-set-same (state .records) owner records 0 (begins .records-long)
-
+module _ (rights masks scripts : List ℕ) (limit : ℕ) (first : Turn) (cache₀ boxes₀ log₀ : List ℕ) where
   -- before the first op
-  pub turn-first : (cache boxes log : List ℕ)
-      → ranWith 0 (worldWith (turned state owner begun place count) cache boxes log)
-      ≡ runOf plan scripts quota 0 (worldWith state cache boxes log)
+  pub turn-first : first .clock ≤ clockBound → Turning rights masks scripts limit first cache₀ boxes₀ log₀ cache₀ boxes₀ log₀ 0 first
   unfolding runOf
-  turn-first cache boxes log =
-      rw (← (begins .clock-is), ← (begins .position-is), ← (begins .records-is), set-getD (state .positions) owner 0, set-getD (state .records) owner 0)
-      refl
+  turn-first most =
+      record {
+        within = omega arith;
+        owner-is = refl;
+        end-is = refl;
+        quota-is = refl;
+        clock-most = most;
+        cache-long = refl;
+        boxes-long = refl;
+        log-long = refl;
+        done = λ plan state begins.
+            subst
+            (λ (s : State). Done plan scripts rights masks (first .quota) 0 first (worldWith state cache₀ boxes₀ log₀) s cache₀ boxes₀ log₀)
+            (sym (turned-same state first (begins .stands)))
+            (refl, begins);
+      }
 
-  module _ (clock position records : ℕ) (cache boxes log : List ℕ) where
-    -- a switch is due: the clock has reached the end, or the domain's log is full
-    pub turn-closed :
-        (leb end clock || leb quota records) ≡ true
-        → activeStep plan scripts quota (worldWith (turned state owner clock position records) cache boxes log)
-        ≡ switchOf plan (worldWith (turned state owner clock position records) cache boxes log)
-    turn-closed test =
-        due-closed plan scripts quota (turned state owner clock position records) cache boxes log owner end rights masks handed
-        (ap (λ (n : ℕ). leb end clock || leb quota n) (records-at clock position records) ∙ test)
+  -- one op more
+  pub turn-more :
+      (cache boxes log : List ℕ) (steps : ℕ) (turn : Turn) (op : Op) (next : Turn) (cache′ boxes′ log′ : List ℕ)
+      → Turning rights masks scripts limit first cache₀ boxes₀ log₀ cache boxes log steps turn
+      → steps < limit
+      → first .end + 213 ≤ clockBound
+      → Begin op ≡ nextStepOf scripts turn
+      → OpRan (viewOf rights masks) op turn next cache boxes log cache′ boxes′ log′
+      → length cache′ ≡ length cache
+      → length boxes′ ≡ length boxes
+      → length log′ ≡ length log
+      → Turning rights masks scripts limit first cache₀ boxes₀ log₀ cache′ boxes′ log′ (steps + 1) next
+  turn-more cache boxes log steps turn op next cache′ boxes′ log′ turning more near is ran same-cache same-boxes same-log =
+      subst (Turning rights masks scripts limit first cache₀ boxes₀ log₀ cache′ boxes′ log′ (steps + 1)) (sym (ran .next-is))
+      (record {
+        within = omega arith;
+        owner-is = turning .owner-is;
+        end-is = turning .end-is;
+        quota-is = turning .quota-is;
+        clock-most = omega (arith, op-next scripts turn op (sym is) .inTime, turning .end-is, ran .ticks);
+        cache-long = same-cache ∙ turning .cache-long;
+        boxes-long = same-boxes ∙ turning .boxes-long;
+        log-long = same-log ∙ turning .log-long;
+        done = λ plan state begins.
+            let so-far = turning .done plan state begins in
+            subst
+            (λ (s : State).
+            Done plan scripts rights masks (first .quota) (steps + 1) after (worldWith state cache₀ boxes₀ log₀) s cache′ boxes′ log′)
+            (turned-twice state turn (next .clock))
+            (
+              runs-on plan scripts (first .quota) steps 1 (worldWith state cache₀ boxes₀ log₀) (worldWith (turned state turn) cache boxes log)
+              (worldWith (turned (turned state turn) after) cache′ boxes′ log′)
+              (so-far .0) (one plan (turned state turn) (so-far .1)),
+              next-turn plan scripts rights masks (turned state turn) turn (so-far .1) (next .clock),
+            );
+      })
+    where
+      after : Turn
+      after = turnAt turn (next .clock)
 
-    -- a switch is due: the script has ended
-    pub turn-end :
-        (fetched : ScriptItem)
-        → (leb end clock || leb quota records) ≡ false
-        → fetched ≡ fetchOf scripts owner position
-        → fetched ≡ End
-        → activeStep plan scripts quota (worldWith (turned state owner clock position records) cache boxes log)
-        ≡ switchOf plan (worldWith (turned state owner clock position records) cache boxes log)
-    turn-end fetched test got ends =
-        due-end plan scripts quota (turned state owner clock position records) cache boxes log owner end rights masks handed fetched
-        (ap (λ (n : ℕ). leb end clock || leb quota n) (records-at clock position records) ∙ test)
-        (got ∙ ap (fetchOf scripts owner) (sym (position-at clock position records)))
-        ends
+      one : (plan : Plan) (state : State) → InTurn plan rights masks state turn
+          → RunsTo plan scripts (first .quota) 1 (worldWith state cache boxes log) (worldWith (turned state after) cache′ boxes′ log′)
+      one plan state here =
+          subst
+          (λ (quota : ℕ). RunsTo plan scripts quota 1 (worldWith state cache boxes log) (worldWith (turned state after) cache′ boxes′ log′))
+          (turning .quota-is)
+          (op-runs plan scripts rights masks state turn here cache boxes log op after cache′ boxes′ log′ is
+          (subst (λ (t : Turn). OpRan (viewOf rights masks) op turn t cache boxes log cache′ boxes′ log′) (ran .next-is) ran))
 
-    -- one op more
-    pub turn-more :
-        (steps : ℕ) (cache₀ boxes₀ log₀ : List ℕ) (fetched : ScriptItem) (op : Op) (clock′ : ℕ) (cache′ boxes′ log′ : List ℕ)
-        → ranWith steps (worldWith (turned state owner clock position records) cache boxes log)
-        ≡ runOf plan scripts quota steps (worldWith state cache₀ boxes₀ log₀)
-        → (leb end clock || leb quota records) ≡ false
-        → fetched ≡ fetchOf scripts owner position
-        → fetched ≡ Fetch op
-        → ((held : State) → held .clock ≡ clock → recordsAt held owner ≡ records
-        → worldWith (turned held owner clock′ (positionAt held owner + 1) (records + 1)) cache′ boxes′ log′
-        ≡ opStepOf (viewOf rights masks) quota owner op (worldWith held cache boxes log))
-        → ranWith (steps + 1) (worldWith (turned state owner clock′ (position + 1) (records + 1)) cache′ boxes′ log′)
-        ≡ runOf plan scripts quota (steps + 1) (worldWith state cache₀ boxes₀ log₀)
-    unfolding endedOf
-    turn-more steps cache₀ boxes₀ log₀ fetched op clock′ cache′ boxes′ log′ so-far test got is-op did =
-        run-next plan scripts quota steps (worldWith state cache₀ boxes₀ log₀) (worldWith held cache boxes log) _ so-far (lt-leb _ _ (begins .not-ended))
-        (stepped-op plan scripts quota held cache boxes log owner end rights masks handed fetched op _
-        (ap (λ (n : ℕ). leb end clock || leb quota n) (records-at clock position records) ∙ test)
-        (got ∙ ap (fetchOf scripts owner) (sym (position-at clock position records)))
-        is-op
-        (sym same ∙ did held refl (records-at clock position records)))
-      where
-        held : State
-        held = turned state owner clock position records
+  -- a record that the domain's part has room for lies within the log
+  pub record-room :
+      (cache boxes log : List ℕ) (steps : ℕ) (turn : Turn)
+      → Turning rights masks scripts limit first cache₀ boxes₀ log₀ cache boxes log steps turn
+      → turn .records < turn .quota
+      → 8 * (first .quota * first .owner + first .quota) ≤ length log₀
+      → 8 * (turn .quota * turn .owner + turn .records) + 8 ≤ length log
+  record-room cache boxes log steps turn turning below fits =
+      let before : turn .quota * turn .owner ≡ first .quota * first .owner = ap₂ (λ (q o : ℕ). q * o) (turning .quota-is) (turning .owner-is) in
+      omega (arith, turning .quota-is, turning .log-long)
 
-        same :
-            worldWith (turned held owner clock′ (positionAt held owner + 1) (records + 1)) cache′ boxes′ log′
-            ≡ worldWith (turned state owner clock′ (position + 1) (records + 1)) cache′ boxes′ log′
-        same =
-            rw (position-at clock position records, set-set (state .positions) owner position (position + 1), set-set (state .records) owner records (records + 1))
-            refl
+  -- a switch is next
+  pub turn-ends :
+      (cache boxes log : List ℕ) (steps : ℕ) (turn : Turn)
+      → Turning rights masks scripts limit first cache₀ boxes₀ log₀ cache boxes log steps turn
+      → Switch ≡ nextStepOf scripts turn
+      → (plan : Plan) (state : State)
+      → InTurn plan rights masks state first
+      → stepOf plan scripts (first .quota) (worldWith (turned state turn) cache boxes log)
+      ≡ switchOf plan (worldWith (turned state turn) cache boxes log)
+  turn-ends cache boxes log steps turn turning is plan state begins =
+      subst
+      (λ (quota : ℕ).
+      stepOf plan scripts quota (worldWith (turned state turn) cache boxes log) ≡ switchOf plan (worldWith (turned state turn) cache boxes log))
+      (turning .quota-is)
+      (step-switches plan scripts rights masks (turned state turn) turn (turning .done plan state begins .1) cache boxes log is)

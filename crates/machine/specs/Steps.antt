@@ -1,6 +1,6 @@
--- Document 01, "Window, switch, run": one step, so many steps, a run under a limit. Assumes nothing.
+-- Document 01, "Window, switch, run": one step, n steps, a run under a limit. Assumes nothing.
 use Prim.Native.Nat.{ℕ, zero, suc, _+_}
-use mathlib.Core.Bool.{Bool, true, false, _||_}
+use mathlib.Core.Bool.{Bool, true, false, cond, _||_}
 use mathlib.Core.List.{List}
 use lib.Dec.{leb}
 use lib.ListN.{set}
@@ -14,10 +14,13 @@ use Rattle.records.specs.Records.{recordStored}
 use Rattle.ops.specs.Ops.{effectOf}
 use Rattle.state.specs.declared.State.{State}
 use Rattle.state.specs.World.{World, endedOf, positionAt, recordsAt, runningOf}
+use Rattle.machine.specs.declared.NextStep.{NextStep}
+use Rattle.machine.specs.declared.NextStep.the-variants.{Op as Begin, Switch}
+use Rattle.machine.specs.declared.Turn.{Turn}
 use Rattle.machine.specs.Switch.{switchOf}
 
--- one op of a domain: the next position, one record more, the clock after the op, and what the op leaves. Here and below, `quota` is the number of
--- records that each domain's part of the log holds.
+-- one op of a domain: the next position, one record more, the clock after the op, and what the op leaves.
+-- Here and below, `quota` is the number of records that each domain's part of the log holds.
 unfoldable pub opStepOf : Plan → ℕ → ℕ → Op → World → World
 opStepOf plan quota domain op world =
     let effect = effectOf plan domain op (world .cache) (world .boxes) in
@@ -36,36 +39,53 @@ opStepOf plan quota domain op world =
       log = recordStored quota domain count (effect .seen) clock (world .log);
     }
 
--- no op begins: the clock has reached the window's end, or the domain's log is full
-unfoldable pub closedOf : Plan → ℕ → State → Bool
-closedOf plan quota state = leb (windowEnd plan (state .windows)) (state .clock) || leb quota (recordsAt state (runningOf plan state))
+-- where the running domain stands in its window
+abbrev pub turnOf : Plan → ℕ → State → Turn
+turnOf plan quota state =
+    record {
+      owner = runningOf plan state;
+      end = windowEnd plan (state .windows);
+      quota = quota;
+      clock = state .clock;
+      position = positionAt state (runningOf plan state);
+      records = recordsAt state (runningOf plan state);
+    }
 
--- an op where one stands at the domain's position; a switch where the script has ended
-unfoldable pub fetchedStep : Plan → ℕ → ScriptItem → World → World
-fetchedStep plan quota (Fetch op) world = opStepOf plan quota (runningOf plan (world .state)) op world
-fetchedStep plan quota End world = switchOf plan world
+-- what stands next in its script
+abbrev pub nextItem : List ℕ → Turn → ScriptItem
+nextItem scripts turn = fetchOf scripts (turn .owner) (turn .position)
 
--- what stands next in the running domain's script
-abbrev pub nextOf : Plan → List ℕ → State → ScriptItem
-nextOf plan scripts state = fetchOf scripts (runningOf plan state) (positionAt state (runningOf plan state))
+-- the script has ended
+abbrev pub isEnd : ScriptItem → Bool
+isEnd (Fetch op) = false
+isEnd End = true
 
--- a step of a run that has not ended: the next op of the running domain where one may begin, otherwise a switch
-unfoldable pub activeStep : Plan → List ℕ → ℕ → World → World
-activeStep plan scripts quota world =
-    elim (closedOf plan quota (world .state)) [
-      | true ↦ switchOf plan world
-      | false ↦ fetchedStep plan quota (nextOf plan scripts (world .state)) world
-    ]
+-- a switch is due: the clock has reached the window's end, or the script has ended, or the domain's log is full
+unfoldable pub switchDue : List ℕ → Turn → Bool
+switchDue scripts turn =
+    leb (turn .end) (turn .clock) || isEnd (nextItem scripts turn) || leb (turn .quota) (turn .records)
+
+-- the op that stands in a script; past its end there is none
+abbrev pub opAt : ScriptItem → NextStep
+opAt (Fetch op) = Begin op
+opAt End = Switch
+
+-- the next step in a window: a switch where one is due, otherwise the op that stands next in the script
+unfoldable pub nextStepOf : List ℕ → Turn → NextStep
+nextStepOf scripts turn = cond (switchDue scripts turn) Switch (opAt (nextItem scripts turn))
+
+-- what that step leaves
+unfoldable pub activeStep : Plan → ℕ → NextStep → World → World
+activeStep plan quota Switch world = switchOf plan world
+activeStep plan quota (Begin op) world = opStepOf plan quota (runningOf plan (world .state)) op world
 
 -- one step; an ended run stays as it is
 unfoldable pub stepOf : Plan → List ℕ → ℕ → World → World
 stepOf plan scripts quota world =
-    elim (endedOf plan (world .state)) [ true ↦ world | false ↦ activeStep plan scripts quota world ]
-
--- so many steps
-unfoldable pub steps : Plan → List ℕ → ℕ → ℕ → World → World
-steps plan scripts quota zero world = world
-steps plan scripts quota (suc count) world = stepOf plan scripts quota (steps plan scripts quota count world)
+    elim (endedOf plan (world .state)) [
+      | true ↦ world
+      | false ↦ activeStep plan quota (nextStepOf scripts (turnOf plan quota (world .state))) world
+    ]
 
 -- what a run under a limit leaves, with the number of steps done
 pub record RunEffect : Type 0 where
@@ -82,5 +102,9 @@ runOf plan scripts quota zero world = record { done = 0; world = world }
 runOf plan scripts quota (suc limit) world =
     elim (endedOf plan (world .state)) [
       | true ↦ record { done = 0; world = world }
-      | false ↦ oneMore (runOf plan scripts quota limit (activeStep plan scripts quota world))
+      | false ↦ oneMore (runOf plan scripts quota limit (stepOf plan scripts quota world))
     ]
+
+-- the world after n steps, or after the last switch where these are fewer: what a run leaves whose limit is n
+abbrev pub steps : Plan → List ℕ → ℕ → ℕ → World → World
+steps plan scripts quota count world = runOf plan scripts quota count world .world

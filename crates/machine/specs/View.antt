@@ -1,51 +1,93 @@
--- Document 01, "Window, switch, run": what the code of a run is handed of a plan and a world, and what it answers beside the lent things.
+-- Document 01, "Window, switch, run": what the code of a run is handed of a plan and a world, and what it answers beside the buffers.
 -- Assumes nothing.
-use Prim.Native.Nat.{ℕ, _<_}
+use Prim.Native.Nat.{ℕ, _+_, _^_, _≤_, _<_}
 use mathlib.Core.Path.{_≡_}
 use mathlib.Core.List.{List}
-use Rattle.plan.specs.declared.Plan.{Plan}
 use lib.ListN.{length, set}
-use Rattle.plan.specs.Windows.{windowEnd, windowOwner, windowsTotal}
+use Rattle.plan.specs.declared.Plan.{Plan}
+use Rattle.plan.specs.Windows.{windowEnd, windowOwner, windowStart, windowsTotal}
+use Rattle.script.specs.declared.Op.{Op}
 use Rattle.state.specs.declared.State.{State}
 use Rattle.state.specs.World.{World, positionAt, recordsAt}
-use Rattle.machine.specs.Steps.{RunEffect, activeStep, runOf}
+use Rattle.machine.specs.declared.Advance.{Advance}
+use Rattle.machine.specs.declared.Turn.{Turn}
+use Rattle.machine.specs.Steps.{RunEffect, opStepOf, runOf, stepOf}
 use Rattle.machine.specs.Switch.{switchOf}
 
--- a state with the three lent things
+-- clocks, windows' ends and pads stay below this number, so that no sum of a few of them wraps
+abbrev pub clockBound : ℕ
+clockBound = 2 ^ 62
+
+-- a state with the three lent tables
 abbrev pub worldWith : State → List ℕ → List ℕ → List ℕ → World
 worldWith state cache boxes log = record { state = state; cache = cache; boxes = boxes; log = log }
-
--- the numbers of a plan that the ops of a window look at: whose window it is, its end, the recipients and the masks
-pub record InWindow (plan : Plan) (windows owner end : ℕ) (rights masks : List ℕ) : Type 0 where
-  pub owner-is : windowOwner plan windows ≡ owner
-  pub end-is : windowEnd plan windows ≡ end
-  pub rights-are : plan .rights ≡ rights
-  pub masks-are : plan .masks ≡ masks
 
 -- a number of steps with a world
 abbrev pub ranWith : ℕ → World → RunEffect
 ranWith steps world = record { done = steps; world = world }
 
--- a state whose running domain has come to a clock, a place in its script and a number of records
-abbrev pub turned : State → ℕ → ℕ → ℕ → ℕ → State
-turned state owner clock position records =
+-- n steps lead from one world to another, all of them before the run's end
+abbrev pub RunsTo : Plan → List ℕ → ℕ → ℕ → World → World → Type 0
+RunsTo plan scripts quota steps before after = ranWith steps after ≡ runOf plan scripts quota steps before
+
+-- a state with the clock, the position and the number of records that a turn has come to
+abbrev pub turned : State → Turn → State
+turned state turn =
     record {
       windows = state .windows;
-      clock = clock;
-      positions = set (state .positions) owner position;
-      records = set (state .records) owner records;
+      clock = turn .clock;
+      positions = set (state .positions) (turn .owner) (turn .position);
+      records = set (state .records) (turn .owner) (turn .records);
     }
 
--- the numbers of a state that the ops of a window begin with, in a run that has not ended
-pub record InTurn (plan : Plan) (state : State) (owner clock position records : ℕ) : Type 0 where
-  pub not-ended : state .windows < windowsTotal plan
-  pub clock-is : state .clock ≡ clock
-  pub position-is : positionAt state owner ≡ position
-  pub records-is : recordsAt state owner ≡ records
-  pub positions-long : owner < length (state .positions)
-  pub records-long : owner < length (state .records)
+-- a turn after one op more, which ends at a clock
+abbrev pub turnAt : Turn → ℕ → Turn
+turnAt turn clock =
+    record {
+      owner = turn .owner;
+      end = turn .end;
+      quota = turn .quota;
+      clock = clock;
+      position = turn .position + 1;
+      records = turn .records + 1;
+    }
 
--- what the ops of a window leave: a run of as many steps leaves it, and where they are fewer than the limit a switch is due
+-- a state stands where a turn says
+pub record Stands (state : State) (turn : Turn) : Type 0 where
+  pub clock-is : state .clock ≡ turn .clock
+  pub position-is : positionAt state (turn .owner) ≡ turn .position
+  pub records-is : recordsAt state (turn .owner) ≡ turn .records
+  pub positions-long : turn .owner < length (state .positions)
+  pub records-long : turn .owner < length (state .records)
+
+-- what an op leaves, with the turn after it: it takes at most 213 ticks
+pub record OpRan
+    (view : Plan) (op : Op) (turn next : Turn) (cache boxes log cache′ boxes′ log′ : List ℕ) : Type 0 where
+  pub next-is : next ≡ turnAt turn (next .clock)
+  pub ticks : next .clock ≤ turn .clock + 213
+  pub world :
+      (state : State)
+      → Stands state turn
+      → worldWith (turned state next) cache′ boxes′ log′
+      ≡ opStepOf view (turn .quota) (turn .owner) op (worldWith state cache boxes log)
+
+-- the turn of a state in a run that has not ended, beside the plan's recipients and masks
+pub record InTurn (plan : Plan) (rights masks : List ℕ) (state : State) (turn : Turn) : Type 0 where
+  pub not-ended : state .windows < windowsTotal plan
+  pub owner-is : windowOwner plan (state .windows) ≡ turn .owner
+  pub end-is : windowEnd plan (state .windows) ≡ turn .end
+  pub rights-are : plan .rights ≡ rights
+  pub masks-are : plan .masks ≡ masks
+  pub stands : Stands state turn
+
+-- what the ops of a window leave: as many steps lead there, and where they are fewer than the limit a switch is next
 pub record WindowRan (plan : Plan) (scripts : List ℕ) (quota limit steps : ℕ) (before after : World) : Type 0 where
-  pub ran : ranWith steps after ≡ runOf plan scripts quota steps before
-  pub due : steps < limit → activeStep plan scripts quota after ≡ switchOf plan after
+  pub ran : RunsTo plan scripts quota steps before after
+  pub due : steps < limit → stepOf plan scripts quota after ≡ switchOf plan after
+
+-- what a window's ops and its switch leave: a step at least, as many as the limit at most
+pub record TurnRan (plan : Plan) (scripts : List ℕ) (quota limit : ℕ) (advance : Advance) (before after : World) : Type 0 where
+  pub some : 0 < advance .steps
+  pub within : advance .steps ≤ limit
+  pub ran : RunsTo plan scripts quota (advance .steps) before after
+  pub starts : advance .start ≡ windowStart plan (advance .state .windows)

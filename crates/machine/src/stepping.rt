@@ -1,5 +1,7 @@
-// One step, an op or a switch, and so many of them.
+// One step, an op or a switch, and n of them.
 use crate::Advance;
+use crate::NextStep;
+use crate::Turn;
 use crate::WindowProgress;
 use cache::flush::flush_kernel;
 use cache::flush::flush_l1;
@@ -14,16 +16,19 @@ use script::fetch;
 use state::State;
 ghost use mathlib.Core.Path.{_≡_};
 ghost use mathlib.Core.Bool.{true};
-ghost use Prim.Native.Nat.{_+_, _*_, _^_, _<_, _≤_, max};
+ghost use Prim.Native.Nat.{_+_, _*_, _<_, _≤_, max};
 ghost use lib.ListN.{length};
+ghost use Rattle.plan.specs.Limits.{mostDomains, mostPad};
 ghost use Rattle.plan.specs.Validity.{planValid};
-ghost use Rattle.script.specs.Limits.{OpWithinLimits};
+ghost use Rattle.plan.specs.Windows.{windowStart, windowsTotal};
+ghost use Rattle.script.specs.Limits.{OpWithinLimits, mostOps, scriptsLength};
+ghost use Rattle.cache.specs.Lines.{tableLength};
+ghost use Rattle.ops.specs.Ops.{boxesLength};
 ghost use Rattle.ops.specs.View.{viewOf};
 ghost use Rattle.state.specs.StateValidity.{stateValid};
-ghost use Rattle.state.specs.World.{positionAt, recordsAt};
-ghost use Rattle.machine.specs.Steps.{opStepOf, runOf};
+ghost use Rattle.machine.specs.Steps.{nextStepOf, runOf, turnOf};
 ghost use Rattle.machine.specs.Switch.{flushedClock, paddedClock, switchedCache};
-ghost use Rattle.machine.specs.View.{InTurn, InWindow, WindowRan, ranWith, turned, worldWith};
+ghost use Rattle.machine.specs.View.{InTurn, OpRan, TurnRan, WindowRan, clockBound, ranWith, turned, worldWith};
 
 fn later(one: u64, other: u64) -> u64
     ensures { λ r. ⌜ r ≡ max one other ⌝ }
@@ -33,7 +38,7 @@ fn later(one: u64, other: u64) -> u64
 
 // The switch: the clock raised to the window's end if lower, both flushes, and the pad. Answers the clock at the next window's start.
 fn switch(cache: &mut [u16], clock: u64, end: u64, pad: u64) -> u64
-    requires { ⌜ (length (now cache) ≡ 272) × (clock ≤ 2 ^ 62) × (end ≤ 2 ^ 62) × (pad ≤ 2 ^ 62) ⌝ }
+    requires { ⌜ (length (now cache) ≡ tableLength) × (clock ≤ clockBound) × (end ≤ clockBound) × (pad ≤ mostPad) ⌝ }
     ensures { λ r.
         ⌜ (r ≡ paddedClock end pad (flushedClock clock end (now (cache .entry))))
         × (now (cache .exit) ≡ switchedCache (now (cache .entry))) ⌝ }
@@ -44,94 +49,180 @@ fn switch(cache: &mut [u16], clock: u64, end: u64, pad: u64) -> u64
     later(begun + kernel + l1, end + pad)
 }
 
-// One op of a domain, with its record stored. Answers the clock after it.
+// The next step in a window.
+fn next_step(scripts: &[u32], turn: Turn) -> NextStep
+    requires { ⌜ (turn .owner < mostDomains) × (length (now scripts) ≡ scriptsLength) ⌝ }
+    ensures { λ r. ⌜ r ≡ nextStepOf (now (scripts .entry)) turn ⌝ }
+{
+    if (turn.end <= turn.clock) | (turn.quota <= turn.records) {
+        return NextStep::Switch;
+    }
+    let item = fetch(scripts, turn.owner as u32, turn.position);
+    match item {
+        ScriptItem::Op(op) => NextStep::Op(op),
+        ScriptItem::End => NextStep::Switch,
+    }
+}
+
+// One op of the running domain, with its record stored. Answers the turn after it.
 fn op_step(
     rights: &[u32; 8],
     masks: &[u16; 8],
-    domain: usize,
     op: Op,
-    quota: u64,
-    clock: u64,
-    number: u64,
+    turn: Turn,
     cache: &mut [u16],
     boxes: &mut [u32],
     log: &mut [u8],
-) -> u64
-    requires { ⌜ (domain < 8) × OpWithinLimits op × (length (now cache) ≡ 272) × (length (now boxes) ≡ 64) × (clock ≤ 2 ^ 62)
-        × (8 * (quota * domain + number) + 8 ≤ length (now log)) ⌝ }
-    ensures { λ r. ⌜ (r ≤ clock + 213) × ((state : State) → state .clock ≡ clock → recordsAt state domain ≡ number
-        → worldWith (turned state domain r (positionAt state domain + 1) (number + 1)) (now (cache .exit)) (now (boxes .exit)) (now (log .exit))
-        ≡ opStepOf (viewOf (now (rights .entry)) (now (masks .entry))) quota domain op (worldWith state (now (cache .entry)) (now (boxes .entry)) (now (log .entry)))) ⌝ }
+) -> Turn
+    requires { ⌜ (turn .owner < mostDomains) × OpWithinLimits op × (turn .position < mostOps) × (turn .clock ≤ clockBound)
+        × (length (now cache) ≡ tableLength) × (length (now boxes) ≡ boxesLength)
+        × (8 * (turn .quota * turn .owner + turn .records) + 8 ≤ length (now log)) ⌝ }
+    ensures { λ r. ⌜ OpRan (viewOf (now (rights .entry)) (now (masks .entry))) op turn r
+        (now (cache .entry)) (now (boxes .entry)) (now (log .entry))
+        (now (cache .exit)) (now (boxes .exit)) (now (log .exit)) ⌝ }
 {
-    let done = operate(rights, masks, domain, op, cache, boxes);
-    let after = clock + done.ticks;
+    let owner = turn.owner;
+    let done = operate(rights, masks, owner, op, cache, boxes);
+    let clock = turn.clock + done.ticks;
     let seen = done.seen;
-    store_record(log, quota, domain as u64, number, seen, after);
-    after
+    store_record(log, turn.quota, owner as u64, turn.records, seen, clock);
+    Turn {
+        owner,
+        end: turn.end,
+        quota: turn.quota,
+        clock,
+        position: turn.position + 1,
+        records: turn.records + 1,
+    }
 }
 
-// The ops of `owner` in a window up to `end`, at most so many, until a switch is due. The owner's place in its script, its number of records
-// and the clock are kept apart from the state until then.
+// The ops of a window, at most `limit` of them, until a switch is due. The running domain's numbers are kept apart from the
+// state meanwhile.
 fn run_window(
     rights: &[u32; 8],
     masks: &[u16; 8],
     scripts: &[u32],
-    owner: usize,
-    end: u64,
-    quota: u64,
     limit: u64,
-    begun: u64,
-    place: u64,
-    count: u64,
+    first: Turn,
     cache: &mut [u16],
     boxes: &mut [u32],
     log: &mut [u8],
 ) -> WindowProgress
-    requires { ⌜ (owner < 8) × (length (now scripts) ≡ 2048) × (length (now cache) ≡ 272) × (length (now boxes) ≡ 64)
-        × (begun ≤ 2 ^ 62) × (end ≤ 2 ^ 62) × (8 * (quota * owner + quota) ≤ length (now log)) ⌝ }
-    ensures { λ r. ⌜ (r .steps ≤ limit) × ((plan : Plan) (state : State)
-        → InWindow plan (state .windows) owner end (now (rights .entry)) (now (masks .entry))
-        → InTurn plan state owner begun place count
-        → WindowRan plan (now (scripts .entry)) quota limit (r .steps) (worldWith state (now (cache .entry)) (now (boxes .entry)) (now (log .entry)))
-        (worldWith (turned state owner (r .clock) (r .position) (r .records)) (now (cache .exit)) (now (boxes .exit)) (now (log .exit)))) ⌝ }
+    requires { ⌜ (first .owner < mostDomains) × (first .clock ≤ clockBound) × (first .end + 213 ≤ clockBound)
+        × (length (now scripts) ≡ scriptsLength) × (length (now cache) ≡ tableLength) × (length (now boxes) ≡ boxesLength)
+        × (8 * (first .quota * first .owner + first .quota) ≤ length (now log)) ⌝ }
+    ensures { λ r. ⌜ (r .steps ≤ limit) × (r .turn .owner ≡ first .owner) × (r .turn .end ≡ first .end)
+        × (r .turn .clock ≤ clockBound) × ((plan : Plan) (state : State)
+        → InTurn plan (now (rights .entry)) (now (masks .entry)) state first
+        → WindowRan plan (now (scripts .entry)) (first .quota) limit (r .steps)
+        (worldWith state (now (cache .entry)) (now (boxes .entry)) (now (log .entry)))
+        (worldWith (turned state (r .turn)) (now (cache .exit)) (now (boxes .exit)) (now (log .exit)))) ⌝ }
 {
     let mut steps: u64 = 0;
-    let mut clock = begun;
-    let mut position = place;
-    let mut records = count;
+    let mut turn = first;
     while steps < limit {
-        if (end <= clock) | (quota <= records) {
-            break;
-        }
-        let fetched = fetch(scripts, owner as u32, position);
-        let ScriptItem::Op(op) = fetched else {
+        let next = next_step(scripts, turn);
+        let NextStep::Op(op) = next else {
             break;
         };
-        clock = op_step(
-            rights,
-            masks,
-            owner,
-            op,
-            quota,
-            clock,
-            records,
-            cache,
-            boxes,
-            log,
-        );
-        position += 1;
-        records += 1;
+        turn = op_step(rights, masks, op, turn, cache, boxes, log);
         steps += 1;
     }
-    WindowProgress {
-        steps,
-        clock,
-        position,
+    WindowProgress { steps, turn }
+}
+
+// The running domain's turn, in the window that starts at `start`.
+fn turn_of(plan: Plan, quota: u64, state: State, start: u64) -> Turn
+    requires { ⌜ (planValid plan ≡ true) × (state .windows < windowsTotal plan)
+        × (start ≡ windowStart plan (state .windows)) ⌝ }
+    ensures { λ r. ⌜ r ≡ turnOf plan quota state ⌝ }
+{
+    let owners = plan.owners;
+    let lengths = plan.lengths;
+    let positions = state.positions;
+    let records = state.records;
+    let slot = (state.windows % plan.windows as u64) as usize;
+    let owner = owners[slot] as usize;
+    Turn {
+        owner,
+        end: start + lengths[slot] as u64,
+        quota,
+        clock: state.clock,
+        position: positions[owner],
+        records: records[owner],
+    }
+}
+
+// The state that a turn leaves.
+fn state_after(state: State, turn: Turn) -> State
+    requires { ⌜ turn .owner < mostDomains ⌝ }
+    ensures { λ r. ⌜ r ≡ turned state turn ⌝ }
+{
+    let owner = turn.owner;
+    let mut positions = state.positions;
+    let mut records = state.records;
+    positions[owner] = turn.position;
+    records[owner] = turn.records;
+    State {
+        windows: state.windows,
+        clock: turn.clock,
+        positions,
         records,
     }
 }
 
-// Steps up to a limit, or to the run's end, window by window. Only the first window's start is worked out; each next one follows from the last.
+// The ops of the window that a run is in, and its switch where the limit allows one step more.
+fn run_turn(
+    plan: Plan,
+    scripts: &[u32],
+    quota: u64,
+    limit: u64,
+    state: State,
+    start: u64,
+    cache: &mut [u16],
+    boxes: &mut [u32],
+    log: &mut [u8],
+) -> Advance
+    requires { ⌜ (planValid plan ≡ true) × (state .windows < windowsTotal plan)
+        × (start ≡ windowStart plan (state .windows)) × (state .clock ≤ clockBound) × (0 < limit)
+        × (length (now scripts) ≡ scriptsLength) × (length (now cache) ≡ tableLength) × (length (now boxes) ≡ boxesLength)
+        × (8 * (quota * plan .domains) ≤ length (now log)) ⌝ }
+    ensures { λ r. ⌜ TurnRan plan (now (scripts .entry)) quota limit r
+        (worldWith state (now (cache .entry)) (now (boxes .entry)) (now (log .entry)))
+        (worldWith (r .state) (now (cache .exit)) (now (boxes .exit)) (now (log .exit))) ⌝ }
+{
+    let rights = plan.rights;
+    let masks = plan.masks;
+    let turn = turn_of(plan, quota, state, start);
+    let spent = run_window(&rights, &masks, scripts, limit, turn, cache, boxes, log);
+    let last = spent.turn;
+    let left = state_after(state, last);
+    let steps = spent.steps;
+    if limit <= steps {
+        return Advance {
+            steps,
+            state: left,
+            start,
+        };
+    }
+    let pad = plan.pad as u64;
+    let clock = switch(cache, last.clock, last.end, pad);
+    let positions = left.positions;
+    let records = left.records;
+    Advance {
+        steps: steps + 1,
+        state: State {
+            windows: left.windows + 1,
+            clock,
+            positions,
+            records,
+        },
+        start: last.end + pad,
+    }
+}
+
+// Steps up to a limit, or to the run's end, window by window. Only the first window's start is worked out; each next one
+// follows from the last.
 pub fn run_steps(
     plan: Plan,
     scripts: &[u32],
@@ -143,67 +234,37 @@ pub fn run_steps(
     log: &mut [u8],
 ) -> Advance
     requires { ⌜ (planValid plan ≡ true) × (stateValid plan quota state ≡ true)
-        × (length (now scripts) ≡ 2048) × (length (now cache) ≡ 272) × (length (now boxes) ≡ 64)
+        × (length (now scripts) ≡ scriptsLength) × (length (now cache) ≡ tableLength) × (length (now boxes) ≡ boxesLength)
         × (8 * (quota * plan .domains) ≤ length (now log)) ⌝ }
-    ensures { λ r. ⌜ ranWith (r .steps) (worldWith (r .state) (now (cache .exit)) (now (boxes .exit)) (now (log .exit)))
-        ≡ runOf plan (now (scripts .entry)) quota limit (worldWith state (now (cache .entry)) (now (boxes .entry)) (now (log .entry))) ⌝ }
+    ensures { λ r. ⌜ (ranWith (r .steps) (worldWith (r .state) (now (cache .exit)) (now (boxes .exit)) (now (log .exit)))
+        ≡ runOf plan (now (scripts .entry)) quota limit
+        (worldWith state (now (cache .entry)) (now (boxes .entry)) (now (log .entry))))
+        × (r .start ≡ windowStart plan (r .state .windows)) ⌝ }
 {
-    let rights = plan.rights;
-    let masks = plan.masks;
-    let owners = plan.owners;
-    let lengths = plan.lengths;
-    let declared = plan.windows as u64;
     let total = windows_total(plan);
-    let mut windows = state.windows;
-    let mut clock = state.clock;
-    let mut positions = state.positions;
-    let mut records = state.records;
     let mut steps: u64 = 0;
-    let mut start = window_start(plan, windows);
-    while steps < limit {
-        if total <= windows {
-            break;
-        }
-        let slot = (windows % declared) as usize;
-        let owner = owners[slot] as usize;
-        let end = start + lengths[slot] as u64;
-        let pad = plan.pad as u64;
-        let position = positions[owner];
-        let count = records[owner];
-        let spent = run_window(
-            &rights,
-            &masks,
+    let mut present = state;
+    let mut start = window_start(plan, state.windows);
+    while (steps < limit) & (present.windows < total) {
+        let turn = run_turn(
+            plan,
             scripts,
-            owner,
-            end,
             quota,
             limit - steps,
-            clock,
-            position,
-            count,
+            present,
+            start,
             cache,
             boxes,
             log,
         );
-        positions[owner] = spent.position;
-        records[owner] = spent.records;
-        clock = spent.clock;
-        steps += spent.steps;
-        if limit <= steps {
-            break;
-        }
-        clock = switch(cache, clock, end, pad);
-        windows += 1;
-        start = end + pad;
-        steps += 1;
+        let left = turn.state;
+        steps += turn.steps;
+        present = left;
+        start = turn.start;
     }
     Advance {
         steps,
-        state: State {
-            windows,
-            clock,
-            positions,
-            records,
-        },
+        state: present,
+        start,
     }
 }

@@ -1,19 +1,17 @@
 -- The state that a host lends to its next call is the state that the last one left: a lent state's arrays have their lengths, and every step
 -- keeps them. Assumes nothing.
 use mathlib.Core.Path.{_≡_, refl}
-use mathlib.Core.Bool.{Bool, true, false}
 use mathlib.Core.List.{List}
-use Prim.Native.Nat.{ℕ, zero, suc}
+use Prim.Native.Nat.{ℕ}
 use lib.ListN.{length, length-set}
 use Rattle.plan.specs.declared.Plan.{Plan}
-use Rattle.script.specs.declared.ScriptItem.{ScriptItem}
-use Rattle.script.specs.declared.ScriptItem.the-variants.{Op as Fetch, End}
 use Rattle.records.specs.Records.{partRecords}
 use Rattle.state.specs.declared.State.{State}
-use Rattle.state.specs.World.{World, endedOf, freshState}
-use Rattle.machine.specs.Steps.{RunEffect, activeStep, closedOf, fetchedStep, nextOf, oneMore, opStepOf, runOf}
+use Rattle.state.specs.World.{World, freshState}
+use Rattle.machine.specs.Steps.{opStepOf, steps}
 use Rattle.machine.specs.Switch.{switchOf}
 use Rattle.machine.specs.View.{worldWith}
+use Rattle.machine.proofs.Invariant.{steps-hold}
 use Rattle.refusal.specs.declared.Verdict.{Verdict}
 use Rattle.refusal.specs.declared.Verdict.the-variants.{Accepted, Refused}
 use Rattle.engine.specs.Checks.{freshVerdict, runVerdict}
@@ -45,44 +43,13 @@ fresh-back plan state cache boxes = state-again _ (fresh-long (freshVerdict (pla
 abbrev Long : World → Type 0
 Long world = StateLengths (world .state)
 
-module _ (plan : Plan) (scripts : List ℕ) (quota : ℕ) where
-  switch-long : (world : World) → Long world → Long (switchOf plan world)
-  unfolding switchOf
-  switch-long world long = record { positions = long .positions; records = long .records }
-
-  fetched-long : (fetched : ScriptItem) (world : World) → Long world → Long (fetchedStep plan quota fetched world)
-  unfolding fetchedStep opStepOf
-  fetched-long (Fetch op) world long =
-      record { positions = simp length-set (long .positions); records = simp length-set (long .records) }
-  fetched-long End world long = switch-long world long
-
-  active-long : (world : World) → Long world → Long (activeStep plan scripts quota world)
-  unfolding activeStep
-  active-long world long = go (closedOf plan quota (world .state))
-    where
-      go :
-          (closed : Bool)
-          → Long (elim closed as (λ _. World) [
-            | true ↦ switchOf plan world
-            | false ↦ fetchedStep plan quota (nextOf plan scripts (world .state)) world
-          ])
-      go true = switch-long world long
-      go false = fetched-long (nextOf plan scripts (world .state)) world long
-
-  run-long : (limit : ℕ) (world : World) → Long world → Long (runOf plan scripts quota limit world .world)
-  unfolding runOf
-  run-long zero world long = long
-  run-long (suc limit) world long = go (endedOf plan (world .state)) (run-long limit (activeStep plan scripts quota world) (active-long world long))
-    where
-      go :
-          (ended : Bool)
-          → Long (runOf plan scripts quota limit (activeStep plan scripts quota world) .world)
-          → Long ((elim ended as (λ _. RunEffect) [
-            | true ↦ record { done = 0; world = world }
-            | false ↦ oneMore (runOf plan scripts quota limit (activeStep plan scripts quota world))
-          ]) .world)
-      go true rest = long
-      go false rest = rest
+run-long : (plan : Plan) (scripts : List ℕ) (quota limit : ℕ) (world : World) → Long world → Long (steps plan scripts quota limit world)
+unfolding switchOf opStepOf
+run-long plan scripts quota limit world long =
+    steps-hold plan scripts quota Long
+    (λ before kept inWindow. record { positions = kept .positions; records = kept .records })
+    (λ before op kept begins. record { positions = simp length-set (kept .positions); records = simp length-set (kept .records) })
+    world long limit
 
 call-long :
     (verdict : Verdict) (plan : Plan) (scripts : List ℕ) (world : World) (limit : ℕ) → Long world → Long (runFrom verdict plan scripts world limit .world)

@@ -4,7 +4,7 @@ use Prim.Native.Nat.{ℕ, zero, suc, _+_, _≤_, _<_}
 use mathlib.Core.Bool.{Bool, true, false}
 use mathlib.Core.List.{List}
 use mathlib.Core.Logic.{_⊎_, inl, inr}
-use mathlib.Core.Path.{_≡_, refl, sym, _∙_}
+use mathlib.Core.Path.{_≡_, refl, sym, subst, _∙_}
 use native.Mathlib.Omega.{arith}
 use lib.Dec.{eqb}
 use lib.ListN.{getD, length, length-set, set}
@@ -19,10 +19,10 @@ use Rattle.plan.proofs.Windows.{domains-most, owner-declared, pad-least, start-
 use Rattle.script.specs.declared.Op.{Op}
 use Rattle.state.specs.World.{World, endedOf, freshState, positionAt, runningOf}
 use Rattle.machine.specs.Fresh.{freshWorld}
-use Rattle.machine.specs.Steps.{opStepOf, stepOf, steps}
+use Rattle.machine.specs.Steps.{opStepOf, runOf, stepOf, steps}
 use Rattle.machine.specs.Switch.{switchOf}
 use Rattle.machine.proofs.Invariant.{in-window, step-cases}
-use Rattle.machine.proofs.Runs.{step-ended}
+use Rattle.machine.proofs.Runs.{step-ended, steps-last}
 use Rattle.machine.proofs.Schedule.{next-start, start-end}
 use Rattle.reachable.proofs.Cells.{zeros-length}
 use Rattle.reachable.proofs.Counts.{counted}
@@ -103,9 +103,10 @@ module _ (plan : Plan) (scripts : List ℕ) (quota : ℕ) (possible : planValid 
           (λ op begins. after-op world op count (advanced .eight) far)
 
   advanced : (count : ℕ) (log : List ℕ) → Advanced plan count (steps plan scripts quota count (freshWorld log))
-  unfolding steps freshWorld freshState sumTo
+  unfolding runOf freshWorld freshState sumTo
   advanced zero log = record { eight = zeros-length 8; far = inr refl }
-  advanced (suc count) log = advance _ count (advanced count log)
+  advanced (suc count) log =
+      subst (Advanced plan (suc count)) (sym (steps-last plan scripts quota count (freshWorld log))) (advance _ count (advanced count log))
 
   -- no run has more windows than ticks
   window-ticks : (window : ℕ) → window ≤ windowStart plan window

@@ -8,7 +8,7 @@ use lib.ListN.{length}
 use Rattle.plan.specs.declared.Plan.{Plan}
 use Rattle.records.specs.Records.{partRecords}
 use Rattle.state.specs.World.{World}
-use Rattle.machine.specs.Steps.{steps}
+use Rattle.machine.specs.Steps.{runOf, steps}
 use Rattle.engine.specs.Running.{stepCallOf}
 use Rattle.isolation.specs.Calls.{AllOwn, Call, Handed, IsOwn, LogThings, OwnQuery, OwnRun, RunThings, afterCall, foreign, handed, handedWorld, isRefused, leftIn, leftWorld, logCall, logStatus, own, runAnswer, runCall, stepAnswer, stepCall, stepsAsked, stepsCounted, verdictOf}
 use Rattle.isolation.proofs.OneRun.Verdicts.{run-accepted, run-refused}
@@ -87,7 +87,7 @@ module _ (plan : Plan) (scripts : List ℕ) where
   -- a call that was not refused was handed the list's own things
   accepted-steps : (call : Call) (world : World) → isRefused (verdictOf plan scripts call world) ≡ false → AllOwn call
       → afterCall plan scripts call world ≡ steps plan scripts (quotaOf world) (stepsAsked call) world
-  unfolding afterCall steps
+  unfolding afterCall runOf
   accepted-steps (stepCall things) world accepted owned =
       subst (λ handed-things. isRefused (verdictOf plan scripts (stepCall handed-things) world) ≡ false
       → afterCall plan scripts (stepCall handed-things) world ≡ steps plan scripts (quotaOf world) 1 world)
@@ -103,7 +103,7 @@ module _ (plan : Plan) (scripts : List ℕ) where
   pub call-steps : (call : Call) (world : World)
       → (isRefused (verdictOf plan scripts call world) ≡ true) ⊎ AllOwn call
       → afterCall plan scripts call world ≡ steps plan scripts (quotaOf world) (stepsCounted plan scripts call world) world
-  unfolding stepsCounted steps
+  unfolding stepsCounted runOf
   call-steps call world proper = go (isRefused (verdictOf plan scripts call world)) refl proper
     where
       go : (refused : Bool) → isRefused (verdictOf plan scripts call world) ≡ refused

@@ -9,7 +9,7 @@ use lib.ListN.{length}
 use Rattle.plan.specs.Validity.{planValid}
 use Rattle.records.specs.Records.{partRecords}
 use Rattle.state.specs.World.{World}
-use Rattle.machine.specs.Steps.{steps}
+use Rattle.machine.specs.Steps.{runOf, steps}
 use Rattle.machine.proofs.Runs.{steps-add}
 use Rattle.reachable.proofs.Reached.{log-length}
 use Rattle.machine.specs.Fresh.{freshWorld}
@@ -68,7 +68,7 @@ module _ (run : FreshRun) (possible : planValid (run .plan) ≡ true) where
 
 -- what a list leaves is what its run's steps leave
 pub leaves : (list : CallList) → IsList list → leavesOf list ≡ worldAfter (runOfList list) (pointOf list)
-unfolding worldAfter steps
+unfolding worldAfter runOf
 leaves list is =
     calls-later (runOfList list) (list-valid list is) (list .calls) 0 (startWorld list) (list-start list is) (is .proper)
     ∙ ap (worldAfter (runOfList list)) (zero-add (pointOf list))

@@ -2,7 +2,7 @@
 use Prim.Native.Nat.{ℕ, zero, suc, _+_, _≤_, _<_}
 use mathlib.Core.Bool.{Bool, true, false}
 use mathlib.Core.Logic.{inl, inr}
-use mathlib.Core.Path.{_≡_, refl, sym, ap, _∙_}
+use mathlib.Core.Path.{_≡_, refl, sym, ap, subst, _∙_}
 use native.Mathlib.Nat.{le-trans, not-suc-le-zero}
 use native.Mathlib.Omega.{arith}
 use lib.Dec.{leb}
@@ -13,7 +13,8 @@ use Rattle.plan.specs.Windows.{windowStart}
 use Rattle.plan.proofs.Sums.{last-or-earlier}
 use Rattle.records.specs.Records.{partRecords}
 use Rattle.state.specs.World.{freshState}
-use Rattle.machine.specs.Steps.{steps}
+use Rattle.machine.specs.Steps.{runOf}
+use Rattle.machine.proofs.Runs.{steps-last}
 use Rattle.machine.proofs.Schedule.{NextStarts, NextWindow, Scheduled, scheduled, step-windows}
 use Rattle.machine.specs.Fresh.{freshWorld}
 use Rattle.isolation.specs.Calls.{CallList, IsList, pointOf}
@@ -29,9 +30,11 @@ module _ (run : FreshRun) (possible : planValid (run .plan) ≡ true) where
 
   -- a step stays in its window, or starts the next one
   pub next-window : (count : ℕ) → NextWindow (run .plan) (worldAfter run count) (worldAfter run (suc count))
-  unfolding worldAfter steps
+  unfolding worldAfter
   next-window count =
-      step-windows (run .plan) (run .scripts) (partRecords (run .plan) (length (run .log))) (worldAfter run count) possible (scheduled-after count)
+      let quota = partRecords (run .plan) (length (run .log)) in
+      subst (NextWindow (run .plan) (worldAfter run count)) (sym (steps-last (run .plan) (run .scripts) quota count (freshWorld (run .log))))
+      (step-windows (run .plan) (run .scripts) quota (worldAfter run count) possible (scheduled-after count))
 
   -- windows completed never become fewer
   windows-next : (count : ℕ) → windowsAfter run count ≤ windowsAfter run (suc count)
@@ -51,7 +54,7 @@ module _ (run : FreshRun) (possible : planValid (run .plan) ≡ true) where
 
   -- the first window starts with the run, at 0
   first-starts : (window : ℕ) → window ≤ windowsAfter run 0 → StartedOnTime run 0 window
-  unfolding worldAfter steps freshWorld freshState windowStart
+  unfolding worldAfter runOf freshWorld freshState windowStart
   first-starts window soFar =
       let none : window ≡ 0 = omega arith in
       record {

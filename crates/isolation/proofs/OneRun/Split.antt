@@ -11,7 +11,7 @@ use Rattle.script.specs.Limits.{scriptsLength}
 use Rattle.records.specs.Records.{partRecords}
 use Rattle.state.specs.World.{World}
 use Rattle.machine.specs.Steps.{runOf}
-use Rattle.machine.proofs.Runs.{run-add, run-world}
+use Rattle.machine.proofs.Runs.{run-add}
 use Rattle.refusal.specs.declared.Refusal.{Refusal}
 use Rattle.refusal.specs.declared.Verdict.{Verdict}
 use Rattle.refusal.specs.declared.Verdict.the-variants.{Accepted, Refused}
@@ -78,7 +78,6 @@ module _ (run : FreshRun) (possible : planValid (run .plan) ≡ true) (count fir
   there : runOf (run .plan) (run .scripts) quota first here .world ≡ worldAfter run (count + first)
   there =
       ap (λ (q : ℕ). runOf (run .plan) (run .scripts) q first here .world) (sym (quota-kept run possible count))
-      ∙ run-world (run .plan) (run .scripts) (partRecords (run .plan) (length (here .log))) first here
       ∙ steps-later run possible count first
 
   goes-on : length (run .scripts) ≡ scriptsLength → (limit : ℕ) (world : World) (at : ℕ) → world ≡ worldAfter run at

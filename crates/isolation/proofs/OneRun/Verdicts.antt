@@ -14,7 +14,6 @@ use Rattle.state.specs.declared.State.{State}
 use Rattle.state.specs.StateValidity.{stateValid}
 use Rattle.state.specs.World.{World}
 use Rattle.machine.specs.Steps.{steps}
-use Rattle.machine.proofs.Runs.{run-world}
 use Rattle.refusal.specs.declared.Refusal.{Refusal}
 use Rattle.refusal.specs.declared.Refusal.the-variants.{TextTooLong, BrokenShape, NumberOutOfLimits, WrongDomain, RepeatedOrMissing}
 use Rattle.refusal.specs.declared.Refusal.the-variants.{NoColour, SharesOverThousand, BadRecipient, RunTooLong, TooMany}
@@ -66,7 +65,7 @@ module _ (plan : Plan) (scripts : List ℕ) (world : World) (limit : ℕ) where
     where
       go : (verdict : Verdict) → isRefused (runFrom verdict plan scripts world limit .verdict) ≡ false
           → runFrom verdict plan scripts world limit .world ≡ steps plan scripts (partRecords plan (length (world .log))) limit world
-      go Accepted accepted′ = run-world plan scripts (partRecords plan (length (world .log))) limit world
+      go Accepted accepted′ = refl
       go (Refused refusal) accepted′ = absurd (false≢true (sym accepted′ ∙ refused-number refusal))
 
   -- its verdict is that of the checks

@@ -12,10 +12,10 @@ use Rattle.plan.specs.Validity.{planValid}
 use Rattle.plan.specs.Windows.{windowsTotal}
 use Rattle.records.specs.Records.{partRecords}
 use Rattle.state.specs.World.{World, endedOf, freshState}
-use Rattle.machine.specs.Steps.{opStepOf, stepOf, steps}
+use Rattle.machine.specs.Steps.{opStepOf, runOf, stepOf}
 use Rattle.machine.specs.Switch.{switchOf}
 use Rattle.machine.proofs.Invariant.{step-cases}
-use Rattle.machine.proofs.Runs.{steps-add, steps-ended}
+use Rattle.machine.proofs.Runs.{steps-add, steps-ended, steps-last}
 use Rattle.machine.specs.Fresh.{freshWorld}
 use Rattle.isolation.specs.Points.{FreshRun, Starts, windowsAfter, worldAfter}
 use Rattle.isolation.proofs.OneRun.OnTime.{windows-grow}
@@ -37,8 +37,8 @@ pub record Before (run : FreshRun) (window count : ℕ) : Type 0 where
 module _ (run : FreshRun) where
   pub one-more : (count : ℕ)
       → worldAfter run (suc count) ≡ stepOf (run .plan) (run .scripts) (partRecords (run .plan) (length (run .log))) (worldAfter run count)
-  unfolding worldAfter steps
-  one-more count = refl
+  unfolding worldAfter
+  one-more count = steps-last (run .plan) (run .scripts) (partRecords (run .plan) (length (run .log))) count (freshWorld (run .log))
 
   turned : (count : ℕ) → Turned (run .plan) (worldAfter run count) (worldAfter run (suc count))
   unfolding opStepOf switchOf
@@ -57,7 +57,7 @@ module _ (run : FreshRun) where
   -- ---- where a window starts
 
   none-at-first : windowsAfter run 0 ≡ 0
-  unfolding worldAfter steps freshWorld freshState
+  unfolding worldAfter runOf freshWorld freshState
   none-at-first = refl
 
   pub first-start : (count : ℕ) → Starts run 0 count → count ≡ 0

@@ -9,7 +9,7 @@ use Rattle.lists.proofs.Agree.{Agree, agree-refl}
 use Rattle.plan.specs.declared.Plan.{Plan}
 use Rattle.plan.specs.Windows.{windowOwner, windowsTotal}
 use Rattle.state.specs.World.{World, freshState}
-use Rattle.machine.specs.Steps.{steps}
+use Rattle.machine.specs.Steps.{runOf}
 use Rattle.machine.specs.Switch.{switchOf}
 use Rattle.reachable.proofs.Cells.{cell-zeros}
 use Rattle.machine.specs.Fresh.{freshWorld}
@@ -145,7 +145,7 @@ module _ {plan : Plan} {Named Kept : ℕ → Type 0} {scripts scripts′ log log
 
   pub ready : (count count′ : ℕ) → Given count count′ → (window at at′ : ℕ) → Starts (one c) window at → at ≤ count
       → Starts (other c) window at′ → at′ ≤ count′ → ReadyAt at at′
-  unfolding worldAfter steps
+  unfolding worldAfter runOf
   ready count count′ given zero at at′ s h s′ h′ =
       rw (first-start (one c) at s, first-start (other c) at′ s′) (fresh-ready plan (quota c) Named log log′ (c .logs))
   ready count count′ given (suc window) at at′ s h s′ h′ =

@@ -12,16 +12,17 @@ use Rattle.plan.specs.Validity.{planValid}
 use Rattle.plan.proofs.Windows.{owner-declared}
 use Rattle.plan.specs.Windows.{windowEnd, windowOwner, windowsTotal}
 use Rattle.script.specs.declared.ScriptItem.{ScriptItem}
-use Rattle.script.specs.declared.ScriptItem.the-variants.{Op as Fetch, End}
+use Rattle.script.specs.declared.ScriptItem.the-variants.{End}
 use Rattle.script.specs.Fetch.{decodeOf, fetchOf}
 use Rattle.ops.specs.Ops.{boxIndex}
-use Rattle.state.specs.World.{World, endedOf, positionAt, runningOf}
-use Rattle.machine.specs.Steps.{activeStep, closedOf, nextOf, stepOf}
+use Rattle.state.specs.World.{World, endedOf, positionAt, recordsAt, runningOf}
+use Rattle.machine.specs.declared.NextStep.{NextStep}
+use Rattle.machine.specs.declared.NextStep.the-variants.{Op as Begin, Switch}
+use Rattle.machine.specs.Steps.{activeStep, isEnd, nextItem, nextStepOf, opAt, stepOf, switchDue, turnOf}
 use Rattle.machine.specs.Switch.{switchOf}
 use Rattle.machine.proofs.Fetched.{fetched-within}
-use Rattle.machine.proofs.Invariant.{step-cases}
+use Rattle.machine.proofs.Invariant.{op-next, step-cases}
 use Rattle.machine.proofs.Runs.{step-active, step-ended}
-use Rattle.machine.proofs.Turns.{active-closed, active-end, active-op}
 use Rattle.isolation.proofs.TwoRuns.OpStep.{Whole, op-alike, op-away, switch-away}
 use Rattle.isolation.proofs.TwoRuns.Relations.{Alike, Close, alike-refl, same-position, same-records}
 
@@ -52,52 +53,58 @@ module _ (plan : Plan) (quota domain : ℕ) {Kept : ℕ → Type 0} (to : (sende
   same-running : runningOf plan (other .state) ≡ domain
   same-running = ap (windowOwner plan) (sym (a .windows)) ∙ running
 
-  same-closed : closedOf plan quota (one .state) ≡ closedOf plan quota (other .state)
-  unfolding closedOf
-  same-closed =
-      rw (running, same-running)
-      (λ i. leb (windowEnd plan (a .windows i)) (a .clock i) || leb quota (same-records plan quota domain (a .outside) i))
+  same-turn : turnOf plan quota (one .state) ≡ turnOf plan quota (other .state)
+  same-turn = λ i.
+      record {
+        owner = windowOwner plan (a .windows i);
+        end = windowEnd plan (a .windows i);
+        quota = quota;
+        clock = a .clock i;
+        position = position i;
+        records = records i;
+      }
+    where
+      position : positionAt (one .state) (runningOf plan (one .state)) ≡ positionAt (other .state) (runningOf plan (other .state))
+      position = rw (running, same-running) (same-position plan quota domain (a .outside))
 
+      records : recordsAt (one .state) (runningOf plan (one .state)) ≡ recordsAt (other .state) (runningOf plan (other .state))
+      records = rw (running, same-running) (same-records plan quota domain (a .outside))
+
+  -- the next step is the same
   same-next : (scripts scripts′ : List ℕ)
       → ((place : ℕ) → place < 256 → getD scripts (256 * domain + place) 0 ≡ getD scripts′ (256 * domain + place) 0)
-      → nextOf plan scripts (one .state) ≡ nextOf plan scripts′ (other .state)
+      → nextStepOf scripts (turnOf plan quota (one .state)) ≡ nextStepOf scripts′ (turnOf plan quota (other .state))
+  unfolding nextStepOf switchDue
   same-next scripts scripts′ same =
-      rw (running, same-running, same-position plan quota domain (a .outside))
-      (fetch-alike scripts scripts′ domain (positionAt (other .state) domain) same)
+      let turn = turnOf plan quota (one .state) in
+      let item : nextItem scripts turn ≡ nextItem scripts′ turn =
+      rw running (fetch-alike scripts scripts′ domain (positionAt (one .state) domain) same) in
+      ap
+      (λ (found : ScriptItem). cond (leb (turn .end) (turn .clock) || isEnd found || leb (turn .quota) (turn .records)) Switch (opAt found))
+      item
+      ∙ ap (nextStepOf scripts′) same-turn
 
   -- two worlds that pass the same tests take the same way
   pub step-alike : (scripts scripts′ : List ℕ)
       → ((place : ℕ) → place < 256 → getD scripts (256 * domain + place) 0 ≡ getD scripts′ (256 * domain + place) 0)
       → Whole one
       → Together plan quota domain Kept one other (stepOf plan scripts quota one) (stepOf plan scripts′ quota other)
-  step-alike scripts scripts′ same whole =
-      by-end (endedOf plan (one .state)) refl
-      (λ active.
-      by-tests (closedOf plan quota (one .state)) refl (nextOf plan scripts (one .state)) refl
-      (step-active plan scripts quota one active) (step-active plan scripts′ quota other (sym same-ended ∙ active)))
+  unfolding activeStep
+  step-alike scripts scripts′ same whole = by-end (endedOf plan (one .state)) refl
     where
-      Goal : Type 0
-      Goal = Together plan quota domain Kept one other (stepOf plan scripts quota one) (stepOf plan scripts′ quota other)
+      by-next : (next : NextStep) → nextStepOf scripts (turnOf plan quota (one .state)) ≡ next
+          → Together plan quota domain Kept one other (activeStep plan quota next one) (activeStep plan quota next other)
+      by-next Switch is = both refl refl
+      by-next (Begin op) is =
+          rw (running, same-running)
+          (still (op-alike plan quota domain to op (fetched-within scripts _ (positionAt (one .state) _) op (op-next scripts _ op is .next)) whole a))
 
-      by-end : (ended : Bool) → endedOf plan (one .state) ≡ ended → (endedOf plan (one .state) ≡ false → Goal) → Goal
-      by-end true over active = rw (step-ended plan scripts quota one over, step-ended plan scripts′ quota other (sym same-ended ∙ over)) (still a)
-      by-end false not-over active = active not-over
-
-      by-tests : (closed : Bool) → closedOf plan quota (one .state) ≡ closed → (next : ScriptItem) → nextOf plan scripts (one .state) ≡ next
-          → stepOf plan scripts quota one ≡ activeStep plan scripts quota one
-          → stepOf plan scripts′ quota other ≡ activeStep plan scripts′ quota other
-          → Goal
-      by-tests true shut next e active active′ =
-          both (active ∙ active-closed plan scripts quota one shut)
-          (active′ ∙ active-closed plan scripts′ quota other (sym same-closed ∙ shut))
-      by-tests false room End e active active′ =
-          both (active ∙ active-end plan scripts quota one room e)
-          (active′ ∙ active-end plan scripts′ quota other (sym same-closed ∙ room) (sym (same-next scripts scripts′ same) ∙ e))
-      by-tests false room (Fetch op) e active active′ =
-          let did = active ∙ active-op plan scripts quota one op room e in
-          let did′ = active′ ∙ active-op plan scripts′ quota other op (sym same-closed ∙ room) (sym (same-next scripts scripts′ same) ∙ e) in
-          rw (did, did′, running, same-running)
-          (still (op-alike plan quota domain to op (fetched-within scripts _ (positionAt (one .state) _) op e) whole a))
+      by-end : (ended : Bool) → endedOf plan (one .state) ≡ ended
+          → Together plan quota domain Kept one other (stepOf plan scripts quota one) (stepOf plan scripts′ quota other)
+      by-end true over = rw (step-ended plan scripts quota one over, step-ended plan scripts′ quota other (sym same-ended ∙ over)) (still a)
+      by-end false active =
+          rw (step-active plan scripts quota one active, step-active plan scripts′ quota other (sym same-ended ∙ active), ← (same-next scripts scripts′ same))
+          (by-next _ refl)
 
 -- ---- one world in another's window
 

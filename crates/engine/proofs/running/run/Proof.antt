@@ -70,7 +70,7 @@ returns-2 : tie.Need-returns-2
 returns-2 c =
     ran _ _ _ _ _ _ _ _ (sym (c .before .before .before .before .before .before .before .before .before .before .before .before .before .enum-told .given .1) ∙ c .before .before .before .before .before .before .before .before .before .before .before .before .before .before .before .check-run .ensures)
     (c .before .before .before .before .before .before .before .before .before .before .before .before .part-records .ensures (c .before .before .before .before .before .before .before .before .before .before .before .before .before .before .before .before .before .before .before .before .before .before .before .args .plan) refl)
-    (c .before .before .before .before .before .before .before .before .run-steps .ensures)
+    (c .before .before .before .before .before .before .before .before .run-steps .ensures .0)
     (c .ending-of .ensures)
 
 pub run-spec : {M : Type 1} → statement M
