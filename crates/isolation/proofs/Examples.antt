@@ -23,9 +23,9 @@ use Rattle.plan.proofs.Sums.{all-below}
 use Rattle.plan.specs.Windows.{windowOwner, windowLength, windowStart, windowEnd, windowsTotal, ticksTotal}
 use Rattle.cache.specs.Access.{lookupL1, lookupL2, lookupOf, lookupAt, accessOf}
 use Rattle.cache.specs.Flush.{countWhere, dirtyLines, validLines, kernelFlushTicks, l1FlushTicks, kernelFlushed, l1Flushed}
-use Rattle.cache.specs.Sets.{has, behind, used}
+use Rattle.cache.specs.Sets.{has, moveToFront, without}
 use Rattle.records.specs.Records.{recordBytes, partRecords, recordStored, logPart}
-use Rattle.ops.specs.Ops.{boxIndex, ownsLine, touchOf, deniedOf, passedOf, sendOf, boxObservation, receiveOf, computeOf, effectOf}
+use Rattle.ops.specs.Ops.{boxIndex, ownsLine, touchOf, messageOf, boxObservation, receiveOf, computeOf, effectOf}
 use Rattle.state.specs.declared.State.{State}
 use Rattle.state.specs.TableValidity.{lineAllowed, l1EntryValid, allEmpty, waysValid, setValid, boxValid, tablesValid}
 use Rattle.state.specs.StateValidity.{clockValid, domainCountsValid, stateValid}
@@ -120,7 +120,7 @@ other =
 
 -- every definition that the examples compute with, named once
 computing : ℕ
-unfolding part splice opOf decodeOf fetchOf storedOf coloursOf sharesTotal firstColour maskFrom maskOf hasBit countsValid declaredValid undeclaredValid domainValid maskValid windowValid planValid sumTo allBelow windowOwner windowLength windowStart windowEnd windowsTotal ticksTotal lookupL1 lookupL2 lookupOf lookupAt accessOf countWhere dirtyLines validLines kernelFlushTicks l1FlushTicks kernelFlushed l1Flushed has behind used lineAllowed l1EntryValid allEmpty waysValid setValid boxValid tablesValid clockValid domainCountsValid stateValid ownsLine touchOf deniedOf passedOf sendOf boxObservation receiveOf computeOf effectOf recordBytes partRecords recordStored logPart opStepOf switchDue nextStepOf activeStep stepOf runOf flushedClock paddedClock switchOf endedOf freshState logQueryOf logStatusOf stateVerdict freshVerdict runVerdict logVerdict freshStartOf freshWorld ranFrom runCallOf stepCallOf runAnswer stepAnswer logAnswer afterCall verdictOf stepsCounted afterCalls stepsOfCalls Proper startWorld worldAfter opsOf
+unfolding part splice opOf decodeOf fetchOf storedOf coloursOf sharesTotal firstColour maskFrom maskOf hasBit countsValid declaredValid undeclaredValid domainValid maskValid windowValid planValid sumTo allBelow windowOwner windowLength windowStart windowEnd windowsTotal ticksTotal lookupL1 lookupL2 lookupOf lookupAt accessOf countWhere dirtyLines validLines kernelFlushTicks l1FlushTicks kernelFlushed l1Flushed has moveToFront without lineAllowed l1EntryValid allEmpty waysValid setValid boxValid tablesValid clockValid domainCountsValid stateValid ownsLine touchOf messageOf boxObservation receiveOf computeOf effectOf recordBytes partRecords recordStored logPart opStepOf switchDue nextStepOf activeStep stepOf runOf flushedClock paddedClock switchOf endedOf freshState logQueryOf logStatusOf stateVerdict freshVerdict runVerdict logVerdict freshStartOf freshWorld ranFrom runCallOf stepCallOf runAnswer stepAnswer logAnswer afterCall verdictOf stepsCounted afterCalls stepsOfCalls Proper startWorld worldAfter opsOf
 computing = 0
 
 one-is : IsList one

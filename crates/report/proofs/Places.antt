@@ -8,7 +8,7 @@ use lib.Dec.{leb}
 use borrow.Author.Tests.{leb-true, lt-ltb}
 use Rattle.plan.specs.declared.Plan.{Plan}
 use Rattle.plan.specs.Sums.{allBelow}
-use Rattle.plan.proofs.ValidPlans.{both}
+use Rattle.lists.proofs.Tests.{both}
 use Rattle.plan.proofs.Sums.{all-below}
 use Rattle.records.specs.Records.{partRecords, recordIndex}
 use Rattle.records.proofs.Parts.{parts-fit}

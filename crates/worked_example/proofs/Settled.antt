@@ -25,9 +25,9 @@ use Rattle.reader.specs.Final.{lacking, firstUndeclared, firstColourless, final
 use Rattle.reader.specs.Read.{walkFrom, refusedRead, readOf}
 use Rattle.cache.specs.Access.{lookupL1, lookupL2, lookupOf, lookupAt, accessOf}
 use Rattle.cache.specs.Flush.{countWhere, dirtyLines, validLines, kernelFlushTicks, l1FlushTicks, kernelFlushed, l1Flushed}
-use Rattle.cache.specs.Sets.{has, behind, used}
+use Rattle.cache.specs.Sets.{has, moveToFront, without}
 use Rattle.records.specs.Records.{recordBytes, partRecords, recordStored, logPart}
-use Rattle.ops.specs.Ops.{ownsLine, touchOf, deniedOf, passedOf, sendOf, boxObservation, receiveOf, computeOf, effectOf}
+use Rattle.ops.specs.Ops.{ownsLine, touchOf, messageOf, boxObservation, receiveOf, computeOf, effectOf}
 use Rattle.state.specs.TableValidity.{lineAllowed, l1EntryValid, allEmpty, waysValid, setValid, boxValid, tablesValid}
 use Rattle.state.specs.StateValidity.{clockValid, domainCountsValid, stateValid}
 use Rattle.state.specs.World.{endedOf, freshState}
@@ -43,5 +43,5 @@ use Rattle.report.specs.Planrun.{ranLines, planrunOf}
 use Rattle.worked_example.specs.Table.{fullRun, shares, lineHundred, boxLines, leastPad, dirtyTo, flushes, tableAfter, allMiss, fiveReads, sixthRead, firstWindowAt, stepAt, beginsBeforeEnd, noneAtEnd, emptyText, entries, allHold}
 
 pub settled : allHold entries ≡ true
-unfolding bytesOf part splice opOf decodeOf fetchOf storedOf coloursOf sharesTotal firstColour maskFrom maskOf holdingOf hasBit countsValid declaredValid undeclaredValid domainValid maskValid windowValid planValid sumTo allBelow windowOwner windowLength windowStart windowEnd windowsTotal ticksTotal digitsOf decimalOf scanFrom scanOf allBytes valueAfter decimalValue digitsToken runToken longestRun tokenFrom tokenAt noPlan noDraft noOps planWithPad planWithRun planWithDomain planWithWindow takePad takeRun takeDomain takeWindow takeOp takeLine lacking firstUndeclared firstColourless finalVerdict masksFrom planWithMasks padBody runBody lengthBody windowBody opKeywordAt opNumbers scriptBody opBody recipientAt mention recipientsFrom recipientsAt listedBody mayBody shareBody domainBody formKeywordAt bodyOf closedLine bodyLine tokenLine lineAt walkFrom refusedRead readOf sameBytes isWord passOpen passClose passLineEnd passWord takeNumber lookupL1 lookupL2 lookupOf lookupAt accessOf countWhere dirtyLines validLines kernelFlushTicks l1FlushTicks kernelFlushed l1Flushed has behind used lineAllowed l1EntryValid allEmpty waysValid setValid boxValid tablesValid clockValid domainCountsValid stateValid ownsLine touchOf deniedOf passedOf sendOf boxObservation receiveOf computeOf effectOf recordBytes partRecords recordStored logPart opStepOf switchDue nextStepOf activeStep stepOf runOf flushedClock paddedClock switchOf endedOf freshState logQueryOf logStatusOf stateVerdict freshVerdict runVerdict logVerdict freshStartOf freshWorld ranFrom runCallOf stepCallOf seenLine domainLines seenLines endLine runLines refusalLine ranLines planrunOf fullRun shares lineHundred boxLines leastPad dirtyTo flushes tableAfter allMiss fiveReads sixthRead firstWindowAt stepAt beginsBeforeEnd noneAtEnd emptyText entries allHold
+unfolding bytesOf part splice opOf decodeOf fetchOf storedOf coloursOf sharesTotal firstColour maskFrom maskOf holdingOf hasBit countsValid declaredValid undeclaredValid domainValid maskValid windowValid planValid sumTo allBelow windowOwner windowLength windowStart windowEnd windowsTotal ticksTotal digitsOf decimalOf scanFrom scanOf allBytes valueAfter decimalValue digitsToken runToken longestRun tokenFrom tokenAt noPlan noDraft noOps planWithPad planWithRun planWithDomain planWithWindow takePad takeRun takeDomain takeWindow takeOp takeLine lacking firstUndeclared firstColourless finalVerdict masksFrom planWithMasks padBody runBody lengthBody windowBody opKeywordAt opNumbers scriptBody opBody recipientAt mention recipientsFrom recipientsAt listedBody mayBody shareBody domainBody formKeywordAt bodyOf closedLine bodyLine tokenLine lineAt walkFrom refusedRead readOf sameBytes isWord passOpen passClose passLineEnd passWord takeNumber lookupL1 lookupL2 lookupOf lookupAt accessOf countWhere dirtyLines validLines kernelFlushTicks l1FlushTicks kernelFlushed l1Flushed has moveToFront without lineAllowed l1EntryValid allEmpty waysValid setValid boxValid tablesValid clockValid domainCountsValid stateValid ownsLine touchOf messageOf boxObservation receiveOf computeOf effectOf recordBytes partRecords recordStored logPart opStepOf switchDue nextStepOf activeStep stepOf runOf flushedClock paddedClock switchOf endedOf freshState logQueryOf logStatusOf stateVerdict freshVerdict runVerdict logVerdict freshStartOf freshWorld ranFrom runCallOf stepCallOf seenLine domainLines seenLines endLine runLines refusalLine ranLines planrunOf fullRun shares lineHundred boxLines leastPad dirtyTo flushes tableAfter allMiss fiveReads sixthRead firstWindowAt stepAt beginsBeforeEnd noneAtEnd emptyText entries allHold
 settled = refl
