@@ -5,6 +5,10 @@ use mathlib.Core.Path.{_≡_, refl}
 pub both-pass : (one other : Bool) → one ≡ true → other ≡ true → (one && other) ≡ true
 both-pass one other left right = and-eq-true-iff one other .1 (left, right)
 
+-- both halves of a test that passes
+pub both : (one other : Bool) → (one && other) ≡ true → (one ≡ true) × (other ≡ true)
+both one other passed = and-eq-true-iff one other .0 passed
+
 pub first-passes : (one other : Bool) → one ≡ true → (one || other) ≡ true
 first-passes true other left = refl
 first-passes false other left = absurd (false≢true left)
@@ -19,7 +23,8 @@ neither true other none = (none, elim other [ true ↦ none | false ↦ refl ])
 neither false other none = (refl, none)
 
 -- the test that is chosen passes
-pub choice-passes : (test one other : Bool) → (test ≡ true → one ≡ true) → (test ≡ false → other ≡ true) → cond test one other ≡ true
+pub choice-passes : (test one other : Bool) → (test ≡ true → one ≡ true) → (test ≡ false → other ≡ true)
+    → cond test one other ≡ true
 choice-passes true one other left right = left refl
 choice-passes false one other left right = right refl
 
