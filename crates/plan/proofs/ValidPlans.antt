@@ -1,4 +1,4 @@
--- What a plan that passes the check for 12 is known to satisfy, fact by fact. Assumes nothing.
+-- What a valid plan (12) is known to satisfy, fact by fact. Assumes nothing.
 use mathlib.Core.Path.{_≡_}
 use mathlib.Core.Bool.{Bool, true, false, cond, _&&_}
 use Prim.Native.Nat.{ℕ, _-_, _^_, _≤_, _<_}
@@ -22,7 +22,7 @@ pub limits : (low high number : ℕ) → within low high number ≡ true → (lo
 limits low high number h = let parts = both (leb low number) (leb number high) h in (leb-true _ _ (parts .0), leb-true _ _ (parts .1))
 
 -- the six parts of the check
-pub record Possible (plan : Plan) : Type 0 where
+pub record ValidParts (plan : Plan) : Type 0 where
   pub counts : countsValid plan ≡ true
   pub domains : allBelow (domainValid plan) mostDomains ≡ true
   pub shares : sharesTotal plan (plan .domains) ≤ mostShares
@@ -30,7 +30,7 @@ pub record Possible (plan : Plan) : Type 0 where
   pub windows : allBelow (windowValid plan) mostWindows ≡ true
   pub ticks : ticksTotal plan ≤ mostRunTicks
 
-pub parts : (plan : Plan) → planValid plan ≡ true → Possible plan
+pub parts : (plan : Plan) → planValid plan ≡ true → ValidParts plan
 unfolding planValid
 parts plan valid =
     let sixth = both _ _ valid in

@@ -108,7 +108,6 @@ none-colourless plan valid (suc left) domain all =
 
 -- nothing is lacking
 none-lacking : (plan : Plan) → planValid plan ≡ true → lacking (unmasked plan) ≡ false
-unfolding lacking
 none-lacking plan valid =
     let count = counts plan valid in
     rw (
