@@ -25,7 +25,8 @@ module _ (test : ℕ → Bool) (at : ℕ) (table : List ℕ) where
       (left : ℕ)
       → 0 < left
       → at + left ≤ length table
-      → cond (test (getD table at 0)) 1 0 + countWhere test (part (at + 1) (left - 1) table) ≡ countWhere test (part at left table)
+      → cond (test (getD table at 0)) 1 0 + countWhere test (part (at + 1) (left - 1) table)
+      ≡ countWhere test (part at left table)
   unfolding countWhere
   count-next left some within = rw (part-next at left table (omega arith) some)
 

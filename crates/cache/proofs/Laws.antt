@@ -1,5 +1,6 @@
--- Laws of an access and of the flushes that other crates cite: lengths are kept, and a hit in L1 leaves L2 alone. Assumes nothing.
-use Prim.Native.Nat.{ℕ}
+-- Laws of an access and of the flushes that other crates cite: lengths are kept, and a hit in L1 leaves L2 alone.
+-- Assumes nothing.
+use Prim.Native.Nat.{ℕ, _+_, _≤_}
 use mathlib.Core.Path.{_≡_, refl, sym, _∙_}
 use mathlib.Core.Bool.{Bool, true, false, cond}
 use mathlib.Core.List.{List}
@@ -9,12 +10,13 @@ use lib.Seq.{drop-set-lt}
 use Rattle.lists.specs.Part.{splice}
 use Rattle.lists.proofs.Parts.{part-length, splice-length, splice-part}
 use Rattle.cache.specs.declared.AccessKind.the-variants.{Hit1, Hit2, Miss}
-use Rattle.cache.specs.Lines.{cleanEntry, l1Index, l1Length, kernelEntries, kernelIndex, setOf, setIndex, waysPerSet}
+use Rattle.cache.specs.Lines.{cleanEntry, l1Index, l1Length, kernelEntries, kernelIndex, setOf, setIndex}
+use Rattle.cache.specs.Lines.{tableLength, waysPerSet}
 use Rattle.cache.specs.Sets.{has}
 use Rattle.cache.specs.Access.{accessOf, lookupAt, lookupL1, lookupL2}
 use Rattle.cache.specs.Flush.{kernelFlushed, l1Flushed}
 use Rattle.cache.proofs.Outcome.{inL1, look-held, look-lacked, waysOf}
-use Rattle.cache.proofs.Ways.{used-length}
+use Rattle.cache.proofs.Ways.{moved-length}
 
 -- a line that L1 lacks is no hit in L1
 no-hit1 : (known : Bool) → cond known Hit2 Miss ≡ Hit1 → ⊥
@@ -22,10 +24,18 @@ no-hit1 true is = let wrong : _≡_ {A = ℕ} 0 1 = cc in omega arith
 no-hit1 false is = let wrong : _≡_ {A = ℕ} 0 1 = cc in omega arith
 
 module _ (writes : Bool) (line : ℕ) (table : List ℕ) where
-  ways-length : (held : Bool) → inL1 line table ≡ held → length (lookupAt writes line table .ways) ≡ length (waysOf line table)
+  -- a lookup leaves as many ways as it found
+  lookup-length : (held : Bool) → inL1 line table ≡ held
+      → length (lookupAt writes line table .ways) ≡ length (waysOf line table)
   unfolding lookupL1 lookupL2
-  ways-length true held = rw (look-held writes line table held)
-  ways-length false lacked = rw (look-lacked writes line table lacked) (used-length (cleanEntry line) (waysOf line table))
+  lookup-length true held = rw (look-held writes line table held)
+  lookup-length false lacked =
+      rw (look-lacked writes line table lacked) (moved-length (cleanEntry line) (waysOf line table))
+
+  -- in a whole table those are a set's
+  pub lookup-ways : length table ≡ tableLength → length (lookupAt writes line table .ways) ≡ waysPerSet
+  lookup-ways whole =
+      lookup-length (inL1 line table) refl ∙ part-length (setIndex (setOf line)) waysPerSet table (omega arith)
 
   -- an access keeps the table's length
   pub access-length : length (accessOf writes line table .table) ≡ length table
@@ -33,7 +43,7 @@ module _ (writes : Bool) (line : ℕ) (table : List ℕ) where
   access-length =
       let look = lookupAt writes line table in
       length-set (splice (setIndex (setOf line)) waysPerSet (look .ways) table) (l1Index line) (look .entry)
-      ∙ splice-length (setIndex (setOf line)) waysPerSet (look .ways) table (ways-length (inL1 line table) refl)
+      ∙ splice-length (setIndex (setOf line)) waysPerSet (look .ways) table (lookup-length (inL1 line table) refl)
 
   hit1-held : (held : Bool) → inL1 line table ≡ held → accessOf writes line table .found ≡ Hit1 → inL1 line table ≡ true
   unfolding accessOf lookupL2
@@ -42,24 +52,31 @@ module _ (writes : Bool) (line : ℕ) (table : List ℕ) where
       absurd (no-hit1 (has (cleanEntry line) (waysOf line table)) (rw (look-lacked writes line table lacks) at is))
 
   -- a hit in L1 is a line that L1 holds
-  pub hit1-holds : accessOf writes line table .found ≡ Hit1 → inL1 line table ≡ true
+  hit1-holds : accessOf writes line table .found ≡ Hit1 → inL1 line table ≡ true
   hit1-holds is = hit1-held (inL1 line table) refl is
 
   -- a hit in L1 leaves L2 alone
-  pub hit1-keeps-l2 : accessOf writes line table .found ≡ Hit1 → drop 16 (accessOf writes line table .table) ≡ drop 16 table
+  pub hit1-keeps-l2 : accessOf writes line table .found ≡ Hit1
+      → drop l1Length (accessOf writes line table .table) ≡ drop l1Length table
   unfolding accessOf lookupL1
   hit1-keeps-l2 is =
       rw (look-held writes line table (hit1-holds is), splice-part)
-      (drop-set-lt 16 table (l1Index line) (lookupL1 writes line (getD table (l1Index line) 0) (waysOf line table) .entry) (omega arith))
+      (drop-set-lt l1Length table (l1Index line)
+      (lookupL1 writes line (getD table (l1Index line) 0) (waysOf line table) .entry) (omega arith))
 
 -- a flush keeps the length of a whole table
-pub kernel-flush-length : (table : List ℕ) → length table ≡ 272 → length (kernelFlushed table) ≡ length table
-unfolding kernelFlushed
-kernel-flush-length table long =
-    splice-length kernelIndex kernelEntries (replicate kernelEntries 0) table
-    (length-replicate {A = ℕ} kernelEntries 0 ∙ sym (part-length kernelIndex kernelEntries table (omega arith)))
+flush-length :
+    (first count : ℕ) (table : List ℕ)
+    → first + count ≤ length table
+    → length (splice first count (replicate count 0) table) ≡ length table
+flush-length first count table within =
+    splice-length first count (replicate count 0) table
+    (length-replicate {A = ℕ} count 0 ∙ sym (part-length first count table within))
 
-pub l1-flush-length : (table : List ℕ) → length table ≡ 272 → length (l1Flushed table) ≡ length table
+pub kernel-flush-length : (table : List ℕ) → length table ≡ tableLength → length (kernelFlushed table) ≡ length table
+unfolding kernelFlushed
+kernel-flush-length table long = flush-length kernelIndex kernelEntries table (omega arith)
+
+pub l1-flush-length : (table : List ℕ) → length table ≡ tableLength → length (l1Flushed table) ≡ length table
 unfolding l1Flushed
-l1-flush-length table long =
-    splice-length 0 l1Length (replicate l1Length 0) table (length-replicate {A = ℕ} l1Length 0 ∙ sym (part-length 0 l1Length table (omega arith)))
+l1-flush-length table long = flush-length 0 l1Length table (omega arith)

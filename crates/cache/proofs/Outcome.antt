@@ -9,8 +9,9 @@ use Rattle.lists.proofs.Parts.{splice-part}
 use Rattle.cache.specs.declared.AccessKind.{AccessKind}
 use Rattle.cache.specs.declared.AccessKind.the-variants.{Hit1, Hit2, Miss}
 use Rattle.cache.specs.Lines.{cleanEntry, dirtyEntry, entryFor, holdsLine, l1Index, setOf, setIndex, waysPerSet}
-use Rattle.cache.specs.Sets.{has, used}
-use Rattle.cache.specs.Access.{accessOf, lookupAt, lookupL1, lookupL2, lookupOf, replaceTicks}
+use Rattle.cache.specs.Sets.{has, moveToFront}
+use Rattle.cache.specs.Access.{accessOf, hit1Ticks, hit2Ticks, lookupAt, lookupL1, lookupL2, lookupOf, missTicks}
+use Rattle.cache.specs.Access.{replaceTicks}
 
 -- L1 holds a line where its index has the line's number
 abbrev pub inL1 : ℕ → List ℕ → Bool
@@ -36,8 +37,8 @@ module _ (writes : Bool) (line : ℕ) (table : List ℕ) where
   look-lacked lacked = rw lacked
 
   -- what an access answers and leaves
-  abbrev pub DraftOutcome : AccessKind → ℕ → List ℕ → Type 0
-  DraftOutcome found ticks left =
+  abbrev pub Outcome : AccessKind → ℕ → List ℕ → Type 0
+  Outcome found ticks left =
       (found ≡ accessOf writes line table .found)
       × (ticks ≡ accessOf writes line table .ticks)
       × (left ≡ accessOf writes line table .table)
@@ -47,11 +48,11 @@ module _ (writes : Bool) (line : ℕ) (table : List ℕ) where
       (entry : ℕ)
       → inL1 line table ≡ true
       → entry ≡ cond writes (dirtyEntry line) (getD table (l1Index line) 0)
-      → DraftOutcome Hit1 1 (set table (l1Index line) entry)
+      → Outcome Hit1 hit1Ticks (set table (l1Index line) entry)
   unfolding accessOf lookupL1
   held-outcome entry held is = rw (look-held held, is, splice-part) (refl, refl, refl)
 
-  -- what the code does where L1 lacks the line: the set, so many ways from the place first, is lent on
+  -- what the code does where L1 lacks the line: the set, `width` ways from the index `first` on, is lent on
   module _ (width : ℕ) (wide : width ≡ waysPerSet) where
     abbrev first : ℕ
     first = setIndex (setOf line)
@@ -60,12 +61,13 @@ module _ (writes : Bool) (line : ℕ) (table : List ℕ) where
         (known : Bool) (ways : List ℕ) (found : AccessKind) (entry search late : ℕ)
         → inL1 line table ≡ false
         → known ≡ has (cleanEntry line) (take width (drop first table))
-        → ways ≡ used (cleanEntry line) (take width (drop first table))
+        → ways ≡ moveToFront (cleanEntry line) (take width (drop first table))
         → found ≡ cond known Hit2 Miss
         → entry ≡ entryFor writes line
-        → search ≡ cond known 10 100
+        → search ≡ cond known hit2Ticks missTicks
         → late ≡ replaceTicks (getD table (l1Index line) 0)
-        → DraftOutcome found (search + late) (set (take first table ++ (ways ++ drop width (drop first table))) (l1Index line) entry)
+        → Outcome found (search + late)
+        (set (take first table ++ (ways ++ drop width (drop first table))) (l1Index line) entry)
     unfolding accessOf lookupL2 part splice
     lacked-outcome known ways found entry search late lacked knows uses finds enters searched lately =
         rw (look-lacked lacked, finds, searched, lately, enters, uses, knows, wide) (refl, refl, refl)

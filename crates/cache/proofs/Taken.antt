@@ -1,15 +1,12 @@
--- A part of the table taken into an array, one number at a time, and counted there. Assumes nothing.
+-- A part of the table taken into an array, one number at a time. Assumes nothing.
 use Prim.Native.Nat.{ℕ, suc, _+_, _<_}
 use mathlib.Core.Path.{_≡_, sym, ap, _∙_}
-use mathlib.Core.Bool.{Bool}
 use mathlib.Core.List.{List, [], _∷_, _++_}
 use native.Mathlib.Numerals.{add-one}
 use native.Mathlib.Omega.{arith}
 use lib.ListN.{getD, length, set, take, drop, length-drop}
 use lib.Seq.{getD-drop, take-all, take-suc, take-suc-set}
 use Rattle.lists.specs.Part.{part}
-use Rattle.lists.proofs.Parts.{part-limit}
-use Rattle.cache.specs.Flush.{countWhere}
 
 -- a part that is one number longer has that number last
 part-last :
@@ -40,13 +37,3 @@ pub taken-all :
     → take i taken ≡ part first i table
     → taken ≡ part first count table
 taken-all first i count table taken long ended so-far = sym (take-all count taken (omega arith)) ∙ rw (sym ended) so-far
-
--- counting in the array counts in the part
-pub counted-there :
-    (test : ℕ → Bool) (first count answer : ℕ) (table taken : List ℕ)
-    → taken ≡ part first count table
-    → answer ≡ countWhere test (part 0 count taken)
-    → answer ≡ countWhere test (part first count table)
-unfolding part
-counted-there test first count answer table taken is counted =
-    counted ∙ ap (countWhere test) (ap (take count) is ∙ take-all count (part first count table) (part-limit first count table))

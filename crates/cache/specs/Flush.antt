@@ -1,10 +1,19 @@
--- Document 01, "Window, switch, run": the two flushes of a switch, their counts and ticks. Assumes nothing.
+-- Document 01, "Window, switch, run": the two flushes of a switch, their counts and ticks. Assumes
+-- nothing.
 use Prim.Native.Nat.{ℕ, _+_, _*_}
 use mathlib.Core.Bool.{Bool, cond}
 use mathlib.Core.List.{List, [], _∷_}
 use lib.ListN.{replicate}
 use Rattle.lists.specs.Part.{part, splice}
 use Rattle.cache.specs.Lines.{l1Length, isDirty, isValid, kernelEntries, kernelIndex}
+
+-- the ticks of either flush, whatever it empties
+abbrev pub flushTicks : ℕ
+flushTicks = 8
+
+-- the ticks of a dirty line that L1's flush writes back
+abbrev pub dirtyLineTicks : ℕ
+dirtyLineTicks = 2
 
 -- how many numbers pass a test
 unfoldable pub countWhere : (ℕ → Bool) → List ℕ → ℕ
@@ -15,17 +24,17 @@ countWhere test (entry ∷ rest) = cond (test entry) 1 0 + countWhere test rest
 unfoldable pub dirtyLines : List ℕ → ℕ
 dirtyLines table = countWhere isDirty (part 0 l1Length table)
 
--- the valid lines of the L2 sets 60 to 63
+-- the valid lines of the kernel's sets
 unfoldable pub validLines : List ℕ → ℕ
 validLines table = countWhere isValid (part kernelIndex kernelEntries table)
 
--- emptying the kernel's sets takes 8 ticks + 1 per valid line
+-- emptying the kernel's sets: one tick more for each valid line
 unfoldable pub kernelFlushTicks : List ℕ → ℕ
-kernelFlushTicks table = 8 + validLines table
+kernelFlushTicks table = flushTicks + validLines table
 
--- emptying L1 takes 8 ticks + 2 per dirty line
+-- emptying L1
 unfoldable pub l1FlushTicks : List ℕ → ℕ
-l1FlushTicks table = 8 + 2 * dirtyLines table
+l1FlushTicks table = flushTicks + dirtyLineTicks * dirtyLines table
 
 -- the table with the kernel's sets emptied
 unfoldable pub kernelFlushed : List ℕ → List ℕ

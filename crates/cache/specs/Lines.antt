@@ -1,36 +1,77 @@
--- Document 01, "The core and its tables": a line, its set, its colour and its L1 index; the numbers that stand for it. Assumes nothing.
+-- Document 01, "The core and its tables": a line, its set, its colour and its L1 index; the sizes
+-- of the cache table, and the numbers that stand in it. Each size is said here alone. Assumes
+-- nothing.
 use Prim.Native.Nat.{ℕ, _+_, _*_, _/_, _%_}
 use mathlib.Core.Bool.{Bool, cond, _||_}
 use mathlib.Core.List.{List}
 use lib.Dec.{eqb, ltb}
 use lib.ListN.{replicate}
 
--- a line's set is line mod 64
-abbrev pub setOf : ℕ → ℕ
-setOf line = line % 64
+-- ---- sizes
 
--- four sets in a row have one colour
+-- the highest line number; the lowest is 0
+abbrev pub mostLine : ℕ
+mostLine = 4_095
+
+-- L1 has one number per index
+abbrev pub l1Length : ℕ
+l1Length = 16
+
+-- the sets of L2
+abbrev pub setCount : ℕ
+setCount = 64
+
+-- the numbers of a set
+abbrev pub waysPerSet : ℕ
+waysPerSet = 4
+
+-- the sets of one colour stand in a row
+abbrev pub setsPerColour : ℕ
+setsPerColour = 4
+
+-- the numbers of L1 and of every set
+abbrev pub tableLength : ℕ
+tableLength = 272
+
+-- the colour that is the kernel's
+abbrev pub kernelColour : ℕ
+kernelColour = 15
+
+-- the first of the kernel's sets, which are the last of all
+abbrev pub firstKernelSet : ℕ
+firstKernelSet = 60
+
+-- the numbers of the kernel's sets
+abbrev pub kernelEntries : ℕ
+kernelEntries = 16
+
+-- ---- a line's set, colour and L1 index
+
+abbrev pub setOf : ℕ → ℕ
+setOf line = line % setCount
+
 abbrev pub setColour : ℕ → ℕ
-setColour set = set / 4
+setColour set = set / setsPerColour
 
 -- a line has the colour of its set
 abbrev pub colourOf : ℕ → ℕ
 colourOf line = setColour (setOf line)
 
--- a line's L1 index is line mod 16
 abbrev pub l1Index : ℕ → ℕ
-l1Index line = line % 16
+l1Index line = line % l1Length
 
--- colour 15 is the kernel's
-abbrev pub kernelColour : ℕ
-kernelColour = 15
+-- ---- the numbers of the table
 
--- the number of a clean line is line + 1; a dirty one has 32,768 added
+-- what is added to the number of a dirty line
+abbrev pub dirtyMark : ℕ
+dirtyMark = 32_768
+
+-- the number of a clean line; 0 is empty
 abbrev pub cleanEntry : ℕ → ℕ
 cleanEntry line = line + 1
 
 abbrev pub dirtyEntry : ℕ → ℕ
-dirtyEntry line = line + 1 + 32_768
+dirtyEntry line = line + 1 + dirtyMark
 
 -- an L1 number holds a line, clean or dirty
 abbrev pub holdsLine : ℕ → ℕ → Bool
@@ -38,9 +79,9 @@ holdsLine entry line = eqb entry (cleanEntry line) || eqb entry (dirtyEntry line
 
 -- an L1 number is a dirty line's
 abbrev pub isDirty : ℕ → Bool
-isDirty entry = ltb 32_768 entry
+isDirty entry = ltb dirtyMark entry
 
--- an L2 number is some line's: 0 is empty
+-- an L2 number is some line's
 abbrev pub isValid : ℕ → Bool
 isValid entry = ltb 0 entry
 
@@ -48,32 +89,16 @@ isValid entry = ltb 0 entry
 abbrev pub entryFor : Bool → ℕ → ℕ
 entryFor writes line = cond writes (dirtyEntry line) (cleanEntry line)
 
--- the cache table is L1, then L2: a set's four numbers begin at 16 + 4 × set
+-- ---- the table: L1, then the sets in order
+
+-- where a set's ways begin
 abbrev pub setIndex : ℕ → ℕ
-setIndex set = 16 + 4 * set
+setIndex set = l1Length + waysPerSet * set
 
--- each of the 64 sets has four ways
-abbrev pub setCount : ℕ
-setCount = 64
-
-abbrev pub waysPerSet : ℕ
-waysPerSet = 4
-
--- 16 numbers of L1 and 64 × 4 of L2
-abbrev pub tableLength : ℕ
-tableLength = 272
+-- where the kernel's sets begin
+abbrev pub kernelIndex : ℕ
+kernelIndex = setIndex firstKernelSet
 
 -- the empty table
 abbrev pub emptyTable : List ℕ
 emptyTable = replicate tableLength 0
-
--- the kernel's sets, those of colour 15, are 60 to 63: their 16 numbers are the table's last
-abbrev pub kernelIndex : ℕ
-kernelIndex = setIndex 60
-
-abbrev pub kernelEntries : ℕ
-kernelEntries = 16
-
--- L1 is the table's first 16 numbers
-abbrev pub l1Length : ℕ
-l1Length = 16

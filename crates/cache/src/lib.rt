@@ -1,13 +1,24 @@
-// The cache table: L1, 16 numbers, then L2, 64 sets of 4 numbers. An access of a line; the two flushes of a switch stand in `flush`.
+// The cache table: L1, then the sets of L2. An access of a line; the two flushes of a switch stand
+// in `flush`.
 pub mod flush;
+pub mod limits;
 mod sets;
 
+use crate::limits::DIRTY_MARK;
+use crate::limits::DIRTY_TICKS;
+use crate::limits::HIT1_TICKS;
+use crate::limits::HIT2_TICKS;
+use crate::limits::L1_LENGTH;
+use crate::limits::MISS_TICKS;
+use crate::limits::SET_COUNT;
+use crate::limits::WAYS_PER_SET;
 ghost use mathlib.Core.Path.{_≡_};
 ghost use mathlib.Core.Bool.{cond};
-ghost use Prim.Native.Nat.{_+_, _<_};
+ghost use Prim.Native.Nat.{_≤_};
 ghost use lib.ListN.{length};
 ghost use Rattle.cache.specs.declared.AccessKind.the-variants.{Hit2, Miss};
 ghost use Rattle.cache.specs.Access.{accessOf};
+ghost use Rattle.cache.specs.Lines.{mostLine, tableLength};
 
 // How an access found its line.
 pub enum AccessKind {
@@ -47,31 +58,33 @@ fn found_in_set(known: bool) -> AccessKind
     }
 }
 
-// An access of a line. The four numbers of its set are lent on to be rewritten, and only where L1 lacks the line.
+// An access of a line. The ways of its set are lent on to be rewritten, and only where L1 lacks the
+// line.
 pub fn access(table: &mut [u16], line: u16, writes: bool) -> AccessResult
-    requires { ⌜ (length (now table) ≡ 272) × (line < 4096) ⌝ }
+    requires { ⌜ (length (now table) ≡ tableLength) × (line ≤ mostLine) ⌝ }
     ensures { λ r.
         ⌜ (r .found ≡ accessOf writes line (now (table .entry)) .found)
         × (r .ticks ≡ accessOf writes line (now (table .entry)) .ticks)
         × (now (table .exit) ≡ accessOf writes line (now (table .entry)) .table) ⌝ }
 {
     let clean = line + 1;
-    let dirty = line + 1 + 32_768;
-    let index = (line % 16) as usize;
+    let dirty = line + 1 + DIRTY_MARK;
+    let index = line as usize % L1_LENGTH;
     let held = table[index];
     if (held == clean) | (held == dirty) {
         table[index] = choose_entry(writes, dirty, held);
         return AccessResult {
             found: AccessKind::Hit1,
-            ticks: 1,
+            ticks: HIT1_TICKS,
         };
     }
-    let from = 16 + 4 * ((line % 64) as usize);
-    let to = from + 4;
-    let known = sets::use_entry(&mut table[from..to], clean);
+    let from = L1_LENGTH + WAYS_PER_SET * (line as usize % SET_COUNT);
+    let to = from + WAYS_PER_SET;
+    let known = sets::move_to_front(&mut table[from..to], clean);
     table[index] = choose_entry(writes, dirty, clean);
     AccessResult {
         found: found_in_set(known),
-        ticks: choose_number(known, 10, 100) + choose_number(32_768 < held, 4, 0),
+        ticks: choose_number(known, HIT2_TICKS, MISS_TICKS)
+            + choose_number(DIRTY_MARK < held, DIRTY_TICKS, 0),
     }
 }

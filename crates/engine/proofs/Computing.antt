@@ -9,9 +9,9 @@ use Rattle.plan.specs.Validity.{countsValid, declaredValid, undeclaredValid, do
 use Rattle.plan.specs.Windows.{windowOwner, windowLength, windowStart, windowEnd, windowsTotal, ticksTotal}
 use Rattle.cache.specs.Access.{lookupL1, lookupL2, lookupOf, lookupAt, accessOf}
 use Rattle.cache.specs.Flush.{countWhere, dirtyLines, validLines, kernelFlushTicks, l1FlushTicks, kernelFlushed, l1Flushed}
-use Rattle.cache.specs.Sets.{has, behind, used}
+use Rattle.cache.specs.Sets.{has, moveToFront, without}
 use Rattle.records.specs.Records.{recordBytes, partRecords, recordStored, logPart}
-use Rattle.ops.specs.Ops.{ownsLine, touchOf, deniedOf, passedOf, sendOf, boxObservation, receiveOf, computeOf, effectOf}
+use Rattle.ops.specs.Ops.{ownsLine, touchOf, messageOf, boxObservation, receiveOf, computeOf, effectOf}
 use Rattle.state.specs.StateValidity.{clockValid, domainCountsValid, stateValid}
 use Rattle.state.specs.TableValidity.{lineAllowed, l1EntryValid, allEmpty, waysValid, setValid, boxValid, tablesValid}
 use Rattle.state.specs.World.{endedOf, freshState}
@@ -30,10 +30,10 @@ unfolding
     coloursOf sharesTotal firstColour maskFrom maskOf hasBit sumTo allBelow
     countsValid declaredValid undeclaredValid domainValid maskValid windowValid planValid
     windowOwner windowLength windowStart windowEnd windowsTotal ticksTotal
-    lookupL1 lookupL2 lookupOf lookupAt accessOf has behind used
+    lookupL1 lookupL2 lookupOf lookupAt accessOf has moveToFront without
     countWhere dirtyLines validLines kernelFlushTicks l1FlushTicks kernelFlushed l1Flushed
     recordBytes partRecords recordStored logPart
-    ownsLine touchOf deniedOf passedOf sendOf boxObservation receiveOf computeOf effectOf
+    ownsLine touchOf messageOf boxObservation receiveOf computeOf effectOf
     clockValid domainCountsValid stateValid
     lineAllowed l1EntryValid allEmpty waysValid setValid boxValid tablesValid
     endedOf freshState freshWorld opStepOf switchDue nextStepOf activeStep stepOf runOf

@@ -1,6 +1,7 @@
-// The five forms of a line: what stands within its brackets, or the refusal and its place.
+// The five forms of a line, past the word that opens each: what the form says, or the refusal with
+// its offset.
 pub mod domains;
-pub mod making;
+mod numbers;
 pub mod op_lines;
 pub mod pad_and_run;
 pub mod windows;
@@ -26,7 +27,7 @@ pub struct OpLine {
     pub op: Op,
 }
 
-// What a line says, before it is known that the line ends as it should.
+// What a line says.
 pub enum Form {
     Blank,
     Pad(u32),
@@ -37,10 +38,15 @@ pub enum Form {
     Refused(Refusal),
 }
 
-// What stands within a line's brackets, and the offset past it.
-pub struct FormBody {
-    pub form: Form,
-    pub end: usize,
-    // where the text up to there first names each domain as a recipient, plus one; 0 where it has not
+// A form and the offset past what stands within its brackets, or the refusal.
+pub enum FormParse {
+    Form { form: Form, end: usize },
+    Refused(Refusal),
+}
+
+// The same of a domain form, which notes the recipients that it names.
+pub struct DomainParse {
+    pub parse: FormParse,
+    // where the text up to there first names each domain as a recipient, plus one; else 0
     pub named: [usize; 8],
 }

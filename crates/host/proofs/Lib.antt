@@ -4,3 +4,4 @@ pub mod Lists
 pub mod Shown
 pub mod Texts
 pub mod Isolation
+pub mod Examples

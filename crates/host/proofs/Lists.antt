@@ -1,5 +1,5 @@
--- A list of a host's calls, as a list of the engine's: refused calls are left out, and any other is the engine's call on the
--- list's own things. Both come to the same world and count the same steps. Assumes nothing.
+-- A list of a host's calls, as a list of the engine's: refused calls are left out, and any other is the engine's call
+-- on the list's own things. Both come to the same world and count the same steps. Assumes nothing.
 use Prim.Native.Nat.{ℕ, _+_}
 use mathlib.Core.Bool.{Bool, true, false, cond, false≢true}
 use mathlib.Core.List.{List, [], _∷_}
@@ -11,7 +11,7 @@ use Rattle.state.specs.World.{World}
 use Rattle.machine.specs.View.{worldWith}
 use Rattle.engine.specs.FreshStart.{FreshOutcome, freshStartOf}
 use Rattle.isolation.specs.Calls.{AllOwn, Call, CallList, IsList, Proper, afterCall, afterCalls, isRefused, leavesOf}
-use Rattle.isolation.specs.Calls.{pointOf, startWorld, stepsCounted, stepsOfCalls}
+use Rattle.isolation.specs.Calls.{pointOf, startWorld, stepsAsked, stepsCounted, stepsOfCalls}
 use Rattle.isolation.specs.Points.{worldAfter}
 use Rattle.isolation.proofs.OneRun.{leaves}
 use Rattle.pirkvezo.specs.Answers.{allFit, answerOf, verdictNumber, wrongLength}
@@ -21,10 +21,11 @@ use Rattle.pirkvezo.proofs.Calls.{lengths}
 use Rattle.pirkvezo.proofs.StateBack.{fresh-back}
 use Rattle.pirkvezo.proofs.Whole.{state-kept}
 use Rattle.host.specs.Calls.{AllOwnArrays, Arrays, HostCall, HostList, IsHostList, ProperCalls, afterHostCall}
-use Rattle.host.specs.Calls.{afterHostCalls, arraysLeft, freshReturn, hostPointOf, hostStepsAsked}
+use Rattle.host.specs.Calls.{afterHostCalls, arraysLeft, freshReturn, hostLogCall, hostPointOf, hostRunCall}
+use Rattle.host.specs.Calls.{hostStepCall, hostStepsAsked}
 use Rattle.host.specs.Calls.{hostStepsCounted, hostStepsOf, isRefusal, numberReturned, startArrays}
 use Rattle.host.specs.Statement.{arraysOf, runOfHost}
-use Rattle.host.proofs.Calls.{as-own, asCall, call-matches, fitting, meant, refused-keeps}
+use Rattle.host.proofs.Calls.{accepted-fits, as-own, asCall, fitting, meant, mirrors, refused-keeps}
 
 -- ---- the calls
 
@@ -63,6 +64,11 @@ module _ (plan scripts : List ℕ) where
         long = rest .long;
       }
 
+  asks-same : (call : HostCall) → stepsAsked (asCall call) ≡ hostStepsAsked call
+  asks-same (hostStepCall arrays) = refl
+  asks-same (hostRunCall arrays limit) = refl
+  asks-same (hostLogCall arrays domain) = refl
+
   -- a call of the host's, refused or on the list's own arrays, and the calls after it
   module _ (call : HostCall) (held : Arrays) (long : length (held .state) ≡ stateLength) where
     abbrev next : Arrays
@@ -71,28 +77,51 @@ module _ (plan scripts : List ℕ) where
     abbrev refusal : Bool
     refusal = isRefusal (numberReturned plan scripts call held)
 
-    next-long : (refused : Bool) → refusal ≡ refused → (refusal ≡ true) ⊎ AllOwnArrays call → length (next .state) ≡ stateLength
-    next-long true test proper = ap (λ (a : Arrays). length (a .state)) (refused-keeps plan scripts call held test) ∙ long
-    next-long false test (inl refused) = absurd (false≢true (sym test ∙ refused))
-    next-long false test (inr owned) = call-matches plan scripts held long call owned test .long
+    counts :
+        AllOwnArrays call
+        → refusal ≡ false
+        → stepsCounted (planOf plan) scripts (asCall call) (meant held) ≡ hostStepsAsked call
+    unfolding stepsCounted
+    counts owned accepted =
+        let fit = accepted-fits plan scripts held call owned accepted in
+        let number = mirrors plan scripts held call owned .returns fit in
+        ap (λ (refused : Bool). cond refused 0 (stepsAsked (asCall call))) (sym (ap isRefusal number) ∙ accepted)
+        ∙ asks-same call
 
-    one-more : (refused : Bool) → refusal ≡ refused → (refusal ≡ true) ⊎ AllOwnArrays call
+    next-long :
+        (refused : Bool)
+        → refusal ≡ refused
+        → (refusal ≡ true) ⊎ AllOwnArrays call
+        → length (next .state) ≡ stateLength
+    next-long true test proper =
+        ap (λ (arrays : Arrays). length (arrays .state)) (refused-keeps plan scripts call held test) ∙ long
+    next-long false test (inl refused) = absurd (false≢true (sym test ∙ refused))
+    next-long false test (inr owned) =
+        mirrors plan scripts held call owned .long (accepted-fits plan scripts held call owned test)
+
+    one-more :
+        (refused : Bool)
+        → refusal ≡ refused
+        → (refusal ≡ true) ⊎ AllOwnArrays call
         → (calls : List Call) (count : ℕ) (after : Arrays)
         → Followed calls (meant next) count after
-        → Followed (cond refused calls (asCall call ∷ calls)) (meant held) (cond refused 0 (hostStepsAsked call) + count) after
+        → Followed (cond refused calls (asCall call ∷ calls)) (meant held)
+        (cond refused 0 (hostStepsAsked call) + count) after
     one-more true test proper calls count after rest =
         rw (zero-add count)
-        (subst (λ (world : World). Followed calls world count after) (ap meant (refused-keeps plan scripts call held test)) rest)
+        (subst (λ (w : World). Followed calls w count after)
+        (ap meant (refused-keeps plan scripts call held test)) rest)
     one-more false test (inl refused) calls count after rest = absurd (false≢true (sym test ∙ refused))
     one-more false test (inr owned) calls count after rest =
-        let matches = call-matches plan scripts held long call owned test in
-        more (asCall call) calls (meant held) count (hostStepsAsked call) after (as-own call) (matches .counted)
-        (subst (λ (world : World). Followed calls world count after) (matches .world) rest)
+        let world = mirrors plan scripts held call owned .world (accepted-fits plan scripts held call owned test) in
+        more (asCall call) calls (meant held) count (hostStepsAsked call) after (as-own call) (counts owned test)
+        (subst (λ (w : World). Followed calls w count after) world rest)
 
   pub followed : (calls : List HostCall) (held : Arrays)
       → length (held .state) ≡ stateLength
       → ProperCalls plan scripts calls held
-      → Followed (asCalls calls held) (meant held) (hostStepsOf plan scripts calls held) (afterHostCalls plan scripts calls held)
+      → Followed (asCalls calls held) (meant held) (hostStepsOf plan scripts calls held)
+      (afterHostCalls plan scripts calls held)
   unfolding ProperCalls hostStepsOf hostStepsCounted afterHostCalls asCalls
   followed [] held long proper = none held long
   followed (call ∷ calls) held long proper =
@@ -122,11 +151,14 @@ module _ (list : HostList) (is : IsHostList list) where
   fresh = freshStartOf (planOf (list .plan)) (stateOf (list .oldState)) (list .oldCache) (list .oldBoxes)
 
   -- the fresh start was handed arrays of the right lengths, and is the engine's
-  start-fits : (allFit (list .plan) (list .oldState) (list .startAnswer) ≡ true) × (freshReturn list ≡ freshDone fresh (list .startAnswer))
+  start-fits :
+      (allFit (list .plan) (list .oldState) (list .startAnswer) ≡ true)
+      × (freshReturn list ≡ freshDone fresh (list .startAnswer))
   unfolding hostFreshStart
   start-fits =
+      let answer = answerOf wrongLength 0 0 (list .startAnswer) in
       fitting (λ (call : FreshCall). call .number) (allFit (list .plan) (list .oldState) (list .startAnswer))
-      (hostFreshWith (verdictNumber wrongLength) (list .oldState) (list .oldCache) (list .oldBoxes) (answerOf wrongLength 0 0 (list .startAnswer)))
+      (hostFreshWith (verdictNumber wrongLength) (list .oldState) (list .oldCache) (list .oldBoxes) answer)
       (freshDone fresh (list .startAnswer)) refl (ap isRefusal (is .started))
 
   pub plan-long : length (list .plan) ≡ planLength
@@ -134,12 +166,14 @@ module _ (list : HostList) (is : IsHostList list) where
 
   started : isRefused (fresh .verdict) ≡ false
   unfolding freshDone
-  started = sym (ap (λ (call : FreshCall). isRefusal (call .number)) (start-fits .1)) ∙ ap isRefusal (is .started)
+  started = ap isRefusal (sym (ap (λ (call : FreshCall). call .number) (start-fits .1)) ∙ is .started)
 
   start-is : startArrays list ≡ arraysOf (startWorld (engineList list))
   unfolding startArrays startWorld freshDone
   start-is =
-      ap (λ (call : FreshCall). record { state = call .state; cache = call .cache; boxes = call .boxes; log = list .log }) (start-fits .1)
+      ap
+      (λ (call : FreshCall). record { state = call .state; cache = call .cache; boxes = call .boxes; log = list .log })
+      (start-fits .1)
 
   start-meant : meant (startArrays list) ≡ startWorld (engineList list)
   unfolding startWorld
@@ -151,12 +185,13 @@ module _ (list : HostList) (is : IsHostList list) where
   unfolding stateNumbers numbersFrom
   start-long = ap (λ (a : Arrays). length (a .state)) start-is
 
-  all-followed :
-      Followed (list .plan) (list .scripts) (engineList list .calls) (startWorld (engineList list)) (hostPointOf list) (arraysLeft list)
+  abbrev FollowedFrom : World → Type 0
+  FollowedFrom world =
+      Followed (list .plan) (list .scripts) (engineList list .calls) world (hostPointOf list) (arraysLeft list)
+
+  all-followed : FollowedFrom (startWorld (engineList list))
   all-followed =
-      subst
-      (λ (world : World). Followed (list .plan) (list .scripts) (engineList list .calls) world (hostPointOf list) (arraysLeft list))
-      start-meant
+      subst FollowedFrom start-meant
       (followed (list .plan) (list .scripts) (list .calls) (startArrays list) start-long (is .proper))
 
   pub engine-is : IsList (engineList list)
@@ -179,4 +214,5 @@ module _ (list : HostList) (is : IsHostList list) where
       let held = arraysLeft list in
       let kept = sym (state-kept (held .state) state-long) in
       (λ i. record { state = kept i; cache = held .cache; boxes = held .boxes; log = held .log })
-      ∙ ap arraysOf (sym engine-leaves ∙ leaves (engineList list) engine-is ∙ ap (worldAfter (runOfHost list)) engine-point)
+      ∙ ap arraysOf
+      (sym engine-leaves ∙ leaves (engineList list) engine-is ∙ ap (worldAfter (runOfHost list)) engine-point)

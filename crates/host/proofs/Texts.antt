@@ -1,6 +1,6 @@
--- A list from a text: the plan that `pirkvezo_read_plan` wrote is valid, so the fresh start is not refused; and it stands for the
--- plan that was read. Assumes nothing.
-use mathlib.Core.Bool.{Bool, true, false, false≢true}
+-- A list from a text: the plan array that `pirkvezo_read_plan` wrote stands for the plan that was read, which is valid,
+-- so that the fresh start is not refused. Assumes nothing.
+use mathlib.Core.Bool.{true, false, false≢true}
 use mathlib.Core.Path.{_≡_, refl, sym, ap, _∙_}
 use borrow.Author.Tests.{eq-eqb}
 use lib.ListN.{length}
@@ -18,12 +18,11 @@ use Rattle.isolation.proofs.OneRun.Verdicts.{refused-number}
 use Rattle.pirkvezo.specs.Answers.{allFit, answerOf, planFits, verdictNumber, wrongLength}
 use Rattle.pirkvezo.specs.Numbers.{numbersFrom, planLength, planNumbers, planOf, stateOf}
 use Rattle.pirkvezo.specs.Reading.{ReadCall, hostRead, readDone, readWith}
-use Rattle.pirkvezo.specs.Starting.{FreshCall, freshDone, hostFreshStart, hostFreshWith}
+use Rattle.pirkvezo.specs.Starting.{freshDone, hostFreshStart}
 use Rattle.pirkvezo.proofs.ReadBack.{read-back}
 use Rattle.host.specs.Calls.{HostList, IsHostList, IsTextList, ReadArrays, freshReturn, isRefusal, readReturn}
 use Rattle.host.specs.Statement.{runOfHost}
-use Rattle.host.proofs.Calls.{byLengths, fitting}
-use Rattle.host.proofs.Shown.{all-fit}
+use Rattle.host.proofs.Calls.{all-fit, fitting}
 
 not-refused : (verdict : Verdict) → isRefused verdict ≡ false → verdict ≡ Accepted
 not-refused Accepted accepted = refl
@@ -36,13 +35,15 @@ module _ (arrays : ReadArrays) (list : HostList) (is : IsTextList arrays list) w
   read-is : readReturn arrays ≡ readDone reading (arrays .answer)
   unfolding hostRead
   read-is =
+      let answer = answerOf wrongLength 0 0 (arrays .answer) in
       fitting (λ (call : ReadCall). call .number) (planFits (arrays .plan) (arrays .answer))
-      (readWith (verdictNumber wrongLength) (arrays .scripts) (arrays .plan) (answerOf wrongLength 0 0 (arrays .answer)))
+      (readWith (verdictNumber wrongLength) (arrays .scripts) (arrays .plan) answer)
       (readDone reading (arrays .answer)) refl (ap isRefusal (is .read)) .1
 
   accepted : reading .verdict ≡ Accepted
   unfolding readDone
-  accepted = not-refused (reading .verdict) (sym (ap (λ (call : ReadCall). isRefusal (call .number)) read-is) ∙ ap isRefusal (is .read))
+  accepted =
+      not-refused (reading .verdict) (ap isRefusal (sym (ap (λ (call : ReadCall). call .number) read-is) ∙ is .read))
 
   plan-is : list .plan ≡ planNumbers (reading .plan)
   unfolding readDone
@@ -69,15 +70,13 @@ module _ (arrays : ReadArrays) (list : HostList) (is : IsTextList arrays list) w
   fresh-fits : allFit (list .plan) (list .oldState) (list .startAnswer) ≡ true
   fresh-fits = all-fit (list .plan) (list .oldState) (list .startAnswer) plan-long (is .state-fits) (is .answer-fits)
 
-  abbrev startedBy : Bool → Verdict → FreshCall
-  startedBy fits verdict =
-      byLengths fits
-      (hostFreshWith (verdictNumber wrongLength) (list .oldState) (list .oldCache) (list .oldBoxes) (answerOf wrongLength 0 0 (list .startAnswer)))
-      (freshDone (freshFrom verdict (stateOf (list .oldState)) (list .oldCache) (list .oldBoxes)) (list .startAnswer))
-
   started : freshReturn list .number ≡ 0
   unfolding hostFreshStart freshStartOf freshDone
-  started = λ i. startedBy (fresh-fits i) (fresh-accepted i) .number
+  started =
+      rw (fresh-fits, hostFreshStart)
+      (ap
+      (λ v. verdictNumber (freshFrom v (stateOf (list .oldState)) (list .oldCache) (list .oldBoxes) .verdict))
+      fresh-accepted)
 
   pub text-list : IsHostList list
   text-list = record { started = started; proper = is .proper }

@@ -1,6 +1,6 @@
--- Document 01, "Two lists of calls", of the library's C functions: what a host's calls were handed, array
--- by array, and what they return and leave, read off the definitions that the C functions' contracts cite.
--- Assumes nothing.
+-- Document 01, "Two lists of calls", of the library's C functions: what a host's calls were handed,
+-- array by array, and what they return and leave, read off the definitions that the C functions'
+-- contracts cite. Assumes nothing.
 use Prim.Native.Nat.{ℕ, _+_}
 use mathlib.Core.Bool.{Bool, true, cond, not}
 use mathlib.Core.List.{List, [], _∷_}
@@ -25,8 +25,8 @@ pub record Arrays : Type 0 where
   pub boxes : List ℕ
   pub log : List ℕ
 
--- what a step or a run was handed, array by array: the list's own, or another of any content and length.
--- Its answer array is no part of a list and may be any.
+-- what a step or a run was handed, array by array: the list's own, or another of any content and
+-- length. Its answer array is no part of a list and may be any.
 pub record RunArrays : Type 0 where
   pub plan : Handed (List ℕ)
   pub scripts : Handed (List ℕ)
@@ -43,8 +43,8 @@ pub record LogArrays : Type 0 where
   pub log : Handed (List ℕ)
   pub answer : List ℕ
 
--- the calls that may follow a fresh start: `pirkvezo_step`; `pirkvezo_run`, with its limit; `pirkvezo_log`,
--- with a domain's number
+-- the calls that may follow a fresh start: `pirkvezo_step`; `pirkvezo_run`, with its limit;
+-- `pirkvezo_log`, with a domain's number
 pub data HostCall : Type 0 where
   hostStepCall : RunArrays → HostCall
   hostRunCall : RunArrays → ℕ → HostCall
@@ -127,7 +127,8 @@ module _ (plan scripts : List ℕ) where
   -- the list's own arrays after a call; a log query writes to its answer alone
   unfoldable pub afterHostCall : HostCall → Arrays → Arrays
   afterHostCall (hostStepCall arrays) held = leftArrays arrays held (stepReturn arrays held)
-  afterHostCall (hostRunCall arrays limit) held = leftArrays arrays held (runReturn arrays limit held)
+  afterHostCall (hostRunCall arrays limit) held =
+      leftArrays arrays held (runReturn arrays limit held)
   afterHostCall (hostLogCall arrays domain) held = held
 
   -- the steps that a call adds to its list's run: those it asks for, and none where it is refused
@@ -144,16 +145,16 @@ module _ (plan scripts : List ℕ) where
   hostStepsOf (call ∷ calls) held =
       hostStepsCounted call held + hostStepsOf calls (afterHostCall call held)
 
-  -- every call was refused, and then whatever it was handed will do, or it was handed the list's own
-  -- arrays, as the calls before it left them
+  -- every call was refused, and then whatever it was handed will do, or it was handed the list's
+  -- own arrays, as the calls before it left them
   unfoldable pub ProperCalls : List HostCall → Arrays → Type 0
   ProperCalls [] held = Unit {0}
   ProperCalls (call ∷ calls) held =
       ((isRefusal (numberReturned call held) ≡ true) ⊎ AllOwnArrays call)
       × ProperCalls calls (afterHostCall call held)
 
--- a list: the plan array, the script store and the log; what the fresh start was handed besides; and the
--- calls after it
+-- a list: the plan array, the script store and the log; what the fresh start was handed besides;
+-- and the calls after it
 pub record HostList : Type 0 where
   pub plan : List ℕ
   pub scripts : List ℕ
@@ -167,10 +168,11 @@ pub record HostList : Type 0 where
 -- what `pirkvezo_fresh_start` returned and left
 abbrev pub freshReturn : HostList → FreshCall
 freshReturn list =
-    hostFreshStart (list .plan) (list .oldState) (list .oldCache) (list .oldBoxes) (list .startAnswer)
+    hostFreshStart (list .plan) (list .oldState) (list .oldCache) (list .oldBoxes)
+    (list .startAnswer)
 
--- the arrays from which the calls of a list start: what the fresh start left, and the log, which it does
--- not take
+-- the arrays from which the calls of a list start: what the fresh start left, and the log, which it
+-- does not take
 unfoldable pub startArrays : HostList → Arrays
 startArrays list =
     let fresh = freshReturn list in
@@ -200,8 +202,8 @@ pub record ReadArrays : Type 0 where
 abbrev pub readReturn : ReadArrays → ReadCall
 readReturn arrays = hostRead (arrays .text) (arrays .scripts) (arrays .plan) (arrays .answer)
 
--- a list from a text: `pirkvezo_read_plan` returned 0 for it and wrote plan array and script store, and the
--- fresh start was handed arrays of the right lengths, of any content
+-- a list from a text: `pirkvezo_read_plan` returned 0 for it and wrote the list's plan array and
+-- script store, and the fresh start was handed arrays of the right lengths, of any content
 pub record IsTextList (arrays : ReadArrays) (list : HostList) : Type 0 where
   pub read : readReturn arrays .number ≡ 0
   pub plan-written : list .plan ≡ readReturn arrays .plan

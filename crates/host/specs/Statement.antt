@@ -1,7 +1,7 @@
--- Document 01, "Two lists of calls": demand 3 of the library's C functions. (A) Windows start when the plan
--- alone says. (B) Where two lists of a host's calls end at corresponding points, a domain sees the same in
--- the arrays, whatever its rivals' scripts hold, if each of its windows began with the same in the boxes
--- addressed to it. Assumes nothing.
+-- Document 01, "Two lists of calls": demand 3 of the library's C functions. (A) Windows start when
+-- the plan alone says. (B) Where two lists of a host's calls end at corresponding points, a domain
+-- sees the same in the arrays, whatever its rivals' scripts hold, if each of its windows began with
+-- the same in the boxes addressed to it. Assumes nothing.
 use Prim.Native.Nat.{ℕ, _+_, _<_, _≤_}
 use mathlib.Core.Bool.{true}
 use mathlib.Core.List.{List}
@@ -37,7 +37,8 @@ arraysOf world =
     }
 
 -- what a call on the list's own arrays must still bring, not to be refused: an answer array of four
--- numbers; a step and a run a script store of 2,048 numbers, a log query the number of a declared domain
+-- numbers; and a step or a run wants a script store of 2,048 numbers, a log query the number of a
+-- declared domain
 abbrev pub HostAdmissible : HostList → HostCall → Type 0
 HostAdmissible list (hostStepCall arrays) =
     (length (arrays .answer) ≡ answerLength) × (length (list .scripts) ≡ scriptsLength)
@@ -57,22 +58,26 @@ HostWindowsOnTime list =
 
 -- ---- (B): its premises
 
--- what two lists must have in common: the plan's numbers, the observer's script, the logs' length; they end
--- at corresponding points, and the boxes addressed to the observer were equal at the start of its windows
+-- what two lists must have in common: the plan's numbers, the observer's script, the logs' length;
+-- they end at corresponding points, and the boxes addressed to the observer were equal at the start
+-- of each of its windows so far
 pub record HostComparable (observer : ℕ) (one other : HostList) : Type 0 where
   pub plans : one .plan ≡ other .plan
   pub declared : observer < planOf (one .plan) .domains
   pub scripts : ScriptsAgree (Only observer) (one .scripts) (other .scripts)
   pub logs : length (one .log) ≡ length (other .log)
   pub points :
-      Correspond (Only observer) (runOfHost one) (hostPointOf one) (runOfHost other) (hostPointOf other)
+      Correspond (Only observer) (runOfHost one) (hostPointOf one) (runOfHost other)
+      (hostPointOf other)
   pub boxes :
-      BoxesAgree (Only observer) (runOfHost one) (hostPointOf one) (runOfHost other) (hostPointOf other)
+      BoxesAgree (Only observer) (runOfHost one) (hostPointOf one) (runOfHost other)
+      (hostPointOf other)
 
 -- ---- (B): its conclusion
 
--- what `pirkvezo_log` shows of a domain: the number that it returns, the answer that it leaves, and the
--- bytes of the log array at the offset and of the length that the answer's third and fourth number give
+-- what `pirkvezo_log` shows of a domain: the number that it returns, the answer that it leaves, and
+-- the bytes of the log array at the offset and of the length that are the answer's third and fourth
+-- number
 pub record LogShown : Type 0 where
   pub number : ℕ
   pub answer : List ℕ
@@ -98,11 +103,15 @@ shownAfter list domain answer =
 pub record HostSameSeen (observer : ℕ) (one other : HostList) : Type 0 where
   -- a query for its log, with any answer array of four numbers, returns 0 after both
   pub queried :
-      (answer : List ℕ) → length answer ≡ answerLength → shownAfter one observer answer .number ≡ 0
+      (answer : List ℕ)
+      → length answer ≡ answerLength
+      → shownAfter one observer answer .number ≡ 0
   pub queried′ :
-      (answer : List ℕ) → length answer ≡ answerLength → shownAfter other observer answer .number ≡ 0
-  -- it answers the same four numbers, and the bytes of the log array at that offset and of that length are
-  -- equal
+      (answer : List ℕ)
+      → length answer ≡ answerLength
+      → shownAfter other observer answer .number ≡ 0
+  -- it answers the same four numbers, and the bytes of the log array at that offset and of that
+  -- length are equal
   pub log :
       (answer answer′ : List ℕ)
       → length answer ≡ answerLength
@@ -110,7 +119,8 @@ pub record HostSameSeen (observer : ℕ) (one other : HostList) : Type 0 where
       → shownAfter one observer answer ≡ shownAfter other observer answer′
   -- its script position: number 2 + its own of the state array
   pub position :
-      getD (arraysLeft one .state) (2 + observer) 0 ≡ getD (arraysLeft other .state) (2 + observer) 0
+      getD (arraysLeft one .state) (2 + observer) 0
+      ≡ getD (arraysLeft other .state) (2 + observer) 0
   -- its part of the partitioned cache, entry by entry
   pub sets :
       SameSets (planOf (one .plan)) observer (arraysLeft one .cache) (arraysLeft other .cache)
@@ -120,7 +130,8 @@ pub record HostSameSeen (observer : ℕ) (one other : HostList) : Type 0 where
       (window : ℕ)
       → window < getD (arraysLeft one .state) 0 0
       → windowOwner (planOf (one .plan)) window ≡ observer
-      → opsOf (runOfHost one) window (hostPointOf one) ≡ opsOf (runOfHost other) window (hostPointOf other)
+      → opsOf (runOfHost one) window (hostPointOf one)
+      ≡ opsOf (runOfHost other) window (hostPointOf other)
   -- in its own window, the clocks: number 1 of the state array
   pub clock :
       InWindowOf (Only observer) (runOfHost one) (hostPointOf one)

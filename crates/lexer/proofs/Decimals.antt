@@ -11,6 +11,7 @@ use lib.ListN.{length, length-append}
 use borrow.Author.Tests.{le-leb, ltb-false, ltb-true}
 use Rattle.lexer.specs.Bytes.{isDigit}
 use Rattle.lexer.specs.Decimal.{decimalOf, digitsOf}
+use Rattle.lexer.specs.Limits.{mostDigits, widestDigits}
 use Rattle.lexer.specs.Scan.{allBytes}
 use Rattle.lexer.specs.Tokens.{valueAfter, decimalValue}
 use Rattle.lexer.proofs.Scanned.{all-append}
@@ -87,21 +88,21 @@ digits-value (suc places) number small =
 
 pub decimal-all : (number : ℕ) → allBytes isDigit (decimalOf number) ≡ true
 unfolding decimalOf
-decimal-all number = digits-all 20 number
+decimal-all number = digits-all widestDigits number
 
 pub decimal-some : (number : ℕ) → 0 < length (decimalOf number)
 unfolding decimalOf
 decimal-some number = digits-some 19 number
 
-pub decimal-most : (number : ℕ) → length (decimalOf number) ≤ 20
+pub decimal-most : (number : ℕ) → length (decimalOf number) ≤ widestDigits
 unfolding decimalOf
-decimal-most number = digits-most 20 number
+decimal-most number = digits-most widestDigits number
 
 -- a number of at most ten digits
-pub decimal-few : (number : ℕ) → number < 10_000_000_000 → length (decimalOf number) ≤ 10
+pub decimal-few : (number : ℕ) → number < 10_000_000_000 → length (decimalOf number) ≤ mostDigits
 unfolding decimalOf
-decimal-few number small = digits-few 20 9 number small
+decimal-few number small = digits-few widestDigits 9 number small
 
 pub decimal-value : (number : ℕ) → number < 10_000_000_000 → decimalValue (decimalOf number) ≡ number
 unfolding decimalOf
-decimal-value number small = digits-value 20 number (omega arith)
+decimal-value number small = digits-value widestDigits number (omega arith)

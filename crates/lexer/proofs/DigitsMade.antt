@@ -26,20 +26,20 @@ more-digits : (places number : ℕ) → 9 < number → digitsOf (suc places) num
 unfolding digitsOf
 more-digits places number large = ap (byTest places number) (le-ltb number 10 large)
 
--- a list from a place on, after a store there
+-- a list from an index on, after a store there
 from-store :
-    (digits : List ℕ) (place digit : ℕ)
-    → place < length digits
-    → drop place (set digits place digit) ≡ digit ∷ drop (suc place) digits
-from-store digits place digit within =
-    let inside : place < length (set digits place digit) = simp length-set within in
+    (digits : List ℕ) (index digit : ℕ)
+    → index < length digits
+    → drop index (set digits index digit) ≡ digit ∷ drop (suc index) digits
+from-store digits index digit within =
+    let inside : index < length (set digits index digit) = simp length-set within in
     rw (
-      drop-cons (set digits place digit) place 0 inside,
-      getD-set-same digits place digit 0 within,
-      drop-set-lt (suc place) digits place digit (omega arith),
+      drop-cons (set digits index digit) index 0 inside,
+      getD-set-same digits index digit 0 within,
+      drop-set-lt (suc index) digits index digit (omega arith),
     )
 
--- where a number of more than one digit fits so many places, its front fits one place fewer, and at least one is left
+-- where a number of more than one digit fits a number of digits, its front fits one digit fewer, and at least one is left
 pub front-fits : (places number : ℕ) → 9 < number → number < 10 ^ places → (number / 10 < 10 ^ (places - 1)) × (1 < places)
 front-fits zero number large fits = omega arith
 front-fits (suc zero) number large fits = omega arith

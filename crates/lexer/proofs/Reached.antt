@@ -12,7 +12,8 @@ use Rattle.lexer.specs.declared.Token.{Token}
 use Rattle.lexer.specs.declared.Token.the-variants.{LineEnd, Open, Close, Word, Number, LongNumber, Other}
 use Rattle.lexer.specs.Bytes.{endsRun, isClose, isDigit, isLetter, isLineFeed, isNoSpace, isOpen}
 use Rattle.lexer.specs.Scan.{allBytes}
-use Rattle.lexer.specs.Tokens.{digitsToken, tokenEnd, longestRun, runToken, tokenAt, tokenFrom, decimalValue}
+use Rattle.lexer.specs.Limits.{mostDigits}
+use Rattle.lexer.specs.Tokens.{decimalValue, digitsToken, lineEndKind, longestRun, runToken, tokenAt, tokenEnd, tokenFrom, tokenKind, tokenStart}
 use Rattle.lexer.proofs.Scanning.{scan-end, scan-least, scan-most}
 
 -- what holds of both choices holds of the one that a test makes
@@ -22,9 +23,9 @@ cond-holds P false a b f g = g refl
 
 -- a bracket or a run lies in the text; a line's end does if the offset does
 abbrev pub Reached : List ℕ → ℕ → Token → Type 0
-Reached text at (LineEnd place) = (at ≤ place) × (at ≤ length text → place ≤ length text)
-Reached text at (Open place) = (at ≤ place) × (place < length text)
-Reached text at (Close place) = (at ≤ place) × (place < length text)
+Reached text at (LineEnd offset) = (at ≤ offset) × (at ≤ length text → offset ≤ length text)
+Reached text at (Open offset) = (at ≤ offset) × (offset < length text)
+Reached text at (Close offset) = (at ≤ offset) × (offset < length text)
 Reached text at (Word start end) = (at ≤ start) × (start ≤ end) × (end ≤ length text)
 Reached text at (Number start end value) = (at ≤ start) × (start < end) × (end ≤ length text)
 Reached text at (LongNumber start end) = (at ≤ start) × (start < end) × (end ≤ length text)
@@ -45,7 +46,7 @@ run-length text start end e =
 digits-reached : (text run : List ℕ) (at start end : ℕ) → at ≤ start → start < end → end ≤ length text → Reached text at (digitsToken run start end)
 unfolding digitsToken
 digits-reached text run at start end a s e =
-    cond-holds (Reached text at) (leb (length run) 10) (Number start end (decimalValue run)) (LongNumber start end) (λ _. (a, s, e)) (λ _. (a, s, e))
+    cond-holds (Reached text at) (leb (length run) mostDigits) (Number start end (decimalValue run)) (LongNumber start end) (λ _. (a, s, e)) (λ _. (a, s, e))
 
 run-reached : (text : List ℕ) (at start end : ℕ) → at ≤ start → start ≤ end → end ≤ length text
     → Reached text at (runToken (part start (end - start) text) start end)
@@ -84,31 +85,37 @@ reached text at next known = subst (Reached text at) (sym next ∙ known) (token
 -- a word's bytes
 pub word-within : (text : List ℕ) (at : ℕ) {token : Token} {start end : ℕ} → token ≡ tokenAt text at → token ≡ Word start end
     → (start ≤ end) × (end ≤ length text)
-word-within text at next known = let place = reached text at next known in (place .1, place .2)
+word-within text at next known = let offset = reached text at next known in (offset .1, offset .2)
 
 -- past the text's end the next token is a line's end
 pub token-past : (text : List ℕ) (at : ℕ) → length text ≤ at → tokenAt text at ≡ LineEnd at
 unfolding tokenAt tokenFrom
 token-past text at past = rw (scan-end isNoSpace text at past, le-ltb at (length text) past)
 
--- a token that is reached from within the text ends within it
-end-inside : (text : List ℕ) (at : ℕ) → at ≤ length text → (token : Token) → Reached text at token → tokenEnd token ≤ length text
-end-inside text at within (LineEnd place) h = h .1 within
-end-inside text at within (Open place) h = omega (arith, h .1)
-end-inside text at within (Close place) h = omega (arith, h .1)
-end-inside text at within (Word start end) h = h .2
-end-inside text at within (Number start end value) h = h .2
-end-inside text at within (LongNumber start end) h = h .2
-end-inside text at within (Other start end) h = h .2
+-- the same by a token's offsets: they rise from the offset that it is read from, and all but a line's end lies in the text
+pub record Bounds (text : List ℕ) (at : ℕ) (token : Token) : Type 0 where
+  pub least : at ≤ tokenStart token
+  pub order : tokenStart token ≤ tokenEnd token
+  pub inside : (tokenKind token ≡ lineEndKind → at ≤ length text) → tokenEnd token ≤ length text
+
+bounds : (text : List ℕ) (at : ℕ) (token : Token) → Reached text at token → Bounds text at token
+bounds text at (LineEnd offset) h = record { least = h .0; order = omega arith; inside = λ within. h .1 (within refl) }
+bounds text at (Open offset) h = record { least = h .0; order = omega arith; inside = λ _. omega arith }
+bounds text at (Close offset) h = record { least = h .0; order = omega arith; inside = λ _. omega arith }
+bounds text at (Word start end) h = record { least = h .0; order = h .1; inside = λ _. h .2 }
+bounds text at (Number start end value) h = record { least = h .0; order = omega arith; inside = λ _. h .2 }
+bounds text at (LongNumber start end) h = record { least = h .0; order = omega arith; inside = λ _. h .2 }
+bounds text at (Other start end) h = record { least = h .0; order = omega arith; inside = λ _. h .2 }
+
+pub token-bounds : (text : List ℕ) (at : ℕ) → Bounds text at (tokenAt text at)
+token-bounds text at = bounds text at (tokenAt text at) (token-reached text at)
 
 -- what bounds the text's length and the offset bounds the token's end: the reader that moves there holds a number that fits
 pub end-bounded : (text : List ℕ) (at limit : ℕ) → length text < limit → at < limit → tokenEnd (tokenAt text at) < limit
 end-bounded text at limit long far = by-test (leb at (length text)) refl
   where
     by-test : (test : Bool) → leb at (length text) ≡ test → tokenEnd (tokenAt text at) < limit
-    by-test true t =
-        let inside = end-inside text at (leb-true at (length text) t) (tokenAt text at) (token-reached text at) in
-        omega (arith, inside, long)
+    by-test true t = omega (arith, token-bounds text at .inside (λ _. leb-true at (length text) t), long)
     by-test false t =
         let past = leb-false at (length text) t in
         subst (λ token. tokenEnd token < limit) (sym (token-past text at (omega (arith, past)))) far

@@ -3,13 +3,14 @@
 use Prim.Native.Nat.{ℕ, _+_, _-_, _≤_, _<_}
 use native.Mathlib.Nat.{add-zero, not-suc-le-zero}
 use native.Mathlib.Omega.{arith}
-use mathlib.Core.Bool.{Bool, true, false, cond, not, _||_, and-eq-true-iff, true≢false}
+use mathlib.Core.Bool.{Bool, true, false, cond, not, _||_, and-eq-true-iff}
 use mathlib.Core.List.{List, [], _∷_, _++_}
 use mathlib.Core.Path.{_≡_, refl, sym, ap, _∙_}
 use lib.ListN.{drop, getD, length, length-drop}
 use lib.Seq.{drop-append-seam, drop-drop, getD-drop, take-append-seam}
 use borrow.Author.Tests.{le-ltb, lt-ltb, ne-eqb, not-true}
 use Rattle.lists.specs.Part.{part}
+use Rattle.lists.proofs.Tests.{neither}
 use Rattle.lexer.specs.declared.Token.the-variants.{LineEnd, Open, Close}
 use Rattle.lexer.specs.Bytes.{endsRun, isClose, isLineFeed, isNoSpace, isOpen, isSpace}
 use Rattle.lexer.specs.Scan.{allBytes, scanFrom, scanOf}
@@ -98,10 +99,6 @@ end-token text at left =
 -- a byte that may stand in a run
 abbrev pub inRun : ℕ → Bool
 inRun byte = not (endsRun byte)
-
-neither : (a b : Bool) → (a || b) ≡ false → (a ≡ false) × (b ≡ false)
-neither true b e = absurd (true≢false e)
-neither false b e = (refl, e)
 
 -- the longest run from an offset is what is left up to the byte that ends it
 longest :

@@ -55,7 +55,7 @@ module _ (stops : ℕ → Bool) where
 
 -- ---- every byte passes a test
 
--- every byte of a run from a place on
+-- every byte of a run from an offset on
 unfoldable pub allFrom : (ℕ → Bool) → List ℕ → ℕ → Bool
 allFrom test run i = allBytes test (drop i run)
 
@@ -72,7 +72,7 @@ module _ (test : ℕ → Bool) where
   unfolding allFrom allBytes
   all-end run i h = rw (drop-of-length-le run h)
 
-  -- so the byte at each place passes it
+  -- so the byte at each offset passes it
   pub all-at : (run : List ℕ) (i : ℕ) → allBytes test run ≡ true → i < length run → test (getD run i 0) ≡ true
   unfolding allBytes
   all-at [] i e h = absurd (omega arith)

@@ -13,7 +13,7 @@ use borrow.Author.Tests.{leb-true}
 use Rattle.lexer.specs.Bytes.{isDigit}
 use Rattle.lexer.specs.Tokens.{valueAfter}
 
--- the number that the digits from a place on write, after one that stands before them
+-- the number that the digits from an offset on write, after one that stands before them
 unfoldable pub valueFrom : ℕ → List ℕ → ℕ → ℕ
 valueFrom value digits i = valueAfter value (drop i digits)
 

@@ -1,18 +1,21 @@
--- Document 01, "Settled numbers": the numbers of the printed lines, as decimal digits with no leading zero. Assumes nothing.
+-- Document 01, "Settled numbers": the numbers of the printed lines, as decimal digits with no
+-- leading zero. Assumes nothing.
 use Prim.Native.Nat.{ℕ, zero, suc, _+_, _/_, _%_}
 use mathlib.Core.Bool.{true, false}
 use mathlib.Core.List.{List, [], _∷_, _++_}
 use lib.Dec.{ltb}
+use Rattle.lexer.specs.Bytes.{zeroDigit}
+use Rattle.lexer.specs.Limits.{widestDigits}
 
--- the last digits of a number, at most `places` of them
+-- the last digits of a number, at most `count` of them
 unfoldable pub digitsOf : ℕ → ℕ → List ℕ
 digitsOf zero number = []
-digitsOf (suc places) number =
+digitsOf (suc count) number =
     elim (ltb number 10) [
-      | true ↦ (48 + number) ∷ []
-      | false ↦ digitsOf places (number / 10) ++ ((48 + number % 10) ∷ [])
+      | true ↦ (zeroDigit + number) ∷ []
+      | false ↦ digitsOf count (number / 10) ++ ((zeroDigit + number % 10) ∷ [])
     ]
 
--- 20 places hold every number of 64 bits
+-- enough digits for every number of 64 bits
 unfoldable pub decimalOf : ℕ → List ℕ
-decimalOf number = digitsOf 20 number
+decimalOf number = digitsOf widestDigits number

@@ -1,3 +1,4 @@
+pub mod Limits
 pub mod Bytes
 pub mod Scan
 pub mod Tokens

@@ -6,19 +6,19 @@ ghost use Rattle.lexer.specs.Bytes.{endsRun, isDigit, isLetter};
 pub fn is_letter(byte: u8) -> bool
     ensures { λ r. ⌜ r ≡ isLetter byte ⌝ }
 {
-    (97 <= byte) & (byte <= 122)
+    (b'a' <= byte) & (byte <= b'z')
 }
 
 // A number is of 0 to 9.
 pub fn is_digit(byte: u8) -> bool
     ensures { λ r. ⌜ r ≡ isDigit byte ⌝ }
 {
-    (48 <= byte) & (byte <= 57)
+    (b'0' <= byte) & (byte <= b'9')
 }
 
 // A bracket, a space or LF ends a run.
 pub fn ends_run(byte: u8) -> bool
     ensures { λ r. ⌜ r ≡ endsRun byte ⌝ }
 {
-    (byte == 32) | (byte == 10) | (byte == 40) | (byte == 41)
+    (byte == b' ') | (byte == b'\n') | (byte == b'(') | (byte == b')')
 }

@@ -1,9 +1,12 @@
-// Words and decimal numbers, written into a lent buffer from a place on. What lies past the buffer's end is left out.
+// Words and decimal numbers, written into a lent buffer from an offset on. What lies past the
+// buffer's end is left out.
+use crate::limits::WIDEST_DIGITS;
 ghost use mathlib.Core.Path.{_≡_};
 ghost use Prim.Native.Nat.{_+_, _^_, _<_};
 ghost use lib.ListN.{length, set};
 ghost use lib.Seq.{sets};
 ghost use Rattle.lexer.specs.Decimal.{decimalOf};
+ghost use Rattle.lexer.specs.Limits.{widestDigits};
 
 // Stores one byte.
 fn store(out: &mut [u8], at: usize, byte: u8)
@@ -31,14 +34,14 @@ pub fn write_bytes(out: &mut [u8], at: usize, bytes: &[u8]) -> usize
 
 // Writes a number in decimal, with no leading zero.
 pub fn write_decimal(out: &mut [u8], at: usize, number: u64) -> usize
-    requires { ⌜ at + 20 < 2 ^ 64 ⌝ }
+    requires { ⌜ at + widestDigits < 2 ^ 64 ⌝ }
     ensures { λ r.
         ⌜ (r ≡ at + length (decimalOf number))
         × (now (out .exit) ≡ sets (now (out .entry)) at (decimalOf number)) ⌝ }
 {
-    let mut digits = [b'0'; 20];
+    let mut digits = [b'0'; WIDEST_DIGITS];
     let mut left = number;
-    let mut first: usize = 20;
+    let mut first: usize = WIDEST_DIGITS;
     while 9 < left {
         first -= 1;
         digits[first] = b'0' + (left % 10) as u8;

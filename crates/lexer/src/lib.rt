@@ -1,6 +1,8 @@
-// The tokens of a plan text, a byte slice read from an offset; and decimal numbers, written into one.
+// The lexer: the tokens of a plan text, a byte slice read from an offset; and decimal numbers,
+// written into one.
 mod bytes;
 pub mod decimal;
+mod limits;
 mod runs;
 mod scan;
 
@@ -10,7 +12,8 @@ ghost use mathlib.Core.Path.{_≡_};
 ghost use Prim.Native.Nat.{_^_, _<_};
 ghost use Rattle.lexer.specs.Tokens.{tokenEnd, tokenStart, tokenAt, tokenFrom};
 
-// What stands next in a line. `start` is the offset of the token's first byte and `end` the offset past its last.
+// What stands next in a line. `start` is the offset of the token's first byte and `end` the offset
+// past its last.
 pub enum Token {
     // no token is left in the line; the offset of its LF, or the text's length
     LineEnd(usize),
@@ -45,13 +48,13 @@ fn token_from(text: &[u8], start: usize) -> Token
 {
     if start < text.len() {
         let byte = text[start];
-        if byte == 10 {
+        if byte == b'\n' {
             return Token::LineEnd(start);
         }
-        if byte == 40 {
+        if byte == b'(' {
             return Token::Open(start);
         }
-        if byte == 41 {
+        if byte == b')' {
             return Token::Close(start);
         }
         return longest_run(text, start);

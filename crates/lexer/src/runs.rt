@@ -1,5 +1,6 @@
 // A longest run of bytes as a token: a word, a number or neither.
 use crate::Token;
+use crate::limits::MOST_DIGITS;
 use crate::scan::all_digits;
 use crate::scan::all_letters;
 use crate::scan::run_end;
@@ -8,18 +9,19 @@ ghost use mathlib.Core.Path.{_≡_};
 ghost use Prim.Native.Nat.{_≤_};
 ghost use lib.ListN.{length};
 ghost use Rattle.lexer.specs.Bytes.{isDigit};
+ghost use Rattle.lexer.specs.Limits.{mostDigits};
 ghost use Rattle.lexer.specs.Scan.{allBytes};
 ghost use Rattle.lexer.specs.Tokens.{digitsToken, longestRun, runToken, decimalValue};
 
-// The number that at most ten digits write.
+// The number that a run of digits writes.
 fn decimal_value(digits: &[u8]) -> u64
-    requires { ⌜ (length (now digits) ≤ 10) × (allBytes isDigit (now digits) ≡ true) ⌝ }
+    requires { ⌜ (length (now digits) ≤ mostDigits) × (allBytes isDigit (now digits) ≡ true) ⌝ }
     ensures { λ r. ⌜ r ≡ decimalValue (now (digits .entry)) ⌝ }
 {
     let mut value: u64 = 0;
     let mut i: usize = 0;
     while i < digits.len() {
-        value = value * 10 + (digits[i] - 48) as u64;
+        value = value * 10 + (digits[i] - b'0') as u64;
         i += 1;
     }
     value
@@ -30,7 +32,7 @@ fn digits_token(run: &[u8], start: usize, end: usize) -> Token
     requires { ⌜ allBytes isDigit (now run) ≡ true ⌝ }
     ensures { λ r. ⌜ r ≡ digitsToken (now (run .entry)) start end ⌝ }
 {
-    if run.len() <= 10 {
+    if run.len() <= MOST_DIGITS {
         Token::Number {
             start,
             end,

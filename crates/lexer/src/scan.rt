@@ -12,7 +12,7 @@ pub fn skip_spaces(text: &[u8], at: usize) -> usize
 {
     let mut here = at;
     while here < text.len() {
-        if text[here] != 32 {
+        if text[here] != b' ' {
             return here;
         }
         here += 1;

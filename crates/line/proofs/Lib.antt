@@ -1,3 +1,1 @@
-pub mod GoodKeyword
 pub mod GoodLine
-pub mod OtherKinds

@@ -1,84 +1,36 @@
-// One line of a plan text: the word that opens its form, what stands within its brackets, and its end; or the refusal and its place.
+// One line of a plan text: its opening bracket, the form that its word opens, its closing bracket
+// and its end; or the refusal with its offset.
+use forms::DomainParse;
 use forms::Form;
-use forms::FormBody;
-use forms::domains::domain_body;
-use forms::making::refused_body;
-use forms::op_lines::op_body;
-use forms::pad_and_run::pad_body;
-use forms::pad_and_run::run_body;
-use forms::windows::window_body;
+use forms::FormParse;
+use forms::domains::domain_form;
+use forms::op_lines::op_form;
+use forms::pad_and_run::pad_form;
+use forms::pad_and_run::run_form;
+use forms::windows::window_form;
 use lexer::Token;
 use lexer::token_at;
 use lexer::token_start;
 use refusal::Refusal;
+use syntax::KeywordParse;
 use syntax::TokenParse;
-use syntax::tokens::is_word;
+use syntax::keywords::keyword_at;
 use syntax::tokens::pass_close;
 use syntax::tokens::pass_line_end;
 ghost use mathlib.Core.Path.{_≡_};
-ghost use Rattle.line.specs.Keywords.{formKeywordAt, bodyOf};
-ghost use Rattle.line.specs.Lines.{closedLine, bodyLine, lineAt, refusedLine};
-
-// The word that opens a form, and the offset past it.
-pub enum FormKeyword {
-    Pad(usize),
-    Run(usize),
-    Domain(usize),
-    Window(usize),
-    Op(usize),
-    Refused(Refusal),
-}
+ghost use Prim.Native.Nat.{_+_, _^_, _<_};
+ghost use Rattle.line.specs.Lines.{closedLine, notedLine, formLine, lineAt, refusedLine};
 
 // A line's form, the offset of its first bracket, and the offset of its end.
 pub struct Line {
     pub form: Form,
     pub bracket: usize,
     pub end: usize,
-    // as in `FormBody`
+    // where the text up to there first names each domain as a recipient, plus one; else 0
     pub named: [usize; 8],
 }
 
-// The word that opens a form.
-fn form_keyword_at(text: &[u8], at: usize) -> FormKeyword
-    ensures { λ r. ⌜ r ≡ formKeywordAt (now (text .entry)) at ⌝ }
-{
-    let token = token_at(text, at);
-    let Token::Word { start, end } = token else {
-        return FormKeyword::Refused(Refusal::BrokenShape(token_start(token)));
-    };
-    if is_word(text, start, end, b"pad") {
-        return FormKeyword::Pad(end);
-    }
-    if is_word(text, start, end, b"run") {
-        return FormKeyword::Run(end);
-    }
-    if is_word(text, start, end, b"domain") {
-        return FormKeyword::Domain(end);
-    }
-    if is_word(text, start, end, b"window") {
-        return FormKeyword::Window(end);
-    }
-    if is_word(text, start, end, b"op") {
-        return FormKeyword::Op(end);
-    }
-    FormKeyword::Refused(Refusal::BrokenShape(start))
-}
-
-// The form that a word opens.
-fn body_of(text: &[u8], declared: u32, named: [usize; 8], head: FormKeyword) -> FormBody
-    ensures { λ r. ⌜ r ≡ bodyOf (now (text .entry)) declared named head ⌝ }
-{
-    match head {
-        FormKeyword::Pad(at) => pad_body(text, named, at),
-        FormKeyword::Run(at) => run_body(text, named, at),
-        FormKeyword::Domain(at) => domain_body(text, declared, named, at),
-        FormKeyword::Window(at) => window_body(text, declared, named, at),
-        FormKeyword::Op(at) => op_body(text, declared, named, at),
-        FormKeyword::Refused(refusal) => refused_body(named, refusal),
-    }
-}
-
-// A refused line; where it ends no longer matters.
+// A refused line; on refusal its end is unspecified.
 fn refused_line(bracket: usize, named: [usize; 8], refusal: Refusal) -> Line
     ensures { λ r. ⌜ r ≡ refusedLine bracket named refusal ⌝ }
 {
@@ -90,39 +42,67 @@ fn refused_line(bracket: usize, named: [usize; 8], refusal: Refusal) -> Line
     }
 }
 
-// A form's closing bracket and the line's end.
-fn closed_line(text: &[u8], bracket: usize, inside: FormBody) -> Line
-    ensures { λ r. ⌜ r ≡ closedLine (now (text .entry)) bracket inside ⌝ }
+// A form, its closing bracket and the line's end.
+fn closed_line(text: &[u8], bracket: usize, named: [usize; 8], parse: FormParse) -> Line
+    ensures { λ r. ⌜ r ≡ closedLine (now (text .entry)) bracket named parse ⌝ }
 {
-    let form = inside.form;
-    let named = inside.named;
-    let closing = pass_close(text, inside.end);
-    let closed = match closing {
-        TokenParse::To(offset) => offset,
-        TokenParse::Refused(refusal) => return refused_line(bracket, named, refusal),
-    };
-    let ending = pass_line_end(text, closed);
-    match ending {
-        TokenParse::Refused(refusal) => refused_line(bracket, named, refusal),
-        TokenParse::To(end) => Line {
-            form,
-            bracket,
-            end,
-            named,
-        },
+    match parse {
+        FormParse::Refused(refusal) => refused_line(bracket, named, refusal),
+        FormParse::Form { form, end } => {
+            let closing = pass_close(text, end);
+            let closed = match closing {
+                TokenParse::To(offset) => offset,
+                TokenParse::Refused(refusal) => return refused_line(bracket, named, refusal),
+            };
+            let ending = pass_line_end(text, closed);
+            match ending {
+                TokenParse::Refused(refusal) => refused_line(bracket, named, refusal),
+                TokenParse::To(ended) => Line {
+                    form,
+                    bracket,
+                    end: ended,
+                    named,
+                },
+            }
+        }
     }
 }
 
-// A refusal within the brackets comes before what follows it.
-fn body_line(text: &[u8], bracket: usize, inside: FormBody) -> Line
-    ensures { λ r. ⌜ r ≡ bodyLine (now (text .entry)) bracket inside ⌝ }
+// The same of a domain form.
+fn noted_line(text: &[u8], bracket: usize, domain: DomainParse) -> Line
+    ensures { λ r. ⌜ r ≡ notedLine (now (text .entry)) bracket domain ⌝ }
 {
-    let form = inside.form;
-    if let Form::Refused(refusal) = form {
-        let named = inside.named;
-        return refused_line(bracket, named, refusal);
+    let parse = domain.parse;
+    let named = domain.named;
+    closed_line(text, bracket, named, parse)
+}
+
+// A line past its opening bracket, by the word that stands there.
+fn form_line(text: &[u8], declared: u32, named: [usize; 8], bracket: usize) -> Line
+    requires { ⌜ bracket + 1 < 2 ^ 64 ⌝ }
+    ensures { λ r. ⌜ r ≡ formLine (now (text .entry)) declared named bracket ⌝ }
+{
+    let keyword = keyword_at(
+        text,
+        b"pad",
+        b"run",
+        b"domain",
+        b"window",
+        b"op",
+        bracket + 1,
+    );
+    match keyword {
+        KeywordParse::First(at) => closed_line(text, bracket, named, pad_form(text, at)),
+        KeywordParse::Second(at) => closed_line(text, bracket, named, run_form(text, at)),
+        KeywordParse::Third(at) => {
+            noted_line(text, bracket, domain_form(text, declared, named, at))
+        }
+        KeywordParse::Fourth(at) => {
+            closed_line(text, bracket, named, window_form(text, declared, at))
+        }
+        KeywordParse::Fifth(at) => closed_line(text, bracket, named, op_form(text, declared, at)),
+        KeywordParse::Refused(refusal) => refused_line(bracket, named, refusal),
     }
-    closed_line(text, bracket, inside)
 }
 
 // The line that begins at `at`, with `declared` domains above it.
@@ -142,7 +122,5 @@ pub fn line_at(text: &[u8], declared: u32, named: [usize; 8], at: usize) -> Line
         let start = token_start(token);
         return refused_line(start, named, Refusal::BrokenShape(start));
     };
-    let head = form_keyword_at(text, bracket + 1);
-    let inside = body_of(text, declared, named, head);
-    body_line(text, bracket, inside)
+    form_line(text, declared, named, bracket)
 }

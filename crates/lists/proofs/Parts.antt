@@ -1,12 +1,13 @@
 -- Laws on a part of a table and on a table with a part rewritten. Assumes nothing.
 use Prim.Native.Nat.{ℕ, zero, suc, _+_, _-_, _≤_, _<_}
-use mathlib.Core.Path.{_≡_, subst, _∙_}
+use mathlib.Core.Path.{_≡_, sym, ap, subst, _∙_}
 use mathlib.Core.List.{List, _∷_, _++_}
 use native.Mathlib.Nat.{not-suc-le-zero}
 use native.Mathlib.Numerals.{add-one}
 use native.Mathlib.Omega.{arith}
-use lib.ListN.{drop, getD, length, take, length-append, length-drop, length-take, take-append-drop, List·getD-append}
-use lib.Seq.{drop-at, drop-cons, getD-append-add, getD-drop, getD-take, length-take-le, take-at}
+use lib.ListN.{drop, getD, length, set, take}
+use lib.ListN.{length-append, length-drop, length-take, take-append-drop, List·getD-append}
+use lib.Seq.{drop-at, drop-cons, drop-set-lt, ext-getD, getD-append-add, getD-drop, getD-take, length-take-le, take-at}
 use Rattle.lists.specs.Part.{part, splice}
 
 -- a part has at most as many numbers as are asked for
@@ -15,11 +16,12 @@ unfolding part
 part-limit first count table = simp length-take (omega arith)
 
 -- a part within the table has as many numbers as are asked for
-pub part-length : (first count : ℕ) (table : List ℕ) → first + count ≤ length table → length (part first count table) ≡ count
+pub part-length :
+    (first count : ℕ) (table : List ℕ) → first + count ≤ length table → length (part first count table) ≡ count
 unfolding part
 part-length first count table fits = simp (length-take, length-drop) (omega arith)
 
--- a part is its first number, then the part that begins one place on
+-- a part is its first number, then the part that begins one index on
 pub part-next :
     (first count : ℕ) (table : List ℕ)
     → first < length table
@@ -46,13 +48,13 @@ pub splice-part : (first count : ℕ) (table : List ℕ) → splice first count 
 unfolding part splice
 splice-part first count table = rw (take-append-drop count, take-append-drop first)
 
--- the numbers of a part are the table's, from its first place on
+-- the numbers of a part are the table's, from its first index on
 pub part-at :
-    (first count place : ℕ) (table : List ℕ)
-    → place < count
-    → getD (part first count table) place 0 ≡ getD table (first + place) 0
+    (first count index : ℕ) (table : List ℕ)
+    → index < count
+    → getD (part first count table) index 0 ≡ getD table (first + index) 0
 unfolding part
-part-at first count place table within = rw (getD-take count (drop first table) place 0 within, getD-drop)
+part-at first count index table within = rw (getD-take count (drop first table) index 0 within, getD-drop)
 
 module _ (first count : ℕ) (fresh table : List ℕ) (begins : first ≤ length table) where
   front : length (take first table) ≡ first
@@ -67,40 +69,72 @@ module _ (first count : ℕ) (fresh table : List ℕ) (begins : first ≤ length
         take-at fresh (drop count (drop first table)) count many,
       )
 
-  -- a place of the rewritten part
-  pub splice-within :
-      (place : ℕ)
-      → place < length fresh
-      → getD (splice first count fresh table) (first + place) 0 ≡ getD fresh place 0
+  -- an index from the part's first on, in what was put there and what follows
+  in-splice :
+      (index : ℕ)
+      → getD (splice first count fresh table) (first + index) 0 ≡ getD (fresh ++ drop count (drop first table)) index 0
   unfolding splice
-  splice-within place within =
-      subst (λ (n : ℕ). getD (take first table ++ (fresh ++ drop count (drop first table))) (n + place) 0 ≡ getD fresh place 0) front
-      (getD-append-add (take first table) (fresh ++ drop count (drop first table)) place 0 ∙ List·getD-append fresh (drop count (drop first table)) 0 place within)
+  in-splice index =
+      let put = fresh ++ drop count (drop first table) in
+      subst (λ (n : ℕ). getD (take first table ++ put) (n + index) 0 ≡ getD put index 0) front
+      (getD-append-add (take first table) put index 0)
 
-  -- a place before it
-  pub splice-before : (place : ℕ) → place < first → getD (splice first count fresh table) place 0 ≡ getD table place 0
+  -- an index of the rewritten part
+  pub splice-within :
+      (index : ℕ)
+      → index < length fresh
+      → getD (splice first count fresh table) (first + index) 0 ≡ getD fresh index 0
+  splice-within index within =
+      in-splice index ∙ List·getD-append fresh (drop count (drop first table)) 0 index within
+
+  -- an index before it
+  pub splice-before : (index : ℕ) → index < first → getD (splice first count fresh table) index 0 ≡ getD table index 0
   unfolding splice
-  splice-before place before =
-      List·getD-append (take first table) (fresh ++ drop count (drop first table)) 0 place (omega (arith, front))
-      ∙ getD-take first table place 0 before
+  splice-before index before =
+      List·getD-append (take first table) (fresh ++ drop count (drop first table)) 0 index (omega (arith, front))
+      ∙ getD-take first table index 0 before
 
   rest-after :
       (more : ℕ)
       → length fresh ≡ count
       → getD (splice first count fresh table) (first + (count + more)) 0 ≡ getD table (first + (count + more)) 0
-  unfolding splice
   rest-after more many =
-      subst (λ (n : ℕ). getD (take first table ++ (fresh ++ drop count (drop first table))) (n + (count + more)) 0 ≡ getD table (first + (count + more)) 0) front
-      (getD-append-add (take first table) (fresh ++ drop count (drop first table)) (count + more) 0
-      ∙ subst (λ (n : ℕ). getD (fresh ++ drop count (drop first table)) (n + more) 0 ≡ getD table (first + (count + more)) 0) many
-      (getD-append-add fresh (drop count (drop first table)) more 0 ∙ getD-drop count (drop first table) more 0 ∙ getD-drop first table (count + more) 0))
+      let rest = drop count (drop first table) in
+      in-splice (count + more)
+      ∙ subst (λ (n : ℕ). getD (fresh ++ rest) (n + more) 0 ≡ getD rest more 0) many (getD-append-add fresh rest more 0)
+      ∙ getD-drop count (drop first table) more 0
+      ∙ getD-drop first table (count + more) 0
 
-  -- a place after it
+  -- an index after it
   pub splice-after :
-      (place : ℕ)
+      (index : ℕ)
       → length fresh ≡ count
-      → first + count ≤ place
-      → getD (splice first count fresh table) place 0 ≡ getD table place 0
-  splice-after place many after =
-      let whole : first + (count + (place - (first + count))) ≡ place = omega arith in
-      subst (λ (n : ℕ). getD (splice first count fresh table) n 0 ≡ getD table n 0) whole (rest-after (place - (first + count)) many)
+      → first + count ≤ index
+      → getD (splice first count fresh table) index 0 ≡ getD table index 0
+  splice-after index many after =
+      let whole : first + (count + (index - (first + count))) ≡ index = omega arith in
+      subst (λ (n : ℕ). getD (splice first count fresh table) n 0 ≡ getD table n 0) whole
+      (rest-after (index - (first + count)) many)
+
+-- tables whose numbers are equal there have equal parts
+pub part-same :
+    (first count : ℕ) (one other : List ℕ)
+    → first + count ≤ length one
+    → first + count ≤ length other
+    → ((index : ℕ) → index < count → getD one (first + index) 0 ≡ getD other (first + index) 0)
+    → part first count one ≡ part first count other
+part-same first count one other fits fits-other same =
+    let long = part-length first count one fits in
+    ext-getD 0 _ _ (long ∙ sym (part-length first count other fits-other))
+    (λ index inside.
+    part-at first count index one (omega arith)
+    ∙ same index (omega arith)
+    ∙ sym (part-at first count index other (omega arith)))
+
+-- a store before a part leaves it
+pub part-stored-before :
+    (first count : ℕ) (table : List ℕ) (index number : ℕ)
+    → index < first
+    → part first count (set table index number) ≡ part first count table
+unfolding part
+part-stored-before first count table index number before = ap (take count) (drop-set-lt first table index number before)

@@ -1,4 +1,5 @@
--- Laws on a run of stores into a buffer: where one run ends the next begins. A store past the buffer's end does nothing. Assumes nothing.
+-- Laws on a run of stores into a buffer: where one run ends the next begins. A store past the buffer's end does
+-- nothing. Assumes nothing.
 use Prim.Native.Nat.{ℕ, suc, _+_, _<_}
 use mathlib.Core.Path.{_≡_, ap, _∙_}
 use mathlib.Core.List.{List, [], _∷_, _++_, append-assoc}
@@ -12,22 +13,23 @@ use lib.Seq.{length-take-le, sets, take-suc}
 pub sets-append :
     (buffer : List ℕ) (at : ℕ) (first second : List ℕ)
     → sets (sets buffer at first) (at + length first) second ≡ sets buffer at (first ++ second)
-sets-append buffer at [] second = ap (λ (place : ℕ). sets buffer place second) (add-zero at)
+sets-append buffer at [] second = ap (λ (index : ℕ). sets buffer index second) (add-zero at)
 sets-append buffer at (byte ∷ first) second =
-    let place : at + suc (length first) ≡ suc at + length first = omega arith in
-    ap (λ (n : ℕ). sets (sets (set buffer at byte) (suc at) first) n second) place
+    let index : at + suc (length first) ≡ suc at + length first = omega arith in
+    ap (λ (n : ℕ). sets (sets (set buffer at byte) (suc at) first) n second) index
     ∙ sets-append (set buffer at byte) (suc at) first second
 
 -- the stores of a list's first bytes, and of the next one
 pub sets-next :
     (buffer : List ℕ) (at count : ℕ) (bytes : List ℕ)
     → count < length bytes
-    → set (sets buffer at (take count bytes)) (at + count) (getD bytes count 0) ≡ sets buffer at (take (count + 1) bytes)
+    → set (sets buffer at (take count bytes)) (at + count) (getD bytes count 0)
+    ≡ sets buffer at (take (count + 1) bytes)
 sets-next buffer at count bytes within =
     let long : length (take count bytes) ≡ count = length-take-le count bytes (omega arith) in
     rw (add-one count, take-suc bytes count 0 within, ← sets-append buffer at (take count bytes), long)
 
--- what a writer does: it answers the place past its bytes, and leaves the buffer with them stored
+-- what a writer does: it answers the index past its bytes, and leaves the buffer with them stored
 abbrev pub Wrote : List ℕ → ℕ → List ℕ → List ℕ → ℕ → Type 0
 Wrote buffer at bytes after next = (next ≡ at + length bytes) × (after ≡ sets buffer at bytes)
 
@@ -37,8 +39,10 @@ pub wrote-both :
     → Wrote buffer at first middle next
     → Wrote middle next second after end
     → Wrote buffer at (first ++ second) after end
-wrote-both buffer at first second one two =
-    (simp length-append (omega (arith, one .0, two .0)), two .1 ∙ rw (one .1, one .0) (sets-append buffer at first second))
+wrote-both buffer at first second one two = (
+  simp length-append (omega (arith, one .0, two .0)),
+  two .1 ∙ rw (one .1, one .0) (sets-append buffer at first second),
+)
 
 -- the same where the second writes two pieces
 pub wrote-three :
@@ -49,7 +53,7 @@ pub wrote-three :
 wrote-three buffer at first second third one two =
     rw (append-assoc first second third) (wrote-both buffer at first (second ++ third) one two)
 
--- from the buffer's start on, the place past the bytes is their number
+-- from the buffer's start on, the index past the bytes is their number
 pub wrote-first :
     (buffer bytes : List ℕ) {after : List ℕ} {next : ℕ}
     → Wrote buffer 0 bytes after next

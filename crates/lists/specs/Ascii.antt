@@ -1,4 +1,5 @@
--- A quoted text as the bytes that it stands for. Every character quoted in these definitions is ASCII, one byte. Assumes nothing.
+-- A quoted text as the bytes that it stands for. Every character quoted in these definitions is
+-- ASCII, one byte. Assumes nothing.
 use Prim.Native.Nat.{ℕ}
 use Prim.Native.Char.{code}
 use Prim.Native.String.{String, [] as «none», _∷_ as _then_}

@@ -3,10 +3,10 @@ use Prim.Native.Nat.{ℕ}
 use mathlib.Core.List.{List, _++_}
 use lib.ListN.{take, drop}
 
--- the `count` numbers of a table from the place `first` on
+-- the `count` numbers of a table from the index `first` on
 unfoldable pub part : ℕ → ℕ → List ℕ → List ℕ
 part first count table = take count (drop first table)
 
--- the table with the `count` numbers from the place `first` on replaced by those of `fresh`
+-- the table with the `count` numbers from the index `first` on replaced by those of `fresh`
 unfoldable pub splice : ℕ → ℕ → List ℕ → List ℕ → List ℕ
 splice first count fresh table = take first table ++ (fresh ++ drop count (drop first table))

@@ -4,7 +4,6 @@ pub mod Going
 pub mod Invariant
 pub mod Runs
 pub mod Schedule
-pub mod Tests
 pub mod Turns
 pub mod WholeTurns
 pub mod Windows

@@ -1,37 +1,43 @@
 -- What the code of an op answers and leaves is the op's effect: a law for each way through it. Assumes nothing.
 use mathlib.Core.Path.{_≡_, refl}
-use mathlib.Core.Bool.{Bool, true, false, false≢true}
+use mathlib.Core.Bool.{Bool, true, false, cond, false≢true}
 use mathlib.Core.List.{List}
-use Prim.Native.Nat.{ℕ, _+_, _≤_, _<_}
+use Prim.Native.Nat.{ℕ, _+_, _*_, _≤_, _<_}
 use native.Mathlib.Omega.{arith}
 use lib.Dec.{ltb}
 use lib.ListN.{getD, set}
 use borrow.Author.Tests.{ltb-false}
 use Rattle.plan.specs.declared.Plan.{Plan}
-use Rattle.plan.specs.Rights.{maySend}
+use Rattle.plan.specs.Colours.{hasBit, ownsColour}
+use Rattle.plan.specs.Limits.{mostDomains}
 use Rattle.script.specs.Limits.{OpWithinLimits}
 use Rattle.script.specs.declared.Op.the-variants.{Receive, Send}
 use Rattle.cache.specs.declared.AccessKind.{AccessKind}
 use Rattle.cache.specs.Access.{accessOf}
-use Rattle.cache.proofs.Ticks.{access-ticks}
+use Rattle.cache.specs.Lines.{colourOf, mostLine, setCount}
+use Rattle.cache.proofs.Ticks.{access-ticks, mostAccessTicks}
 use Rattle.records.specs.declared.Observation.{Observation}
-use Rattle.records.specs.declared.Observation.the-variants.{Barred, Denied, Sent}
-use Rattle.ops.specs.Ops.{boxLine, boxIndex, boxObservation, deniedOf, fullBox, kernelEntryLine, ownsLine, passedOf, receiveOf, accessObservation, sendOf, touchOf}
+use Rattle.records.specs.declared.Observation.the-variants.{Barred}
+use Rattle.ops.specs.Ops.{accessObservation, barredTicks, boxIndex, firstBoxLine, kernelEntryLine, messageOf}
+use Rattle.ops.specs.Ops.{messageTicks, ownsLine, touchOf}
 use Rattle.ops.specs.View.{effectWith}
 
--- a domain's own line is a line
-pub owns-a-line : (plan : Plan) (domain line : ℕ) → ownsLine plan domain line ≡ true → line < 4_096
+-- a domain's own line is a line, and of one of its colours
+pub owned : (plan : Plan) (domain line : ℕ) → ownsLine plan domain line ≡ true
+    → (line ≤ mostLine) × (ownsColour plan domain (colourOf line) ≡ true)
 unfolding ownsLine
-owns-a-line plan domain line owns = go (ltb 4_095 line) refl
+owned plan domain line owns = go (ltb mostLine line) refl owns
   where
-    go : (b : Bool) → ltb 4_095 line ≡ b → line < 4_096
-    go true e = absurd (false≢true (rw e at owns))
-    go false e = let within : line ≤ 4_095 = ltb-false 4_095 line e in omega arith
+    go : (past : Bool) → ltb mostLine line ≡ past → cond past false (ownsColour plan domain (colourOf line)) ≡ true
+        → (line ≤ mostLine) × (ownsColour plan domain (colourOf line) ≡ true)
+    go true test none = absurd (false≢true none)
+    go false test own = (ltb-false mostLine line test, own)
 
 module _ (plan : Plan) (domain : ℕ) (writes : Bool) (line : ℕ) (cache boxes : List ℕ) where
   pub touch-barred :
       ownsLine plan domain line ≡ false
-      → effectWith (record { ticks = 5; seen = Barred line }) cache boxes ≡ touchOf plan domain writes line cache boxes
+      → effectWith (record { ticks = barredTicks; seen = Barred line }) cache boxes
+      ≡ touchOf plan domain writes line cache boxes
   unfolding touchOf
   touch-barred lacks = rw lacks refl
 
@@ -46,62 +52,43 @@ module _ (plan : Plan) (domain : ℕ) (writes : Bool) (line : ℕ) (cache boxes 
   unfolding touchOf
   touch-access ticks found seen table owns t f s b = rw (owns, t, s, f, b) refl
 
--- a send: refused by the rights, or passed on
-module _ (plan : Plan) (sender recipient word : ℕ) (cache boxes : List ℕ) where
-  pub send-denied :
-      (gate : ℕ) (table : List ℕ)
-      → maySend plan sender recipient ≡ false
-      → gate ≡ accessOf false kernelEntryLine cache .ticks
+-- a send or a receive: refused by the rights, or passed on. The code has the rights and the box's index in hand.
+module _
+    (plan : Plan) (sender recipient : ℕ) (denied passed : Observation) (number : ℕ) (cache boxes rights : List ℕ)
+    (handed : plan .rights ≡ rights) where
+  pub message-denied :
+      (entry : ℕ) (table : List ℕ)
+      → hasBit (getD rights sender 0) recipient ≡ false
+      → entry ≡ accessOf false kernelEntryLine cache .ticks
       → table ≡ accessOf false kernelEntryLine cache .table
-      → effectWith (record { ticks = 5 + gate; seen = Denied recipient }) table boxes ≡ sendOf plan sender recipient word cache boxes
-  unfolding sendOf deniedOf
-  send-denied gate table lacks g t = rw (lacks, g, t) refl
+      → effectWith (record { ticks = messageTicks + entry; seen = denied }) table boxes
+      ≡ messageOf plan sender recipient denied passed number cache boxes
+  unfolding messageOf
+  message-denied entry table lacks e t = rw (handed, lacks, e, t) refl
 
-  pub send-passed :
-      (gate ticks : ℕ) (table last : List ℕ)
-      → maySend plan sender recipient ≡ true
-      → gate ≡ accessOf false kernelEntryLine cache .ticks
+  pub message-passed :
+      (entry ticks index : ℕ) (table last : List ℕ)
+      → hasBit (getD rights sender 0) recipient ≡ true
+      → entry ≡ accessOf false kernelEntryLine cache .ticks
       → table ≡ accessOf false kernelEntryLine cache .table
-      → ticks ≡ accessOf true (boxLine sender recipient) table .ticks
-      → last ≡ accessOf true (boxLine sender recipient) table .table
-      → effectWith (record { ticks = 5 + gate + ticks; seen = Sent recipient }) last (set boxes (boxIndex sender recipient) (fullBox word))
-      ≡ sendOf plan sender recipient word cache boxes
-  unfolding sendOf passedOf
-  send-passed gate ticks table last may g t k l = rw (may, k, l, g, t) refl
-
--- a receive: refused by the rights, or passed on
-module _ (plan : Plan) (receiver sender : ℕ) (cache boxes : List ℕ) where
-  pub receive-denied :
-      (gate : ℕ) (table : List ℕ)
-      → maySend plan sender receiver ≡ false
-      → gate ≡ accessOf false kernelEntryLine cache .ticks
-      → table ≡ accessOf false kernelEntryLine cache .table
-      → effectWith (record { ticks = 5 + gate; seen = Denied sender }) table boxes ≡ receiveOf plan receiver sender cache boxes
-  unfolding receiveOf deniedOf
-  receive-denied gate table lacks g t = rw (lacks, g, t) refl
-
-  pub receive-passed :
-      (gate ticks : ℕ) (seen : Observation) (table last : List ℕ)
-      → maySend plan sender receiver ≡ true
-      → gate ≡ accessOf false kernelEntryLine cache .ticks
-      → table ≡ accessOf false kernelEntryLine cache .table
-      → ticks ≡ accessOf true (boxLine sender receiver) table .ticks
-      → last ≡ accessOf true (boxLine sender receiver) table .table
-      → seen ≡ boxObservation sender (getD boxes (boxIndex sender receiver) 0)
-      → effectWith (record { ticks = 5 + gate + ticks; seen = seen }) last (set boxes (boxIndex sender receiver) 0)
-      ≡ receiveOf plan receiver sender cache boxes
-  unfolding receiveOf passedOf
-  receive-passed gate ticks seen table last may g t k l s = rw (may, s, k, l, g, t) refl
+      → index ≡ boxIndex sender recipient
+      → ticks ≡ accessOf true (firstBoxLine + setCount * index) table .ticks
+      → last ≡ accessOf true (firstBoxLine + setCount * index) table .table
+      → effectWith (record { ticks = messageTicks + entry + ticks; seen = passed }) last (set boxes index number)
+      ≡ messageOf plan sender recipient denied passed number cache boxes
+  unfolding messageOf
+  message-passed entry ticks index table last may e t i k l = rw (handed, may, k, l, e, t, i) refl
 
 -- an access's answer is no larger than any access's
-pub answered-ticks : (writes : Bool) (line answer : ℕ) (table : List ℕ) → answer ≡ accessOf writes line table .ticks → answer ≤ 104
+pub answered-ticks : (writes : Bool) (line answer : ℕ) (table : List ℕ) → answer ≡ accessOf writes line table .ticks
+    → answer ≤ mostAccessTicks
 answered-ticks writes line answer table so = rw so (access-ticks writes line table)
 
 -- the other domain of a send or a receive has a number below 8
-pub send-below : (recipient word : ℕ) → OpWithinLimits (Send recipient word) → recipient < 8
+pub send-below : (recipient word : ℕ) → OpWithinLimits (Send recipient word) → recipient < mostDomains
 unfolding OpWithinLimits
 send-below recipient word within = omega arith
 
-pub receive-below : (sender : ℕ) → OpWithinLimits (Receive sender) → sender < 8
+pub receive-below : (sender : ℕ) → OpWithinLimits (Receive sender) → sender < mostDomains
 unfolding OpWithinLimits
 receive-below sender within = omega arith

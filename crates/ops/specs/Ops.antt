@@ -1,20 +1,24 @@
--- Document 01, "What an op costs": the five ops, with their ticks, records, caches and boxes. Assumes nothing.
+-- Document 01, "What an op costs": the five ops, with their ticks, records, caches and boxes.
+-- Assumes nothing.
 use Prim.Native.Nat.{ℕ, _+_, _*_, _-_}
 use mathlib.Core.Bool.{Bool, true, false, cond}
 use mathlib.Core.List.{List}
 use lib.Dec.{eqb, ltb}
 use lib.ListN.{getD, replicate, set}
 use Rattle.plan.specs.declared.Plan.{Plan}
+use Rattle.plan.specs.Limits.{mostDomains}
 use Rattle.plan.specs.Colours.{ownsColour}
 use Rattle.plan.specs.Rights.{maySend}
 use Rattle.script.specs.declared.Op.{Op}
 use Rattle.script.specs.declared.Op.the-variants.{Read, Write, Send, Receive, Compute}
 use Rattle.cache.specs.declared.AccessKind.{AccessKind}
-use Rattle.cache.specs.declared.AccessKind.the-variants.{Hit1 as AtL1, Hit2 as AtL2, Miss as Nowhere}
-use Rattle.cache.specs.Lines.{colourOf}
-use Rattle.cache.specs.Access.{AccessOutcome, accessOf}
+use Rattle.cache.specs.declared.AccessKind.the-variants.{Hit1 as AtL1, Hit2 as AtL2}
+use Rattle.cache.specs.declared.AccessKind.the-variants.{Miss as Nowhere}
+use Rattle.cache.specs.Lines.{colourOf, mostLine, setCount}
+use Rattle.cache.specs.Access.{accessOf}
 use Rattle.records.specs.declared.Observation.{Observation}
-use Rattle.records.specs.declared.Observation.the-variants.{Hit1, Hit2, Miss, Sent, Got, Empty, Denied, Ran, Barred}
+use Rattle.records.specs.declared.Observation.the-variants.{Hit1, Hit2, Miss, Sent, Got, Empty}
+use Rattle.records.specs.declared.Observation.the-variants.{Denied, Ran, Barred}
 
 -- what an op does: its ticks, what its domain sees, and the cache table and boxes that it leaves
 pub record Effect : Type 0 where
@@ -23,23 +27,35 @@ pub record Effect : Type 0 where
   pub cache : List ℕ
   pub boxes : List ℕ
 
--- a line is a domain's own: a line number, 0 to 4,095, of one of its colours
+-- a line is a domain's own: a line number of one of its colours
 unfoldable pub ownsLine : Plan → ℕ → ℕ → Bool
-ownsLine plan domain line = cond (ltb 4_095 line) false (ownsColour plan domain (colourOf line))
+ownsLine plan domain line = cond (ltb mostLine line) false (ownsColour plan domain (colourOf line))
 
--- the line that every send and receive reads first, whatever its rights
+-- the ticks of a read or a write that is barred
+abbrev pub barredTicks : ℕ
+barredTicks = 5
+
+-- the ticks of a send or a receive beside its accesses
+abbrev pub messageTicks : ℕ
+messageTicks = 5
+
+-- the line that every send and receive reads first, whatever its rights: the entry to the kernel
 abbrev pub kernelEntryLine : ℕ
 kernelEntryLine = 60
 
--- a sender has eight boxes in a row, one for each recipient
+-- a sender has a box for each recipient, in a row
 abbrev pub boxIndex : ℕ → ℕ → ℕ
-boxIndex sender recipient = 8 * sender + recipient
+boxIndex sender recipient = mostDomains * sender + recipient
 
--- each box has a line of the kernel's own
+-- the line of the first box
+abbrev pub firstBoxLine : ℕ
+firstBoxLine = 61
+
+-- each box has a line of its own, all in one of the kernel's sets
 abbrev pub boxLine : ℕ → ℕ → ℕ
-boxLine sender recipient = 61 + 64 * boxIndex sender recipient
+boxLine sender recipient = firstBoxLine + setCount * boxIndex sender recipient
 
--- how many boxes there are: eight senders by eight recipients
+-- how many boxes there are
 abbrev pub boxesLength : ℕ
 boxesLength = 64
 
@@ -57,53 +73,65 @@ accessObservation AtL1 line = Hit1 line
 accessObservation AtL2 line = Hit2 line
 accessObservation Nowhere line = Miss line
 
--- read n, write n: barred, 5 ticks, caches unchanged, where the line is not the domain's; else an access
+-- read n, write n: barred, caches unchanged, where the line is not the domain's; else an access
 unfoldable pub touchOf : Plan → ℕ → Bool → ℕ → List ℕ → List ℕ → Effect
 touchOf plan domain writes line cache boxes =
     let access = accessOf writes line cache in
     cond (ownsLine plan domain line)
-    (record { ticks = access .ticks; seen = accessObservation (access .found) line; cache = access .table; boxes = boxes })
-    (record { ticks = 5; seen = Barred line; cache = cache; boxes = boxes })
+    (record {
+      ticks = access .ticks;
+      seen = accessObservation (access .found) line;
+      cache = access .table;
+      boxes = boxes;
+    })
+    (record { ticks = barredTicks; seen = Barred line; cache = cache; boxes = boxes })
 
--- a send or a receive that the rights do not allow: 5 ticks on top of the look at the gate, and no more
-unfoldable pub deniedOf : ℕ → AccessOutcome → List ℕ → Effect
-deniedOf other gate boxes = record { ticks = 5 + gate .ticks; seen = Denied other; cache = gate .table; boxes = boxes }
-
--- one that they allow also writes the line of its box
-unfoldable pub passedOf : Observation → ℕ → AccessOutcome → List ℕ → Effect
-passedOf seen line gate boxes =
-    let access = accessOf true line (gate .table) in
-    record { ticks = 5 + gate .ticks + access .ticks; seen = seen; cache = access .table; boxes = boxes }
-
--- send b w: denied where the sender's list lacks b; else the box holds w, overwriting. A full box is never reported.
-unfoldable pub sendOf : Plan → ℕ → ℕ → ℕ → List ℕ → List ℕ → Effect
-sendOf plan sender recipient word cache boxes =
-    let gate = accessOf false kernelEntryLine cache in
+-- what a send and a receive do alike: a read access to the kernel's entry line; where the sender's
+-- list lacks the recipient, no more; else a write access to the line of the box between them, and
+-- the box is given a new number
+unfoldable pub messageOf : Plan → ℕ → ℕ → Observation → Observation → ℕ → List ℕ → List ℕ → Effect
+messageOf plan sender recipient denied passed number cache boxes =
+    let entry = accessOf false kernelEntryLine cache in
+    let box = accessOf true (boxLine sender recipient) (entry .table) in
     cond (maySend plan sender recipient)
-    (passedOf (Sent recipient) (boxLine sender recipient) gate (set boxes (boxIndex sender recipient) (fullBox word)))
-    (deniedOf recipient gate boxes)
+    (record {
+      ticks = messageTicks + entry .ticks + box .ticks;
+      seen = passed;
+      cache = box .table;
+      boxes = set boxes (boxIndex sender recipient) number;
+    })
+    (record {
+      ticks = messageTicks + entry .ticks;
+      seen = denied;
+      cache = entry .table;
+      boxes = boxes;
+    })
+
+-- send b w: the box holds w, overwriting. A full box is never reported.
+abbrev pub sendOf : Plan → ℕ → ℕ → ℕ → List ℕ → List ℕ → Effect
+sendOf plan sender recipient word cache boxes =
+    messageOf plan sender recipient (Denied recipient) (Sent recipient) (fullBox word) cache boxes
 
 -- what a receive finds in a box
 unfoldable pub boxObservation : ℕ → ℕ → Observation
 boxObservation sender box = cond (eqb box 0) (Empty sender) (Got (box - 1))
 
--- receive a: denied where a's list lacks the receiver; else the box is emptied: got or empty
+-- receive a: the box is emptied
 unfoldable pub receiveOf : Plan → ℕ → ℕ → List ℕ → List ℕ → Effect
 receiveOf plan receiver sender cache boxes =
-    let gate = accessOf false kernelEntryLine cache in
-    let place = boxIndex sender receiver in
-    cond (maySend plan sender receiver)
-    (passedOf (boxObservation sender (getD boxes place 0)) (boxLine sender receiver) gate (set boxes place 0))
-    (deniedOf sender gate boxes)
+    let found = boxObservation sender (getD boxes (boxIndex sender receiver) 0) in
+    messageOf plan sender receiver (Denied sender) found 0 cache boxes
 
 -- compute t: t ticks
 unfoldable pub computeOf : ℕ → List ℕ → List ℕ → Effect
-computeOf ticks cache boxes = record { ticks = ticks; seen = Ran ticks; cache = cache; boxes = boxes }
+computeOf ticks cache boxes =
+    record { ticks = ticks; seen = Ran ticks; cache = cache; boxes = boxes }
 
 -- an op of a domain
 unfoldable pub effectOf : Plan → ℕ → Op → List ℕ → List ℕ → Effect
 effectOf plan domain (Read line) cache boxes = touchOf plan domain false line cache boxes
 effectOf plan domain (Write line) cache boxes = touchOf plan domain true line cache boxes
-effectOf plan domain (Send recipient word) cache boxes = sendOf plan domain recipient word cache boxes
+effectOf plan domain (Send recipient word) cache boxes =
+    sendOf plan domain recipient word cache boxes
 effectOf plan domain (Receive sender) cache boxes = receiveOf plan domain sender cache boxes
 effectOf plan domain (Compute ticks) cache boxes = computeOf ticks cache boxes

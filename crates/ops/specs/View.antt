@@ -1,11 +1,17 @@
--- Document 01, "What an op costs": what the code of an op is handed of a plan, and what it answers beside the lent things. Assumes nothing.
+-- Document 01, "What an op costs": what the code of an op answers, and what a step hands it of a
+-- plan. Assumes nothing.
 use Prim.Native.Nat.{ℕ}
 use mathlib.Core.List.{List, []}
 use Rattle.plan.specs.declared.Plan.{Plan}
 use Rattle.ops.specs.declared.OpResult.{OpResult}
 use Rattle.ops.specs.Ops.{Effect}
 
--- all that an op looks at of a plan: the lists of recipients and the colour masks. The rest is left blank: no op's definition reads it.
+-- an answer with the cache table and the boxes after the call
+abbrev pub effectWith : OpResult → List ℕ → List ℕ → Effect
+effectWith result cache boxes =
+    record { ticks = result .ticks; seen = result .seen; cache = cache; boxes = boxes }
+
+-- a plan of which only the rights and the masks are said: no op's definition reads the rest
 abbrev pub viewOf : List ℕ → List ℕ → Plan
 viewOf rights masks =
     record {
@@ -19,7 +25,3 @@ viewOf rights masks =
       lengths = [];
       masks = masks;
     }
-
--- an answer with the cache table and the boxes at exit
-abbrev pub effectWith : OpResult → List ℕ → List ℕ → Effect
-effectWith done cache boxes = record { ticks = done .ticks; seen = done .seen; cache = cache; boxes = boxes }

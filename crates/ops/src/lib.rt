@@ -1,16 +1,32 @@
-// The five ops: what each costs, shows and changes.
+// The five ops: what each costs, shows and changes. An op is handed the rights and the masks of a
+// plan, and no more of it.
+pub mod limits;
+
+use crate::limits::BARRED_TICKS;
+use crate::limits::FIRST_BOX_LINE;
+use crate::limits::KERNEL_ENTRY_LINE;
+use crate::limits::MESSAGE_TICKS;
 use cache::AccessKind;
 use cache::access;
+use cache::limits::MOST_LINE;
+use cache::limits::SET_COUNT;
+use cache::limits::SETS_PER_COLOUR;
+use plan::limits::DOMAIN_ENTRIES;
 use plan::sharing::has_bit;
 use records::Observation;
 use script::Op;
 ghost use mathlib.Core.Path.{_≡_};
 ghost use mathlib.Core.List.{List};
-ghost use Prim.Native.Nat.{ℕ, _+_, _<_};
+ghost use mathlib.Core.Bool.{true};
+ghost use Prim.Native.Nat.{ℕ, _≤_, _<_};
 ghost use lib.ListN.{length};
+ghost use Rattle.plan.specs.declared.Plan.{Plan};
+ghost use Rattle.plan.specs.Limits.{mostDomains};
 ghost use Rattle.script.specs.Limits.{OpWithinLimits};
-ghost use Rattle.ops.specs.Ops.{boxObservation, effectOf, ownsLine, receiveOf, accessObservation, sendOf, touchOf};
-ghost use Rattle.ops.specs.View.{effectWith, viewOf};
+ghost use Rattle.cache.specs.Lines.{mostLine, tableLength};
+ghost use Rattle.ops.specs.Ops.{accessObservation, boxIndex, boxesLength, boxObservation};
+ghost use Rattle.ops.specs.Ops.{effectOf, messageOf, ownsLine, receiveOf, sendOf, touchOf};
+ghost use Rattle.ops.specs.View.{effectWith};
 
 // What an op answers, beside the cache table and the boxes.
 pub struct OpResult {
@@ -24,16 +40,17 @@ fn wide(number: u16) -> u32
     number as u32
 }
 
-// Whether a line is a domain's own.
-fn owns_line(masks: &[u16; 8], domain: usize, line: u16) -> bool
-    requires { ⌜ domain < 8 ⌝ }
-    ensures { λ r. ⌜ ((rights : List ℕ) → r ≡ ownsLine (viewOf rights (now (masks .entry))) domain line) ⌝ }
+// Whether a line is a domain's own, and so a line.
+fn owns_line(masks: &[u16; DOMAIN_ENTRIES], domain: usize, line: u16) -> bool
+    requires { ⌜ domain < mostDomains ⌝ }
+    ensures { λ r. ⌜ (r ≡ true → line ≤ mostLine)
+        × ((plan : Plan) → plan .masks ≡ now (masks .entry) → r ≡ ownsLine plan domain line) ⌝ }
 {
-    if 4_095 < line {
+    if MOST_LINE < line {
         return false;
     }
-    let colour = line % 64 / 4;
-    has_bit(wide(masks[domain]), wide(colour))
+    let colour = line as usize % SET_COUNT / SETS_PER_COLOUR;
+    has_bit(wide(masks[domain]), colour as u32)
 }
 
 // What an access shows.
@@ -48,51 +65,110 @@ fn access_observation(found: AccessKind, line: u16) -> Observation
 }
 
 // A read or a write of a line.
-fn touch(masks: &[u16; 8], domain: usize, writes: bool, line: u16, cache: &mut [u16]) -> OpResult
-    requires { ⌜ (domain < 8) × (length (now cache) ≡ 272) ⌝ }
-    ensures { λ r. ⌜ ((rights boxes : List ℕ) → effectWith r (now (cache .exit)) boxes ≡ touchOf (viewOf rights (now (masks .entry))) domain writes line (now (cache .entry)) boxes) ⌝ }
+fn touch(
+    masks: &[u16; DOMAIN_ENTRIES],
+    domain: usize,
+    writes: bool,
+    line: u16,
+    cache: &mut [u16],
+) -> OpResult
+    requires { ⌜ (domain < mostDomains) × (length (now cache) ≡ tableLength) ⌝ }
+    ensures { λ r. ⌜ ((plan : Plan) (boxes : List ℕ)
+        → plan .masks ≡ now (masks .entry)
+        → effectWith r (now (cache .exit)) boxes
+        ≡ touchOf plan domain writes line (now (cache .entry)) boxes) ⌝ }
 {
     if !owns_line(masks, domain, line) {
         return OpResult {
-            ticks: 5,
+            ticks: BARRED_TICKS,
             seen: Observation::Barred(line),
         };
     }
-    let touched = access(cache, line, writes);
-    let found = touched.found;
+    let accessed = access(cache, line, writes);
+    let found = accessed.found;
     OpResult {
-        ticks: touched.ticks,
+        ticks: accessed.ticks,
         seen: access_observation(found, line),
+    }
+}
+
+// The index of the box between two domains.
+fn box_index(sender: usize, recipient: usize) -> usize
+    requires { ⌜ (sender < mostDomains) × (recipient < mostDomains) ⌝ }
+    ensures { λ r. ⌜ r ≡ boxIndex sender recipient ⌝ }
+{
+    DOMAIN_ENTRIES * sender + recipient
+}
+
+// What a send and a receive do alike: `number` is what the box is given, `denied` and `passed` are
+// what is seen without the right and with it.
+fn message(
+    rights: &[u32; DOMAIN_ENTRIES],
+    sender: usize,
+    recipient: usize,
+    denied: Observation,
+    passed: Observation,
+    number: u32,
+    cache: &mut [u16],
+    boxes: &mut [u32],
+) -> OpResult
+    requires { ⌜ (sender < mostDomains)
+        × (recipient < mostDomains)
+        × (length (now cache) ≡ tableLength)
+        × (length (now boxes) ≡ boxesLength) ⌝ }
+    ensures { λ r. ⌜ ((plan : Plan)
+        → plan .rights ≡ now (rights .entry)
+        → effectWith r (now (cache .exit)) (now (boxes .exit))
+        ≡ messageOf plan sender recipient denied passed number
+        (now (cache .entry)) (now (boxes .entry))) ⌝ }
+{
+    let entry = access(cache, KERNEL_ENTRY_LINE, false);
+    if !has_bit(rights[sender], recipient as u32) {
+        return OpResult {
+            ticks: MESSAGE_TICKS + entry.ticks,
+            seen: denied,
+        };
+    }
+    let index = box_index(sender, recipient);
+    let line = FIRST_BOX_LINE + SET_COUNT * index;
+    let accessed = access(cache, line as u16, true);
+    boxes[index] = number;
+    OpResult {
+        ticks: MESSAGE_TICKS + entry.ticks + accessed.ticks,
+        seen: passed,
     }
 }
 
 // A send of a word to a recipient.
 fn send(
-    rights: &[u32; 8],
+    rights: &[u32; DOMAIN_ENTRIES],
     sender: usize,
     recipient: u8,
     word: u16,
     cache: &mut [u16],
     boxes: &mut [u32],
 ) -> OpResult
-    requires { ⌜ (sender < 8) × (recipient < 8) × (length (now cache) ≡ 272) × (length (now boxes) ≡ 64) ⌝ }
-    ensures { λ r. ⌜ ((masks : List ℕ) → effectWith r (now (cache .exit)) (now (boxes .exit)) ≡ sendOf (viewOf (now (rights .entry)) masks) sender recipient word (now (cache .entry)) (now (boxes .entry))) ⌝ }
+    requires { ⌜ (sender < mostDomains)
+        × (recipient < mostDomains)
+        × (length (now cache) ≡ tableLength)
+        × (length (now boxes) ≡ boxesLength) ⌝ }
+    ensures { λ r. ⌜ ((plan : Plan)
+        → plan .rights ≡ now (rights .entry)
+        → effectWith r (now (cache .exit)) (now (boxes .exit))
+        ≡ sendOf plan sender recipient word (now (cache .entry)) (now (boxes .entry))) ⌝ }
 {
-    let gate = access(cache, 60, false);
-    if !has_bit(rights[sender], recipient as u32) {
-        return OpResult {
-            ticks: 5 + gate.ticks,
-            seen: Observation::Denied(recipient),
-        };
-    }
-    let place = 8 * sender + recipient as usize;
-    let line = 61 + 64 * (place as u16);
-    let touched = access(cache, line, true);
-    boxes[place] = word as u32 + 1;
-    OpResult {
-        ticks: 5 + gate.ticks + touched.ticks,
-        seen: Observation::Sent(recipient),
-    }
+    let denied = Observation::Denied(recipient);
+    let sent = Observation::Sent(recipient);
+    message(
+        rights,
+        sender,
+        recipient as usize,
+        denied,
+        sent,
+        word as u32 + 1,
+        cache,
+        boxes,
+    )
 }
 
 // What a receive finds in a box.
@@ -108,45 +184,46 @@ fn box_observation(sender: u8, number: u32) -> Observation
 
 // A receive from a sender.
 fn receive(
-    rights: &[u32; 8],
+    rights: &[u32; DOMAIN_ENTRIES],
     receiver: usize,
     sender: u8,
     cache: &mut [u16],
     boxes: &mut [u32],
 ) -> OpResult
-    requires { ⌜ (receiver < 8) × (sender < 8) × (length (now cache) ≡ 272) × (length (now boxes) ≡ 64) ⌝ }
-    ensures { λ r. ⌜ ((masks : List ℕ) → effectWith r (now (cache .exit)) (now (boxes .exit)) ≡ receiveOf (viewOf (now (rights .entry)) masks) receiver sender (now (cache .entry)) (now (boxes .entry))) ⌝ }
+    requires { ⌜ (receiver < mostDomains)
+        × (sender < mostDomains)
+        × (length (now cache) ≡ tableLength)
+        × (length (now boxes) ≡ boxesLength) ⌝ }
+    ensures { λ r. ⌜ ((plan : Plan)
+        → plan .rights ≡ now (rights .entry)
+        → effectWith r (now (cache .exit)) (now (boxes .exit))
+        ≡ receiveOf plan receiver sender (now (cache .entry)) (now (boxes .entry))) ⌝ }
 {
-    let gate = access(cache, 60, false);
     let from = sender as usize;
-    if !has_bit(rights[from], receiver as u32) {
-        return OpResult {
-            ticks: 5 + gate.ticks,
-            seen: Observation::Denied(sender),
-        };
-    }
-    let place = 8 * from + receiver;
-    let line = 61 + 64 * (place as u16);
-    let touched = access(cache, line, true);
-    let number = boxes[place];
-    boxes[place] = 0;
-    OpResult {
-        ticks: 5 + gate.ticks + touched.ticks,
-        seen: box_observation(sender, number),
-    }
+    let index = box_index(from, receiver);
+    let denied = Observation::Denied(sender);
+    let found = box_observation(sender, boxes[index]);
+    message(rights, from, receiver, denied, found, 0, cache, boxes)
 }
 
 // One op of a domain.
 pub fn operate(
-    rights: &[u32; 8],
-    masks: &[u16; 8],
+    rights: &[u32; DOMAIN_ENTRIES],
+    masks: &[u16; DOMAIN_ENTRIES],
     domain: usize,
     op: Op,
     cache: &mut [u16],
     boxes: &mut [u32],
 ) -> OpResult
-    requires { ⌜ (domain < 8) × OpWithinLimits op × (length (now cache) ≡ 272) × (length (now boxes) ≡ 64) ⌝ }
-    ensures { λ r. ⌜ effectWith r (now (cache .exit)) (now (boxes .exit)) ≡ effectOf (viewOf (now (rights .entry)) (now (masks .entry))) domain op (now (cache .entry)) (now (boxes .entry)) ⌝ }
+    requires { ⌜ (domain < mostDomains)
+        × OpWithinLimits op
+        × (length (now cache) ≡ tableLength)
+        × (length (now boxes) ≡ boxesLength) ⌝ }
+    ensures { λ r. ⌜ ((plan : Plan)
+        → plan .rights ≡ now (rights .entry)
+        → plan .masks ≡ now (masks .entry)
+        → effectWith r (now (cache .exit)) (now (boxes .exit))
+        ≡ effectOf plan domain op (now (cache .entry)) (now (boxes .entry))) ⌝ }
 {
     match op {
         Op::Read(line) => touch(masks, domain, false, line, cache),

@@ -38,7 +38,7 @@ no-low-bit number shift index below has =
     let one : number * 2 ^ shift / 2 ^ index % 2 ≡ 1 = eqb-true _ _ has in
     omega arith
 
--- the bits of so many adjacent colours from a first one on
+-- the bits of adjacent colours from a first one on
 pub mask-bits : (first count index : ℕ) → hasBit (maskFrom first count) index ≡ true → (first ≤ index) × (index < first + count)
 unfolding maskFrom
 mask-bits first count index has = (low (ltb index first) refl, high (ltb index (first + count)) refl)

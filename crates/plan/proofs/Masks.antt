@@ -32,7 +32,7 @@ owned-range plan domain colour valid below owns =
     (bits .0, bits .1)
 
 -- the first colours rise with the domains
-pub first-mono : (plan : Plan) (one other : ℕ) → one ≤ other → firstColour plan one ≤ firstColour plan other
+first-mono : (plan : Plan) (one other : ℕ) → one ≤ other → firstColour plan one ≤ firstColour plan other
 unfolding firstColour
 first-mono plan one other within = sum-mono (coloursAt plan) one other within
 

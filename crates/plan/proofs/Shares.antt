@@ -6,7 +6,7 @@ use Rattle.plan.specs.Colours.{coloursAt, coloursOf, firstColour, shareO
 use Rattle.plan.specs.Sums.{sumTo}
 use Rattle.plan.specs.Limits.{domainColours, mostShares}
 
--- so many colours never go beyond the share that gave them
+-- colours never go beyond the share that gave them
 in-proportion : (plan : Plan) (count : ℕ) → mostShares * firstColour plan count ≤ domainColours * sharesTotal plan count
 unfolding coloursOf firstColour sharesTotal sumTo
 in-proportion plan zero = omega arith

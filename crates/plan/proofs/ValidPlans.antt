@@ -1,11 +1,12 @@
--- What a plan that passes the check for 12 is known to satisfy, fact by fact. Assumes nothing.
+-- What a valid plan (12) is known to satisfy, fact by fact. Assumes nothing.
 use mathlib.Core.Path.{_≡_}
-use mathlib.Core.Bool.{Bool, true, false, cond, _&&_, and-eq-true-iff}
+use mathlib.Core.Bool.{Bool, true, false, cond, _&&_}
 use Prim.Native.Nat.{ℕ, _-_, _^_, _≤_, _<_}
 use native.Mathlib.Omega.{arith}
 use lib.Dec.{eqb, leb, ltb}
 use lib.ListN.{getD}
 use borrow.Author.Tests.{eqb-true, leb-true, ltb-true, lt-ltb, le-ltb, not-true}
+use Rattle.lists.proofs.Tests.{both}
 use Rattle.plan.specs.declared.Plan.{Plan}
 use Rattle.plan.specs.Colours.{coloursAt, maskAt, maskFor, maskOf, shareOf, sharesTotal}
 use Rattle.plan.specs.Validity.{countsValid, declaredValid, domainValid, maskValid, planValid, undeclaredValid, windowValid, within}
@@ -16,16 +17,12 @@ use Rattle.plan.specs.Limits.{leastLength, leastPad, mostDomains, mostLe
 use Rattle.plan.specs.Limits.{mostRun, mostRunTicks, mostShare, mostShares, mostWindows}
 use Rattle.plan.proofs.Sums.{all-below}
 
--- both halves of a test that passes
-pub both : (a b : Bool) → a && b ≡ true → (a ≡ true) × (b ≡ true)
-both a b h = and-eq-true-iff a b .0 h
-
 -- a number that passes a test of limits is within them
 pub limits : (low high number : ℕ) → within low high number ≡ true → (low ≤ number) × (number ≤ high)
 limits low high number h = let parts = both (leb low number) (leb number high) h in (leb-true _ _ (parts .0), leb-true _ _ (parts .1))
 
 -- the six parts of the check
-pub record Possible (plan : Plan) : Type 0 where
+pub record ValidParts (plan : Plan) : Type 0 where
   pub counts : countsValid plan ≡ true
   pub domains : allBelow (domainValid plan) mostDomains ≡ true
   pub shares : sharesTotal plan (plan .domains) ≤ mostShares
@@ -33,7 +30,7 @@ pub record Possible (plan : Plan) : Type 0 where
   pub windows : allBelow (windowValid plan) mostWindows ≡ true
   pub ticks : ticksTotal plan ≤ mostRunTicks
 
-pub parts : (plan : Plan) → planValid plan ≡ true → Possible plan
+pub parts : (plan : Plan) → planValid plan ≡ true → ValidParts plan
 unfolding planValid
 parts plan valid =
     let sixth = both _ _ valid in

@@ -16,9 +16,6 @@ use Rattle.plan.proofs.Sums.{sum-most}
 pub pad-least : (plan : Plan) → planValid plan ≡ true → leastPad ≤ plan .pad
 pad-least plan valid = counts plan valid .pad-least
 
-pub domains-positive : (plan : Plan) → planValid plan ≡ true → 0 < plan .domains
-domains-positive plan valid = counts plan valid .domains-least
-
 pub domains-most : (plan : Plan) → planValid plan ≡ true → plan .domains ≤ mostDomains
 domains-most plan valid = counts plan valid .domains-most
 
@@ -85,7 +82,7 @@ unfolding windowsTotal ticksTotal frame
 start-total plan valid = start-repeat plan (plan .run)
 
 -- a later window starts no earlier
-pub start-mono : (plan : Plan) (window more : ℕ) → windowStart plan window ≤ windowStart plan (window + more)
+start-mono : (plan : Plan) (window more : ℕ) → windowStart plan window ≤ windowStart plan (window + more)
 unfolding windowStart
 start-mono plan window zero = rw add-zero (omega arith)
 start-mono plan window (suc more) =

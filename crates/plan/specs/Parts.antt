@@ -44,15 +44,15 @@ windowsOf plan = record { count = plan .windows; owners = plan .owners; lengths 
 -- ---- a plan with one thing more
 
 -- a pad
-unfoldable pub withPad : Plan → ℕ → Plan
+abbrev pub withPad : Plan → ℕ → Plan
 withPad plan ticks = planFrom ticks (plan .run) (domainsOf plan) (windowsOf plan) (plan .masks)
 
 -- a run
-unfoldable pub withRun : Plan → ℕ → Plan
+abbrev pub withRun : Plan → ℕ → Plan
 withRun plan times = planFrom (plan .pad) times (domainsOf plan) (windowsOf plan) (plan .masks)
 
 -- a domain, at the next index
-unfoldable pub withDomain : Plan → ℕ → ℕ → Plan
+abbrev pub withDomain : Plan → ℕ → ℕ → Plan
 withDomain plan share rights =
     let next = plan .domains in
     let shares = set (plan .shares) next share in
@@ -61,7 +61,7 @@ withDomain plan share rights =
     planFrom (plan .pad) (plan .run) domains (windowsOf plan) (plan .masks)
 
 -- a window, at the next index
-unfoldable pub withWindow : Plan → ℕ → ℕ → Plan
+abbrev pub withWindow : Plan → ℕ → ℕ → Plan
 withWindow plan owner length =
     let next = plan .windows in
     let owners = set (plan .owners) next owner in

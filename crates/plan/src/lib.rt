@@ -31,7 +31,8 @@ pub struct Plan {
     pub masks: [u16; DOMAIN_ENTRIES],
 }
 
-// The plan of zeros alone, which no text gives: it stands beside a refusal, and a draft starts from it.
+// The plan of zeros alone, which no text gives: a refused reading hands it out, and a draft starts
+// from it.
 pub fn no_plan() -> Plan
     ensures { λ r. ⌜ r ≡ noPlan ⌝ }
 {

@@ -8,21 +8,23 @@ use lib.Dec.{eqb, ltb}
 use lib.ListN.{getD, length}
 use borrow.Author.Tests.{eqb-false, eqb-true, ltb-false, ltb-true}
 use Rattle.lists.specs.Part.{part, splice}
-use Rattle.lists.proofs.Parts.{part-length, part-splice, splice-after, splice-before, splice-length}
+use Rattle.lists.proofs.Parts.{part-length, part-same, part-splice, part-stored-before, splice-after, splice-before}
+use Rattle.lists.proofs.Parts.{splice-length}
 use Rattle.cache.specs.Access.{accessOf, lookupAt, lookupL1, lookupL2, lookupOf}
-use Rattle.cache.specs.Lines.{cleanEntry, dirtyEntry, holdsLine, l1Index, setOf, setIndex, tableLength, waysPerSet}
-use Rattle.cache.specs.Sets.{used}
-use Rattle.cache.proofs.Ways.{used-length}
+use Rattle.cache.specs.Lines.{cleanEntry, dirtyEntry, holdsLine, l1Index, l1Length, mostLine, setCount, setIndex, setOf}
+use Rattle.cache.specs.Lines.{tableLength, waysPerSet}
+use Rattle.cache.specs.Sets.{moveToFront}
+use Rattle.cache.proofs.Laws.{lookup-ways}
 use Rattle.state.specs.TableValidity.{setValid, waysValid}
 use Rattle.reachable.proofs.Cells.{cell-holds}
-use Rattle.reachable.proofs.Parts.{part-same, part-stored-before}
-use Rattle.reachable.proofs.Ways.{used-valid}
+use Rattle.reachable.proofs.Ways.{moved-valid}
 
 -- ---- a look
 
 module _ (writes : Bool) (line entry : ℕ) (ways : List ℕ) where
   -- the set is left as it was, or with the line used
-  look-ways : (Holds : List ℕ → Type 0) → Holds ways → Holds (used (cleanEntry line) ways) → Holds (lookupOf writes line entry ways .ways)
+  look-ways : (Holds : List ℕ → Type 0) → Holds ways → Holds (moveToFront (cleanEntry line) ways)
+      → Holds (lookupOf writes line entry ways .ways)
   unfolding lookupOf lookupL1 lookupL2
   look-ways Holds kept moved = go (holdsLine entry line)
     where
@@ -31,15 +33,18 @@ module _ (writes : Bool) (line entry : ℕ) (ways : List ℕ) where
       go false = moved
 
   -- a number that holds a line is the line's, clean or dirty
-  held : (Holds : ℕ → Type 0) → Holds (cleanEntry line) → Holds (dirtyEntry line) → holdsLine entry line ≡ true → Holds entry
+  held : (Holds : ℕ → Type 0) → Holds (cleanEntry line) → Holds (dirtyEntry line) → holdsLine entry line ≡ true
+      → Holds entry
   held Holds clean dirty holds = go (eqb entry (cleanEntry line)) refl holds
     where
-      go : (is-clean : Bool) → eqb entry (cleanEntry line) ≡ is-clean → (is-clean || eqb entry (dirtyEntry line)) ≡ true → Holds entry
+      go : (is-clean : Bool) → eqb entry (cleanEntry line) ≡ is-clean → (is-clean || eqb entry (dirtyEntry line)) ≡ true
+          → Holds entry
       go true test rest = subst Holds (sym (eqb-true entry (cleanEntry line) test)) clean
       go false test rest = subst Holds (sym (eqb-true entry (dirtyEntry line) rest)) dirty
 
   -- the L1 number that is left is the line's, clean or dirty
-  look-entry : (Holds : ℕ → Type 0) → Holds (cleanEntry line) → Holds (dirtyEntry line) → Holds (lookupOf writes line entry ways .entry)
+  look-entry : (Holds : ℕ → Type 0) → Holds (cleanEntry line) → Holds (dirtyEntry line)
+      → Holds (lookupOf writes line entry ways .entry)
   unfolding lookupOf lookupL1 lookupL2
   look-entry Holds clean dirty = go (holdsLine entry line) refl
     where
@@ -47,7 +52,8 @@ module _ (writes : Bool) (line entry : ℕ) (ways : List ℕ) where
       choice other here true = dirty
       choice other here false = here
 
-      go : (holds : Bool) → holdsLine entry line ≡ holds → Holds (cond holds (lookupL1 writes line entry ways) (lookupL2 writes line entry ways) .entry)
+      go : (holds : Bool) → holdsLine entry line ≡ holds
+          → Holds (cond holds (lookupL1 writes line entry ways) (lookupL2 writes line entry ways) .entry)
       go true test = choice entry (held Holds clean dirty test) writes
       go false test = choice (cleanEntry line) clean writes
 
@@ -66,10 +72,7 @@ module _ (writes : Bool) (line : ℕ) (table : List ℕ) (long : length table �
   setWritten = splice (setIndex (setOf line)) waysPerSet waysAfter table
 
   ways-length : length waysAfter ≡ waysPerSet
-  unfolding lookupAt
-  ways-length =
-      let four : length waysBefore ≡ waysPerSet = part-length (setIndex (setOf line)) waysPerSet table (omega arith) in
-      look-ways writes line _ waysBefore (λ left. length left ≡ waysPerSet) four (used-length (cleanEntry line) waysBefore ∙ four)
+  ways-length = lookup-ways writes line table long
 
   set-begins : setIndex (setOf line) ≤ length table
   set-begins = omega arith
@@ -80,7 +83,7 @@ module _ (writes : Bool) (line : ℕ) (table : List ℕ) (long : length table �
       (ways-length ∙ sym (part-length (setIndex (setOf line)) waysPerSet table (omega arith)))
 
   -- an L1 number is as it was, or, at the line's index, the line's, clean or dirty
-  pub access-index : (Holds : ℕ → Type 0) (index : ℕ) → index < 16
+  pub access-index : (Holds : ℕ → Type 0) (index : ℕ) → index < l1Length
       → Holds (getD table index 0)
       → (index ≡ l1Index line → Holds (cleanEntry line) × Holds (dirtyEntry line))
       → Holds (getD (accessOf writes line table .table) index 0)
@@ -95,15 +98,17 @@ module _ (writes : Bool) (line : ℕ) (table : List ℕ) (long : length table �
   pub access-here : part (setIndex (setOf line)) waysPerSet (accessOf writes line table .table) ≡ waysAfter
   unfolding accessOf
   access-here =
-      part-stored-before (setIndex (setOf line)) waysPerSet setWritten (l1Index line) (lookupAt writes line table .entry) (omega arith)
+      part-stored-before (setIndex (setOf line)) waysPerSet setWritten (l1Index line)
+      (lookupAt writes line table .entry) (omega arith)
       ∙ part-splice (setIndex (setOf line)) waysPerSet waysAfter table set-begins ways-length
 
   -- every other set is as it was
-  pub access-elsewhere : (set : ℕ) → set < 64 → (set ≡ setOf line → ⊥)
+  pub access-elsewhere : (set : ℕ) → set < setCount → (set ≡ setOf line → ⊥)
       → part (setIndex set) waysPerSet (accessOf writes line table .table) ≡ part (setIndex set) waysPerSet table
   unfolding accessOf
   access-elsewhere set below differs =
-      part-stored-before (setIndex set) waysPerSet setWritten (l1Index line) (lookupAt writes line table .entry) (omega arith)
+      part-stored-before (setIndex set) waysPerSet setWritten (l1Index line) (lookupAt writes line table .entry)
+      (omega arith)
       ∙ part-same (setIndex set) waysPerSet setWritten table
       (omega (arith, written-length)) (omega arith)
       (λ cell inside. go cell inside (ltb set (setOf line)) refl)
@@ -112,19 +117,24 @@ module _ (writes : Bool) (line : ℕ) (table : List ℕ) (long : length table �
           → getD setWritten (setIndex set + cell) 0 ≡ getD table (setIndex set + cell) 0
       go cell inside true test =
           let less = ltb-true set (setOf line) test in
-          splice-before (setIndex (setOf line)) waysPerSet waysAfter table set-begins (setIndex set + cell) (omega arith)
+          splice-before (setIndex (setOf line)) waysPerSet waysAfter table set-begins (setIndex set + cell)
+          (omega arith)
       go cell inside false test =
           let more = ltb-false set (setOf line) test in
-          splice-after (setIndex (setOf line)) waysPerSet waysAfter table set-begins (setIndex set + cell) ways-length (omega arith)
+          splice-after (setIndex (setOf line)) waysPerSet waysAfter table set-begins (setIndex set + cell) ways-length
+          (omega arith)
 
   -- sound sets stay sound
-  pub access-sets : line ≤ 4_095 → (set : ℕ) → set < 64 → setValid table set ≡ true → setValid table (setOf line) ≡ true
+  pub access-sets : line ≤ mostLine → (set : ℕ) → set < setCount → setValid table set ≡ true
+      → setValid table (setOf line) ≡ true
       → setValid (accessOf writes line table .table) set ≡ true
   unfolding setValid lookupAt
   access-sets small set below sound here = go (eqb set (setOf line)) refl
     where
-      go : (same : Bool) → eqb set (setOf line) ≡ same → waysValid set (part (setIndex set) waysPerSet (accessOf writes line table .table)) ≡ true
+      go : (same : Bool) → eqb set (setOf line) ≡ same
+          → waysValid set (part (setIndex set) waysPerSet (accessOf writes line table .table)) ≡ true
       go true test =
           rw (eqb-true set (setOf line) test, access-here)
-          (look-ways writes line _ waysBefore (λ left. waysValid (setOf line) left ≡ true) here (used-valid line waysBefore small here))
+          (look-ways writes line _ waysBefore (λ left. waysValid (setOf line) left ≡ true) here
+          (moved-valid line waysBefore small here))
       go false test = rw (access-elsewhere set below (eqb-false set (setOf line) test)) sound

@@ -6,7 +6,6 @@ pub mod Effects
 pub mod Ending
 pub mod Flushes
 pub mod Lines
-pub mod Parts
 pub mod StateReached
 pub mod Reached
 pub mod Tables

@@ -1,5 +1,5 @@
--- A sound cache table while a domain runs: its length, the lines that L1 may hold, and sound sets. An access of a line that the domain
--- may have leaves a sound table, and a table of zeros is sound. Assumes nothing.
+-- A sound cache table while a domain runs: its length, the lines that L1 may hold, and sound sets. An access of a line
+-- that the domain may have leaves a sound table, and a table of zeros is sound. Assumes nothing.
 use Prim.Native.Nat.{ℕ, suc, _+_, _-_, _≤_, _<_}
 use mathlib.Core.Bool.{Bool, true, false, cond, not}
 use mathlib.Core.List.{List, [], _∷_}
@@ -12,50 +12,60 @@ use Rattle.lists.specs.Part.{part}
 use Rattle.lists.proofs.Parts.{part-at, part-limit}
 use Rattle.plan.specs.declared.Plan.{Plan}
 use Rattle.cache.specs.Access.{accessOf}
-use Rattle.cache.specs.Lines.{cleanEntry, dirtyEntry, l1Index, setOf, setIndex, tableLength, waysPerSet}
+use Rattle.cache.specs.Lines.{cleanEntry, dirtyEntry, dirtyMark, l1Index, l1Length, mostLine, setCount, setIndex, setOf}
+use Rattle.cache.specs.Lines.{tableLength, waysPerSet}
 use Rattle.cache.proofs.Laws.{access-length}
 use Rattle.state.specs.declared.State.{State}
-use Rattle.state.specs.TableValidity.{allEmpty, entryValid, lineAllowed, entryLine, setValid, standsForLine, unmarked}
+use Rattle.state.specs.TableValidity.{allEmpty, entryValid, lineAllowed, entryLine, setValid, unmarked}
 use Rattle.state.specs.World.{endedOf, runningOf}
-use Rattle.machine.proofs.Tests.{both-pass, first-passes, second-passes}
+use Rattle.lists.proofs.Tests.{both-pass, first-passes, second-passes}
 use Rattle.reachable.proofs.Accesses.{access-index, access-sets}
 use Rattle.reachable.proofs.Cells.{cell-zeros, zeros-length}
-use Rattle.reachable.proofs.Ways.{empty-valid}
+use Rattle.reachable.proofs.Ways.{empty-valid, line-stands}
 
 pub record CacheValid (plan : Plan) (state : State) (cache : List ℕ) : Type 0 where
   pub long : length cache ≡ tableLength
-  pub lines : (index : ℕ) → index < 16 → entryValid plan state index (getD cache index 0) ≡ true
-  pub sets : (set : ℕ) → set < 64 → setValid cache set ≡ true
+  pub lines : (index : ℕ) → index < l1Length → entryValid plan state index (getD cache index 0) ≡ true
+  pub sets : (set : ℕ) → set < setCount → setValid cache set ≡ true
 
 -- ---- an access
 
-module _ (plan : Plan) (state : State) (running : endedOf plan state ≡ false) (line : ℕ) (small : line ≤ 4_095) (allowed : lineAllowed plan (runningOf plan state) line ≡ true) where
+module _ (plan : Plan) (state : State) (running : endedOf plan state ≡ false) (line : ℕ) (small : line ≤ mostLine)
+    (allowed : lineAllowed plan (runningOf plan state) line ≡ true) where
   -- a number whose line, without a dirty mark, is this one
   marked-valid : (entry : ℕ) → unmarked entry ≡ cleanEntry line → entryValid plan state (l1Index line) entry ≡ true
   marked-valid entry same =
-      let stands : standsForLine (cleanEntry line) ≡ true =
-      both-pass _ _ (le-leb 1 (cleanEntry line) (omega arith)) (le-leb (cleanEntry line) 4_096 (omega arith)) in
       let itself : entryLine (cleanEntry line) ≡ line = omega arith in
+      let here = both-pass _ _ (line-stands line small) (eq-eqb (l1Index line) (l1Index line) refl) in
       second-passes (eqb entry 0) _
-      (rw same (rw itself (both-pass _ _ (both-pass _ _ (both-pass _ _ stands (eq-eqb (l1Index line) (l1Index line) refl)) (ap not running)) allowed)))
+      (rw same (rw itself (both-pass _ _ (both-pass _ _ here allowed) (ap not running))))
 
   entries-valid : (index : ℕ) → index ≡ l1Index line
       → (entryValid plan state index (cleanEntry line) ≡ true) × (entryValid plan state index (dirtyEntry line) ≡ true)
   entries-valid index same =
-      let less : cleanEntry line < 32_768 = omega arith in
-      let more : 32_768 ≤ dirtyEntry line = omega arith in
-      let plain : dirtyEntry line - 32_768 ≡ cleanEntry line = omega arith in
+      let less : cleanEntry line < dirtyMark = omega arith in
+      let more : dirtyMark ≤ dirtyEntry line = omega arith in
+      let plain : dirtyEntry line - dirtyMark ≡ cleanEntry line = omega arith in
       rw same (
-        marked-valid (cleanEntry line) (ap (λ test. cond test (cleanEntry line - 32_768) (cleanEntry line)) (lt-leb 32_768 (cleanEntry line) less)),
-        marked-valid (dirtyEntry line) (ap (λ test. cond test (dirtyEntry line - 32_768) (dirtyEntry line)) (le-leb 32_768 (dirtyEntry line) more) ∙ plain),
+        marked-valid (cleanEntry line)
+            (ap (λ test. cond test (cleanEntry line - dirtyMark) (cleanEntry line))
+            (lt-leb dirtyMark (cleanEntry line) less)),
+        marked-valid (dirtyEntry line)
+            (ap (λ test. cond test (dirtyEntry line - dirtyMark) (dirtyEntry line))
+            (le-leb dirtyMark (dirtyEntry line) more)
+            ∙ plain),
       )
 
-  pub access-valid : (writes : Bool) (cache : List ℕ) → CacheValid plan state cache → CacheValid plan state (accessOf writes line cache .table)
+  pub access-valid : (writes : Bool) (cache : List ℕ) → CacheValid plan state cache
+      → CacheValid plan state (accessOf writes line cache .table)
   access-valid writes cache sound =
       record {
         long = access-length writes line cache ∙ sound .long;
-        lines = λ index below. access-index writes line cache (sound .long) (λ entry. entryValid plan state index entry ≡ true) index below (sound .lines index below) (entries-valid index);
-        sets = λ set below. access-sets writes line cache (sound .long) small set below (sound .sets set below) (sound .sets (setOf line) (omega arith));
+        lines = λ index below. access-index writes line cache (sound .long)
+            (λ entry.
+            entryValid plan state index entry ≡ true) index below (sound .lines index below) (entries-valid index);
+        sets = λ set below. access-sets writes line cache (sound .long) small set below (sound .sets set below)
+            (sound .sets (setOf line) (omega arith));
       }
 
 -- ---- empty cells
@@ -65,10 +75,12 @@ empty-cells : (ways : List ℕ) → ((cell : ℕ) → cell < length ways → get
 unfolding allEmpty
 empty-cells [] zeros = refl
 empty-cells (way ∷ ways) zeros =
-    both-pass (eqb way 0) (allEmpty ways) (eq-eqb way 0 (zeros 0 (omega arith))) (empty-cells ways (λ cell below. zeros (suc cell) (omega arith)))
+    both-pass (eqb way 0) (allEmpty ways) (eq-eqb way 0 (zeros 0 (omega arith)))
+    (empty-cells ways (λ cell below. zeros (suc cell) (omega arith)))
 
 -- a set whose cells are all 0 is sound
-pub zero-set : (cache : List ℕ) (set : ℕ) → ((way : ℕ) → way < waysPerSet → getD cache (setIndex set + way) 0 ≡ 0) → setValid cache set ≡ true
+pub zero-set : (cache : List ℕ) (set : ℕ) → ((way : ℕ) → way < waysPerSet → getD cache (setIndex set + way) 0 ≡ 0)
+    → setValid cache set ≡ true
 unfolding setValid
 zero-set cache set zeros =
     empty-valid set _
@@ -87,5 +99,6 @@ zeros-valid plan state =
     record {
       long = zeros-length tableLength;
       lines = λ index below. zero-entry plan state index _ (cell-zeros tableLength index);
-      sets = λ set below. zero-set (replicate tableLength 0) set (λ way inside. cell-zeros tableLength (setIndex set + way));
+      sets = λ set below. zero-set (replicate tableLength 0) set
+          (λ way inside. cell-zeros tableLength (setIndex set + way));
     }

@@ -12,7 +12,7 @@ use Rattle.plan.proofs.Sums.{below-all}
 use Rattle.state.specs.World.{World}
 use Rattle.state.specs.StateValidity.{clockValid, domainCountsValid, stateValid}
 use Rattle.machine.proofs.Schedule.{Scheduled, ended-clock}
-use Rattle.machine.proofs.Tests.{both-pass, cases-pass, choice-passes}
+use Rattle.lists.proofs.Tests.{both-pass, cases-pass, choice-passes}
 use Rattle.reachable.proofs.Counts.{Counted}
 
 -- in a window the clock is within its limits; ended, it is the run's total

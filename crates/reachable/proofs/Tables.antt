@@ -1,4 +1,4 @@
--- Every reached world has tables of the right lengths that pass the check for 13. Assumes nothing.
+-- Every reached world has tables of the right lengths that are valid (13). Assumes nothing.
 use Prim.Native.Nat.{ℕ, _<_}
 use mathlib.Core.Bool.{true}
 use mathlib.Core.List.{List}
@@ -6,13 +6,14 @@ use mathlib.Core.Path.{_≡_, _∙_}
 use native.Mathlib.Omega.{arith}
 use lib.ListN.{length}
 use lib.Seq.{length-sets}
-use borrow.Author.Tests.{eq-eqb, lt-leb}
+use borrow.Author.Tests.{lt-leb}
 use Rattle.plan.specs.declared.Plan.{Plan}
 use Rattle.plan.specs.Validity.{planValid}
 use Rattle.plan.specs.Windows.{windowsTotal}
 use Rattle.plan.proofs.Sums.{below-all}
 use Rattle.plan.proofs.Windows.{domains-most, owner-declared}
 use Rattle.script.specs.declared.Op.{Op}
+use Rattle.cache.specs.Lines.{l1Length, setCount}
 use Rattle.records.specs.declared.Observation.{Observation}
 use Rattle.records.specs.Records.{recordBytes, recordIndex, recordStored}
 use Rattle.ops.specs.Ops.{boxesLength}
@@ -23,9 +24,9 @@ use Rattle.machine.specs.Steps.{opStepOf, steps}
 use Rattle.machine.specs.Switch.{switchOf}
 use Rattle.machine.proofs.Fetched.{fetched-within}
 use Rattle.machine.proofs.Invariant.{Begins, steps-hold}
-use Rattle.machine.proofs.Tests.{both-pass, first-passes}
+use Rattle.lists.proofs.Tests.{both-pass}
 use Rattle.reachable.proofs.Cells.{cell-zeros, zeros-length}
-use Rattle.reachable.proofs.Effects.{BoxesValid, effect-valid}
+use Rattle.reachable.proofs.Effects.{BoxesValid, effect-valid, empty-box}
 use Rattle.reachable.proofs.Flushes.{flush-valid}
 use Rattle.reachable.proofs.Lines.{CacheValid, zeros-valid}
 
@@ -36,15 +37,22 @@ pub record Sound (plan : Plan) (logLength : ℕ) (world : World) : Type 0 where
   pub log : length (world .log) ≡ logLength
 
 -- a stored record leaves the log's length
-stored-length : (quota domain number : ℕ) (seen : Observation) (clock : ℕ) (log : List ℕ) → length (recordStored quota domain number seen clock log) ≡ length log
+stored-length : (quota domain number : ℕ) (seen : Observation) (clock : ℕ) (log : List ℕ)
+    → length (recordStored quota domain number seen clock log) ≡ length log
 unfolding recordStored
-stored-length quota domain number seen clock log = length-sets log (recordIndex quota domain number) (recordBytes seen clock)
+stored-length quota domain number seen clock log =
+    length-sets log (recordIndex quota domain number) (recordBytes seen clock)
 
 module _ (plan : Plan) (scripts : List ℕ) (quota logLength : ℕ) (possible : planValid plan ≡ true) where
-  after-switch : (world : World) → Sound plan logLength world → world .state .windows < windowsTotal plan → Sound plan logLength (switchOf plan world)
+  after-switch : (world : World) → Sound plan logLength world → world .state .windows < windowsTotal plan
+      → Sound plan logLength (switchOf plan world)
   unfolding switchOf
   after-switch world sound inWindow =
-      record { cache = flush-valid plan (world .state) _ (world .cache) (sound .cache); boxes = sound .boxes; log = sound .log }
+      record {
+        cache = flush-valid plan (world .state) _ (world .cache) (sound .cache);
+        boxes = sound .boxes;
+        log = sound .log;
+      }
 
   -- an op leaves the number of windows, on which alone it depends which lines L1 may hold
   after-op : (world : World) (op : Op) → Sound plan logLength world → Begins plan scripts quota world op
@@ -55,7 +63,8 @@ module _ (plan : Plan) (scripts : List ℕ) (quota logLength : ℕ) (possible : 
       let declared = owner-declared plan (world .state .windows) possible in
       let most = domains-most plan possible in
       let effect =
-      effect-valid plan (world .state) (lt-leb (windowsTotal plan) (world .state .windows) (begins .inWindow)) (world .cache) (world .boxes)
+      effect-valid plan (world .state) (lt-leb (windowsTotal plan) (world .state .windows) (begins .inWindow))
+      (world .cache) (world .boxes)
       (sound .cache)
       (sound .boxes)
       (omega arith)
@@ -73,17 +82,26 @@ module _ (plan : Plan) (scripts : List ℕ) (quota logLength : ℕ) (possible : 
   at-start log long =
       record {
         cache = zeros-valid plan _;
-        boxes = record { long = zeros-length boxesLength; full = λ place. first-passes _ _ (eq-eqb _ 0 (cell-zeros boxesLength place)) };
+        boxes =
+            record {
+              long = zeros-length boxesLength;
+              full = λ index. empty-box plan index _ (cell-zeros boxesLength index);
+            };
         log = long;
       }
 
   -- every world that a run reaches from a fresh start is sound
-  pub sound : (count : ℕ) (log : List ℕ) → length log ≡ logLength → Sound plan logLength (steps plan scripts quota count (freshWorld log))
-  sound count log long = steps-hold plan scripts quota (Sound plan logLength) after-switch after-op (freshWorld log) (at-start log long) count
+  pub sound : (count : ℕ) (log : List ℕ) → length log ≡ logLength
+      → Sound plan logLength (steps plan scripts quota count (freshWorld log))
+  sound count log long =
+      steps-hold plan scripts quota (Sound plan logLength) after-switch after-op (freshWorld log)
+      (at-start log long) count
 
--- a sound world passes the check
+-- a sound world has valid tables
 pub passes-tables : (plan : Plan) (logLength : ℕ) (world : World) → Sound plan logLength world
     → tablesValid plan (world .state) (world .cache) (world .boxes) ≡ true
 unfolding tablesValid l1EntryValid boxValid
 passes-tables plan logLength world sound =
-    both-pass _ _ (both-pass _ _ (below-all _ 16 (sound .cache .lines)) (below-all _ 64 (sound .cache .sets))) (below-all _ 64 (λ place below. sound .boxes .full place))
+    both-pass _ _
+    (both-pass _ _ (below-all _ setCount (sound .cache .sets)) (below-all _ l1Length (sound .cache .lines)))
+    (below-all _ boxesLength (λ index below. sound .boxes .full index))

@@ -1,4 +1,5 @@
--- An L2 set of any number of ways stays sound when a line of it is used: lines of this set, none twice, and no empty before a line. Assumes nothing.
+-- An L2 set of any number of ways stays sound when a line of it is used: lines of this set, none twice, and no empty
+-- before a line. Assumes nothing.
 use Prim.Native.Nat.{ℕ, _≤_}
 use mathlib.Core.Bool.{Bool, true, false, cond, not, _&&_, and-eq-true-iff, false≢true}
 use mathlib.Core.List.{List, [], _∷_}
@@ -7,10 +8,11 @@ use mathlib.Core.Path.{_≡_, refl, sym, ap, _∙_}
 use native.Mathlib.Omega.{arith}
 use lib.Dec.{eqb}
 use borrow.Author.Tests.{eq-eqb, eqb-true, le-leb, ne-eqb, not-true}
-use Rattle.cache.specs.Lines.{cleanEntry, setOf}
-use Rattle.cache.specs.Sets.{behind, has, used}
+use Rattle.cache.specs.Lines.{cleanEntry, mostLine, setOf}
+use Rattle.cache.specs.Sets.{has, moveToFront}
+use Rattle.cache.proofs.Ways.{behind, moved}
 use Rattle.state.specs.TableValidity.{allEmpty, entryLine, standsForLine, waysValid}
-use Rattle.machine.proofs.Tests.{both-pass, neither}
+use Rattle.lists.proofs.Tests.{both-pass, neither}
 
 -- ---- the first way of a sound set is empty and so are the others, or it is a line that the others lack
 
@@ -28,7 +30,8 @@ unfolding waysValid
 first-case set way ways sound = go (eqb way 0) refl sound
   where
     go : (empty : Bool) → eqb way 0 ≡ empty
-        → cond empty (allEmpty ways) (standsForLine way && eqb (setOf (entryLine way)) set && not (has way ways) && waysValid set ways) ≡ true
+        → cond empty (allEmpty ways)
+        (standsForLine way && eqb (setOf (entryLine way)) set && not (has way ways) && waysValid set ways) ≡ true
         → ((eqb way 0 ≡ true) × (allEmpty ways ≡ true)) ⊎ FirstLine set way ways
     go true test passed = inl (test, passed)
     go false test passed =
@@ -37,7 +40,8 @@ first-case set way ways sound = go (eqb way 0) refl sound
         let firsts = and-eq-true-iff line (not (has way ways)) .0 (parts .0) in
         inr (record { some = test; line = firsts .0; once = not-true _ (firsts .1); rest = parts .1 })
 
-first-empty : (set way : ℕ) (ways : List ℕ) → eqb way 0 ≡ true → allEmpty ways ≡ true → waysValid set (way ∷ ways) ≡ true
+first-empty : (set way : ℕ) (ways : List ℕ) → eqb way 0 ≡ true → allEmpty ways ≡ true
+    → waysValid set (way ∷ ways) ≡ true
 unfolding waysValid
 first-empty set way ways test empty = rw (test, waysValid) empty
 
@@ -56,7 +60,8 @@ empty-first way ways empty = and-eq-true-iff (eqb way 0) (allEmpty ways) .0 empt
 pub empty-valid : (set : ℕ) (ways : List ℕ) → allEmpty ways ≡ true → waysValid set ways ≡ true
 unfolding waysValid
 empty-valid set [] empty = refl
-empty-valid set (way ∷ ways) empty = let parts = empty-first way ways empty in first-empty set way ways (parts .0) (parts .1)
+empty-valid set (way ∷ ways) empty =
+    let parts = empty-first way ways empty in first-empty set way ways (parts .0) (parts .1)
 
 -- the ways behind the first of a sound set are sound
 rest-valid : (set way : ℕ) (ways : List ℕ) → waysValid set (way ∷ ways) ≡ true → waysValid set ways ≡ true
@@ -73,16 +78,19 @@ behind-case : (Holds : List ℕ → Type 0) (entry way next : ℕ) (ways : List 
 unfolding behind
 behind-case Holds entry way next ways found passed = go (eqb way entry) refl
   where
-    go : (same : Bool) → eqb way entry ≡ same → Holds (elim same [ true ↦ next ∷ ways | false ↦ way ∷ behind entry (next ∷ ways) ])
+    go : (same : Bool) → eqb way entry ≡ same
+        → Holds (elim same [ true ↦ next ∷ ways | false ↦ way ∷ behind entry (next ∷ ways) ])
     go true test = found test
     go false test = passed test
 
 -- they have nothing that the set lacks
-has-none : (entry way : ℕ) (ways : List ℕ) → has entry (way ∷ ways) ≡ false → (eqb way entry ≡ false) × (has entry ways ≡ false)
+has-none : (entry way : ℕ) (ways : List ℕ) → has entry (way ∷ ways) ≡ false
+    → (eqb way entry ≡ false) × (has entry ways ≡ false)
 unfolding has
 has-none entry way ways none = neither (eqb way entry) (has entry ways) none
 
-none-has : (entry way : ℕ) (ways : List ℕ) → eqb way entry ≡ false → has entry ways ≡ false → has entry (way ∷ ways) ≡ false
+none-has : (entry way : ℕ) (ways : List ℕ) → eqb way entry ≡ false → has entry ways ≡ false
+    → has entry (way ∷ ways) ≡ false
 unfolding has
 none-has entry way ways first rest = rw (first, has) rest
 
@@ -93,7 +101,8 @@ behind-lacks number entry (way ∷ []) none = refl
 behind-lacks number entry (way ∷ next ∷ ways) none =
     let parts = has-none number way (next ∷ ways) none in
     let rest = behind-lacks number entry (next ∷ ways) (parts .1) in
-    behind-case (λ left. has number left ≡ false) entry way next ways (λ found. parts .1) (λ passed. none-has number way (behind entry (next ∷ ways)) (parts .0) rest)
+    behind-case (λ left. has number left ≡ false) entry way next ways (λ found. parts .1)
+    (λ passed. none-has number way (behind entry (next ∷ ways)) (parts .0) rest)
 
 behind-empty : (entry : ℕ) (ways : List ℕ) → allEmpty ways ≡ true → allEmpty (behind entry ways) ≡ true
 unfolding behind allEmpty
@@ -102,7 +111,8 @@ behind-empty entry (way ∷ []) empty = refl
 behind-empty entry (way ∷ next ∷ ways) empty =
     let parts = empty-first way (next ∷ ways) empty in
     let rest = behind-empty entry (next ∷ ways) (parts .1) in
-    behind-case (λ left. allEmpty left ≡ true) entry way next ways (λ found. parts .1) (λ passed. both-pass (eqb way 0) _ (parts .0) rest)
+    behind-case (λ left. allEmpty left ≡ true) entry way next ways (λ found. parts .1)
+    (λ passed. both-pass (eqb way 0) _ (parts .0) rest)
 
 module _ (set entry : ℕ) (some : eqb entry 0 ≡ false) where
   -- the number itself does not stay behind: a sound set has it once
@@ -115,7 +125,8 @@ module _ (set entry : ℕ) (some : eqb entry 0 ≡ false) where
       behind-case (λ left. has entry left ≡ false) entry way next ways
       (λ found.
       let same = eqb-true way entry found in
-      ⊎-elim (λ empty. absurd (false≢true (sym some ∙ ap (λ n. eqb n 0) (sym same) ∙ empty .0))) (λ line. rw (← same) (line .once))
+      ⊎-elim (λ empty. absurd (false≢true (sym some ∙ ap (λ n. eqb n 0) (sym same) ∙ empty .0)))
+      (λ line. rw (← same) (line .once))
       (first-case set way (next ∷ ways) sound))
       (λ passed. none-has entry way (behind entry (next ∷ ways)) passed rest)
 
@@ -128,24 +139,38 @@ module _ (set entry : ℕ) (some : eqb entry 0 ≡ false) where
       let rest = behind-valid (next ∷ ways) after in
       behind-case (λ left. waysValid set left ≡ true) entry way next ways (λ found. after)
       (λ passed.
-      ⊎-elim (λ empty. first-empty set way (behind entry (next ∷ ways)) (empty .0) (behind-empty entry (next ∷ ways) (empty .1)))
+      ⊎-elim
+      (λ empty.
+      first-empty set way (behind entry (next ∷ ways)) (empty .0) (behind-empty entry (next ∷ ways) (empty .1)))
       (λ line.
       first-line set way (behind entry (next ∷ ways))
-      (record { some = line .some; line = line .line; once = behind-lacks way entry (next ∷ ways) (line .once); rest = rest }))
+      (record {
+        some = line .some;
+        line = line .line;
+        once = behind-lacks way entry (next ∷ ways) (line .once);
+        rest = rest;
+      }))
       (first-case set way (next ∷ ways) sound))
 
--- a sound set of any number of ways is sound once a line of it was used
-pub used-valid : (line : ℕ) (ways : List ℕ) → line ≤ 4_095 → waysValid (setOf line) ways ≡ true → waysValid (setOf line) (used (cleanEntry line) ways) ≡ true
-unfolding used
-used-valid line [] small sound = sound
-used-valid line (way ∷ ways) small sound =
+-- a number that stands for a line
+pub line-stands : (line : ℕ) → line ≤ mostLine → standsForLine (cleanEntry line) ≡ true
+line-stands line small =
+    both-pass _ _ (le-leb 1 (cleanEntry line) (omega arith))
+    (le-leb (cleanEntry line) (cleanEntry mostLine) (omega arith))
+
+-- a sound set of any number of ways is sound once a line of it is in front
+pub moved-valid : (line : ℕ) (ways : List ℕ) → line ≤ mostLine → waysValid (setOf line) ways ≡ true
+    → waysValid (setOf line) (moveToFront (cleanEntry line) ways) ≡ true
+unfolding moveToFront
+moved-valid line [] small sound = sound
+moved-valid line (way ∷ ways) small sound =
     let some : eqb (cleanEntry line) 0 ≡ false = ne-eqb (cleanEntry line) 0 (omega arith) in
     let same : entryLine (cleanEntry line) ≡ line = omega arith in
-    let stands : standsForLine (cleanEntry line) ≡ true = both-pass _ _ (le-leb 1 (cleanEntry line) (omega arith)) (le-leb (cleanEntry line) 4_096 (omega arith)) in
-    first-line (setOf line) (cleanEntry line) (behind (cleanEntry line) (way ∷ ways))
+    rw (moved (cleanEntry line) way ways)
+    (first-line (setOf line) (cleanEntry line) (behind (cleanEntry line) (way ∷ ways))
     (record {
       some = some;
-      line = both-pass _ _ stands (eq-eqb _ _ (ap setOf same));
+      line = both-pass _ _ (line-stands line small) (eq-eqb _ _ (ap setOf same));
       once = behind-once (setOf line) (cleanEntry line) some (way ∷ ways) sound;
       rest = behind-valid (setOf line) (cleanEntry line) some (way ∷ ways) sound;
-    })
+    }))

@@ -31,7 +31,7 @@ use Rattle.reader.proofs.HighBits.{high-off}
 use Rattle.reader.proofs.LastChecks.{Passes, coloured-each, mentions-none, passes}
 use Rattle.reader.proofs.Walking.{lines-good}
 use Rattle.reader.specs.declared.Draft.{Draft}
-use Rattle.reader.specs.Final.{finalVerdict, lacking, planWithMasks}
+use Rattle.reader.specs.Final.{finalVerdict, planWithMasks}
 use Rattle.reader.specs.Read.{ReadOutcome, linesOf, readOf, readVerdict, readWith}
 
 -- ---- tests
@@ -51,7 +51,6 @@ planOf draft = planWithMasks (draft .plan)
 module _ (draft : Draft) (good : GoodDraft draft) (fine : Passes draft) where
   -- nothing is lacking
   present : (draft .plan .pad ≡ 0 → ⊥) × (1 ≤ draft .plan .domains) × (1 ≤ draft .plan .windows) × (1 ≤ draft .plan .run)
-  unfolding lacking
   present =
       let third = neither (eqb (draft .plan .pad) 0 || eqb (draft .plan .domains) 0 || eqb (draft .plan .windows) 0) _ (fine .nothing-lacking) in
       let second = neither (eqb (draft .plan .pad) 0 || eqb (draft .plan .domains) 0) _ (third .0) in
@@ -125,7 +124,7 @@ module _ (draft : Draft) (good : GoodDraft draft) (fine : Passes draft) where
       let none = good .windows .no-window slot (ltb-false _ _ past) in
       both _ _ (eq-eqb _ _ (none .0)) (eq-eqb _ _ (none .1)))
 
-  pub passing-valid : planValid (planOf draft) ≡ true
+  passing-valid : planValid (planOf draft) ≡ true
   unfolding planWithMasks withMasks planValid sharesTotal ticksTotal
   passing-valid =
       both _ _ (both _ _ (both _ _ (both _ _ (both _ _

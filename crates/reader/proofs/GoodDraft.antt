@@ -1,16 +1,15 @@
 -- What the lines read so far are known to have given: counts within their limits, every declared domain and window a good one, and zeros past
 -- them; kept by each line that is taken up. Assumes nothing.
-use Prim.Native.Nat.{ℕ, _+_, _*_, _^_, _≤_, _<_}
+use Prim.Native.Nat.{ℕ, zero, suc, _+_, _*_, _^_, _≤_, _<_}
 use native.Mathlib.Omega.{arith}
 use mathlib.Core.Bool.{Bool, true, false}
 use mathlib.Core.List.{List}
 use mathlib.Core.Path.{_≡_, refl, _∙_}
 use lib.Dec.{eqb, leb, ltb}
-use lib.ListN.{length, getD, length-set, replicate, set, getD-replicate, length-replicate, List·getD-eq-default}
+use lib.ListN.{length, getD, length-set, replicate, set}
 use lib.Seq.{getD-set-other, getD-set-same}
 use borrow.Author.Tests.{leb-false, ltb-false, ltb-true}
 use Rattle.plan.specs.declared.Plan.{Plan}
-use Rattle.plan.specs.Parts.{withDomain, withPad, withRun, withWindow}
 use Rattle.plan.specs.Zeros.{noPlan}
 use Rattle.forms.proofs.GoodForm.{GoodForm}
 use Rattle.forms.specs.declared.DomainLine.{DomainLine}
@@ -170,16 +169,11 @@ module _ {plan : Plan} {named : List ℕ} (good : GoodPlan plan named) where
       go true e = good .windows .window slot (ltb-true _ _ e) .most
       go false e = let none = good .windows .no-window slot (ltb-false _ _ e) .1 in omega arith
 
--- an array of zeros
-zeros : (count index : ℕ) → _≡_ {A = ℕ} (getD (replicate count 0) index 0) 0
-zeros count index = go (ltb index count) refl
-  where
-    go : (test : Bool) → ltb index count ≡ test → _≡_ {A = ℕ} (getD (replicate count 0) index 0) 0
-    go true e = getD-replicate count index 0 0 (ltb-true index count e)
-    go false e =
-        let none : List ℕ = replicate count 0 in
-        let past : length none ≤ index = rw (length-replicate {A = ℕ} count 0) (ltb-false index count e) in
-        List·getD-eq-default none 0 past
+-- a list of zeros has 0 at every index, and past its end
+pub zeros : (count index : ℕ) → getD {A = ℕ} (replicate count 0) index 0 ≡ 0
+zeros zero index = refl
+zeros (suc count) zero = refl
+zeros (suc count) (suc index) = zeros count index
 
 pub draft-first : GoodDraft noDraft
 unfolding noDraft noPlan
@@ -216,7 +210,7 @@ module _ (draft : Draft) (store : List ℕ) (so-far : GoodDraft draft) where
   Kept result = GoodDraft (result .draft)
 
   pad-taken : (ticks bracket : ℕ) → leastPad ≤ ticks → ticks ≤ mostPad → Kept (takePad ticks bracket draft)
-  unfolding takePad withPad
+  unfolding takePad
   pad-taken ticks bracket low high =
       cond-holds Kept (eqb (draft .plan .pad) 0) _ _
       (λ _.
@@ -230,7 +224,7 @@ module _ (draft : Draft) (store : List ℕ) (so-far : GoodDraft draft) where
       (λ _. so-far)
 
   run-taken : (times bracket : ℕ) → times ≤ mostRun → Kept (takeRun times bracket draft)
-  unfolding takeRun withRun
+  unfolding takeRun
   run-taken times bracket high =
       cond-holds Kept (eqb (draft .plan .run) 0) _ _
       (λ _.
@@ -246,7 +240,7 @@ module _ (draft : Draft) (store : List ℕ) (so-far : GoodDraft draft) where
   domain-taken : (line : DomainLine) (marked : List ℕ) → draft .plan .domains ≤ lastDomain → leastShare ≤ line .share
       → line .share ≤ mostShare → Recorded (draft .plan .domains) (line .rights) (draft .named) marked
       → Kept (takeDomain line marked draft)
-  unfolding takeDomain withDomain
+  unfolding takeDomain
   domain-taken line marked next low high recorded =
       record {
         pad-least = so-far .pad-least;
@@ -258,7 +252,7 @@ module _ (draft : Draft) (store : List ℕ) (so-far : GoodDraft draft) where
 
   window-taken : (line : WindowLine) (bracket : ℕ) → GoodWindow (draft .plan .domains) (line .owner) (line .length)
       → Kept (takeWindow line bracket draft)
-  unfolding takeWindow withWindow
+  unfolding takeWindow
   window-taken line bracket fresh =
       cond-holds Kept (leb mostWindows (draft .plan .windows)) _ _
       (λ _. so-far)

@@ -28,7 +28,7 @@ use Rattle.reader.specs.Read.{draftLine, linesOf, walkFrom}
 
 -- ---- a line that is taken up
 
-pub next-good : (text : List ℕ) (at : ℕ) (draft : Draft) → GoodDraft draft → at < length text
+next-good : (text : List ℕ) (at : ℕ) (draft : Draft) → GoodDraft draft → at < length text
     → GoodLine text (draft .plan .domains) (draft .named) at (draftLine text at draft)
 next-good text at draft so-far below =
     line-good text (draft .plan .domains) (draft .named) at (so-far .domains .named-size) (omega arith)
@@ -63,7 +63,7 @@ walk-line lines text at draft store line outcome below is came =
     (ap (λ (l : Line). afterLine text lines l (takeLine l draft store)) (sym is) ∙ ap (afterLine text lines line) (sym came))
 
 module _ (text : List ℕ) (lines : ℕ) (line : Line) (draft : Draft) (store : List ℕ) where
-  pub after-accepted : (verdict : Verdict) → verdict ≡ Accepted
+  after-accepted : (verdict : Verdict) → verdict ≡ Accepted
       → walkFrom lines text (line .end + 1) draft store
       ≡ afterLine text lines line (record { verdict = verdict; draft = draft; store = store })
   after-accepted Accepted known = refl

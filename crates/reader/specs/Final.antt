@@ -18,7 +18,7 @@ use Rattle.refusal.specs.declared.Verdict.the-variants.{Accepted, Refused}
 use Rattle.reader.specs.declared.Draft.{Draft}
 
 -- 5: no pad, domain, window or run
-unfoldable pub lacking : Plan → Bool
+abbrev pub lacking : Plan → Bool
 lacking plan = eqb (plan .pad) 0 || eqb (plan .domains) 0 || eqb (plan .windows) 0 || eqb (plan .run) 0
 
 -- the offsets at which the text first names, as recipients, the domains from `domain` on, `left` in number.

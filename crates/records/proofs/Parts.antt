@@ -2,9 +2,11 @@
 use Prim.Native.Nat.{ℕ, _*_, _/_, _≤_}
 use native.Mathlib.Nat.{div-mul-le-self, mul-left-comm}
 use Rattle.plan.specs.declared.Plan.{Plan}
-use Rattle.records.specs.Records.{partRecords}
+use Rattle.records.specs.Records.{partRecords, recordSize}
 
 -- the parts of all declared domains lie within the log
-pub parts-fit : (plan : Plan) (size : ℕ) → 8 * (partRecords plan size * plan .domains) ≤ size
+pub parts-fit : (plan : Plan) (size : ℕ) → recordSize * (partRecords plan size * plan .domains) ≤ size
 unfolding partRecords
-parts-fit plan size = rw (mul-left-comm 8 (size / (8 * plan .domains)) (plan .domains)) (div-mul-le-self size (8 * plan .domains))
+parts-fit plan size =
+    rw (mul-left-comm recordSize (size / (recordSize * plan .domains)) (plan .domains))
+    (div-mul-le-self size (recordSize * plan .domains))

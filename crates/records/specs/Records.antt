@@ -1,11 +1,13 @@
--- Document 01, "What a domain sees": the kinds and values of records, their bytes, and the parts of the log. Assumes nothing.
+-- Document 01, "What a domain sees": the kinds and values of records, their bytes, and the parts of
+-- the log. Assumes nothing.
 use Prim.Native.Nat.{ℕ, _+_, _*_, _/_, _%_}
 use mathlib.Core.List.{List, [], _∷_}
 use lib.Seq.{sets}
 use Rattle.lists.specs.Part.{part}
 use Rattle.plan.specs.declared.Plan.{Plan}
 use Rattle.records.specs.declared.Observation.{Observation}
-use Rattle.records.specs.declared.Observation.the-variants.{Hit1, Hit2, Miss, Sent, Got, Empty, Denied, Ran, Barred}
+use Rattle.records.specs.declared.Observation.the-variants.{Hit1, Hit2, Miss, Sent, Got}
+use Rattle.records.specs.declared.Observation.the-variants.{Empty, Denied, Ran, Barred}
 
 -- each kind of record has a number, 1 to 9
 abbrev pub recordKind : Observation → ℕ
@@ -19,7 +21,8 @@ recordKind (Denied other) = 7
 recordKind (Ran ticks) = 8
 recordKind (Barred line) = 9
 
--- a record's value: the line that was asked for, the recipient, the word, the other domain of an empty box or of a denied op, or the ticks
+-- a record's value: the line that was asked for, the recipient, the word, the other domain of an
+-- empty box or of a denied op, or the ticks
 abbrev pub recordValue : Observation → ℕ
 recordValue (Hit1 line) = line
 recordValue (Hit2 line) = line
@@ -31,11 +34,16 @@ recordValue (Denied other) = other
 recordValue (Ran ticks) = ticks
 recordValue (Barred line) = line
 
--- the byte of a number at a place, little end first
+-- the byte of a number that counts units: ones, 256s and so on
 abbrev pub byteOf : ℕ → ℕ → ℕ
 byteOf unit number = number / unit % 256
 
--- a record's eight bytes: one for the kind, one that is 0, two for the value, four for the clock once the op is done; low bytes come first
+-- how many bytes a record has
+abbrev pub recordSize : ℕ
+recordSize = 8
+
+-- those bytes: one for the kind, one that is 0, two for the value, four for the clock after the op;
+-- low bytes come first
 unfoldable pub recordBytes : Observation → ℕ → List ℕ
 recordBytes seen clock =
     recordKind seen
@@ -48,21 +56,19 @@ recordBytes seen clock =
     ∷ byteOf 16_777_216 clock
     ∷ []
 
--- how many bytes a record has
-abbrev pub recordSize : ℕ
-recordSize = 8
-
--- the log is divided evenly among the declared domains: the whole records that each part has room for
+-- the log is divided evenly among the declared domains: the whole records that each part has room
+-- for
 unfoldable pub partRecords : Plan → ℕ → ℕ
 partRecords plan logLength = logLength / (recordSize * plan .domains)
 
--- the parts follow each other in domain order: the place of a domain's record, by its number
+-- the parts follow each other in domain order: where a domain's record begins, by its number
 abbrev pub recordIndex : ℕ → ℕ → ℕ → ℕ
 recordIndex quota domain number = recordSize * (quota * domain + number)
 
--- the log with one record recordStored
+-- the log with one record stored
 unfoldable pub recordStored : ℕ → ℕ → ℕ → Observation → ℕ → List ℕ → List ℕ
-recordStored quota domain number seen clock log = sets log (recordIndex quota domain number) (recordBytes seen clock)
+recordStored quota domain number seen clock log =
+    sets log (recordIndex quota domain number) (recordBytes seen clock)
 
 -- a domain's own log: the bytes of the records that it has so far, from the start of its part
 unfoldable pub logPart : ℕ → ℕ → ℕ → List ℕ → List ℕ

@@ -1,10 +1,15 @@
 // What a domain sees: the records of it, and the log that holds them.
+pub mod limits;
+
+use crate::limits::RECORD_SIZE;
 ghost use mathlib.Core.Path.{_≡_};
-ghost use Prim.Native.Nat.{_+_, _*_, _≤_, _<_};
+ghost use Prim.Native.Nat.{_+_, _≤_, _<_};
 ghost use lib.ListN.{length};
 ghost use lib.Seq.{sets};
 ghost use Rattle.plan.specs.declared.Plan.{Plan};
-ghost use Rattle.records.specs.Records.{recordKind, partRecords, recordBytes, recordStored, recordValue};
+ghost use Rattle.plan.specs.Limits.{mostDomains};
+ghost use Rattle.records.specs.Records.{partRecords, recordBytes, recordIndex, recordKind};
+ghost use Rattle.records.specs.Records.{recordSize, recordStored, recordValue};
 
 // What an op shows the domain that runs it, with the value that its record keeps.
 pub enum Observation {
@@ -53,9 +58,9 @@ pub fn record_value(seen: Observation) -> u32
     }
 }
 
-// Writes a record's eight bytes at a place of the log.
+// Writes a record's bytes from an index of the log on.
 fn write_record(log: &mut [u8], at: usize, seen: Observation, clock: u64)
-    requires { ⌜ at + 8 ≤ length (now log) ⌝ }
+    requires { ⌜ at + recordSize ≤ length (now log) ⌝ }
     ensures { λ _. ⌜ now (log .exit) ≡ sets (now (log .entry)) at (recordBytes seen clock) ⌝ }
 {
     let value = record_value(seen);
@@ -78,18 +83,21 @@ pub fn store_record(
     seen: Observation,
     clock: u64,
 )
-    requires { ⌜ 8 * (quota * domain + number) + 8 ≤ length (now log) ⌝ }
-    ensures { λ _. ⌜ now (log .exit) ≡ recordStored quota domain number seen clock (now (log .entry)) ⌝ }
+    requires { ⌜ recordIndex quota domain number + recordSize ≤ length (now log) ⌝ }
+    ensures { λ _. ⌜ now (log .exit)
+        ≡ recordStored quota domain number seen clock (now (log .entry)) ⌝ }
 {
-    let at = 8 * (quota * domain + number);
+    let at = RECORD_SIZE * (quota * domain + number);
     write_record(log, at as usize, seen, clock);
 }
 
 // The number of records that each domain's part of a log holds.
 pub fn part_records(domains: u32, log_length: usize) -> u64
-    requires { ⌜ (0 < domains) × (domains ≤ 8) ⌝ }
-    ensures { λ r. ⌜ ((plan : Plan) → plan .domains ≡ domains → r ≡ partRecords plan «log_length») ⌝ }
+    requires { ⌜ (0 < domains) × (domains ≤ mostDomains) ⌝ }
+    ensures { λ r. ⌜ ((plan : Plan)
+        → plan .domains ≡ domains
+        → r ≡ partRecords plan «log_length») ⌝ }
 {
-    let size = 8 * (domains as u64);
+    let size = RECORD_SIZE * (domains as u64);
     (log_length as u64) / size
 }

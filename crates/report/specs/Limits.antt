@@ -23,12 +23,9 @@ mostKindWord = 6
 abbrev pub mostSeenLine : ℕ
 mostSeenLine = 13 + mostKindWord + 3 * mostDecimal
 
--- the most bytes of the last line, and of a refusal's
+-- the most bytes of the last line: 8 besides its two numbers
 abbrev pub mostEndLine : ℕ
 mostEndLine = 8 + 2 * mostDecimal
-
-abbrev pub mostRefusalLine : ℕ
-mostRefusalLine = 12 + 2 * mostDecimal
 
 -- the most bytes that it prints: a line for each record that its log has room for, and the last
 -- line

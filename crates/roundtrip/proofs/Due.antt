@@ -12,10 +12,11 @@ use Rattle.lists.specs.Ascii.{bytesOf}
 use Rattle.lists.specs.Part.{part}
 use Rattle.refusal.specs.declared.Refusal.{Refusal}
 use Rattle.syntax.specs.declared.TokenParse.{TokenParse}
-use Rattle.syntax.specs.declared.TokenParse.the-variants.{To}
+use Rattle.syntax.specs.declared.TokenParse.the-variants.{To, Refused}
 use Rattle.syntax.specs.declared.NumberParse.{NumberParse}
-use Rattle.syntax.specs.declared.NumberParse.the-variants.{Number as Is}
-use Rattle.syntax.specs.Tokens.{closeOf, isWord, lineEndOf, numberToken, openOf, passClose, passLineEnd, passOpen, passWord, sameBytes, takeNumber, then, thenNumber, wordOf}
+use Rattle.syntax.specs.declared.NumberParse.the-variants.{Number as Is, Refused as RefusedNumber}
+use Rattle.syntax.specs.Brackets.{bracketedNumber, passHead}
+use Rattle.syntax.specs.Tokens.{isWord, passClose, passLineEnd, passOpen, passWord, sameBytes, takeNumber, then, thenNumber}
 use Rattle.lexer.specs.Bytes.{endsRun, isLetter}
 use Rattle.lexer.specs.Decimal.{decimalOf}
 use Rattle.lexer.specs.Scan.{allBytes}
@@ -45,17 +46,17 @@ same-self (byte ∷ word) = rw (eq-eqb byte byte refl, same-self word)
 module _ (text : List ℕ) (at : ℕ) where
   pub open-goes : (rest : List ℕ) → drop at text ≡ 40 ∷ rest → Goes text rest (passOpen text at)
   unfolding passOpen
-  open-goes rest left = record { end = at + 1; to = ap openOf (open-token text at rest left); left = left-next text at 40 rest left }
+  open-goes rest left = record { end = at + 1; to = rw (open-token text at rest left); left = left-next text at 40 rest left }
 
   pub close-goes : (rest : List ℕ) → drop at text ≡ 41 ∷ rest → Goes text rest (passClose text at)
   unfolding passClose
-  close-goes rest left = record { end = at + 1; to = ap closeOf (close-token text at rest left); left = left-next text at 41 rest left }
+  close-goes rest left = record { end = at + 1; to = rw (close-token text at rest left); left = left-next text at 41 rest left }
 
   -- a line ends before the LF that the next one follows, or with the text
   pub line-end-goes : (more : List (List ℕ)) → drop at text ≡ followed more → Goes text (followed more) (passLineEnd text at)
   unfolding passLineEnd followed bytesOf
-  line-end-goes [] left = record { end = at; to = ap lineEndOf (end-token text at left); left = left }
-  line-end-goes (line ∷ more) left = record { end = at; to = ap lineEndOf (feed-token text at (line ++ followed more) left); left = left }
+  line-end-goes [] left = record { end = at; to = rw (end-token text at left); left = left }
+  line-end-goes (line ∷ more) left = record { end = at; to = rw (feed-token text at (line ++ followed more) left); left = left }
 
   -- the bytes of the word that is left, compared with another
   pub word-compared :
@@ -76,9 +77,7 @@ module _ (text : List ℕ) (at : ℕ) where
   word-goes word rest left some letters ends =
       record {
         end = at + length word;
-        to =
-            ap (wordOf text word) (word-token text at word rest left some letters ends)
-            ∙ rw (word-compared word rest word left, same-self word);
+        to = rw (word-token text at word rest left some letters ends, word-compared word rest word left, same-self word);
         left = left-past text at word rest left;
       }
 
@@ -98,8 +97,11 @@ module _ (text : List ℕ) (at : ℕ) where
         start = at + 1;
         end = at + 1 + length (decimalOf number);
         is =
-            ap (numberToken low high) (token-space text at _ left ∙ number-token text (at + 1) number rest next (omega arith) ends)
-            ∙ rw (le-leb low number least, le-leb number high most);
+            rw (
+              token-space text at _ left ∙ number-token text (at + 1) number rest next (omega arith) ends,
+              le-leb low number least,
+              le-leb number high most,
+            );
         left = left-past text (at + 1) (decimalOf number) rest next;
       }
 
@@ -114,3 +116,34 @@ pub then-takes :
     {A : Type 0} {text rest : List ℕ} {value : ℕ} {taken : NumberParse} (due : Takes text rest value taken) (refused : Refusal → A) (go : ℕ → ℕ → ℕ → A)
     → thenNumber taken refused go ≡ go value (due .start) (due .end)
 then-takes due refused go = ap (λ (taken : NumberParse). thenNumber taken refused go) (due .is)
+
+-- ---- what stands in brackets of its own
+
+module _ (text : List ℕ) (at : ℕ) (word rest : List ℕ) (some : 0 < length word) (letters : allBytes isLetter word ≡ true) where
+  pub head-goes : drop at text ≡ 40 ∷ word ++ rest → stopsAt endsRun rest ≡ true → Goes text rest (passHead text word at)
+  unfolding passHead
+  head-goes left ends =
+      let opened = open-goes text at (word ++ rest) left in
+      let worded = word-goes text (opened .end) word rest (opened .left) some letters ends in
+      record { end = worded .end; to = then-goes opened Refused (passWord text word) ∙ worded .to; left = worded .left }
+
+pub bracketed-takes :
+    (text : List ℕ) (at : ℕ) (word : List ℕ) (low high number : ℕ) (rest : List ℕ)
+    → 0 < length word
+    → allBytes isLetter word ≡ true
+    → drop at text ≡ 40 ∷ word ++ 32 ∷ (decimalOf number ++ 41 ∷ rest)
+    → low ≤ number
+    → number ≤ high
+    → high < 10_000_000_000
+    → Takes text rest number (bracketedNumber text word low high at)
+unfolding bracketedNumber
+bracketed-takes text at word low high number rest some letters left least most small =
+    let worded = head-goes text at word _ some letters left refl in
+    let taken = number-takes text (worded .end) low high number (41 ∷ rest) (worded .left) least most small refl in
+    let closed = close-goes text (taken .end) rest (taken .left) in
+    record {
+      start = taken .start;
+      end = closed .end;
+      is = then-goes worded RefusedNumber _ ∙ then-takes taken RefusedNumber _ ∙ then-goes closed RefusedNumber _;
+      left = closed .left;
+    }

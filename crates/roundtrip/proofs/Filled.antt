@@ -12,12 +12,6 @@ firstEntries zero (number ∷ array) = 0 ∷ firstEntries zero array
 firstEntries (suc count) [] = []
 firstEntries (suc count) (number ∷ array) = number ∷ firstEntries count array
 
--- a list of zeros has 0 at every index, and past its end
-pub zeros : (count index : ℕ) → getD {A = ℕ} (replicate count 0) index 0 ≡ 0
-zeros zero index = refl
-zeros (suc count) zero = refl
-zeros (suc count) (suc index) = zeros count index
-
 -- before the first index is filled
 pub filled-none : (array : List ℕ) → firstEntries 0 array ≡ replicate (length array) 0
 unfolding firstEntries

@@ -14,7 +14,8 @@ use Rattle.plan.specs.Colours.{coloursAt, maskAt, maskOf, masksFrom, sharesTota
 use Rattle.plan.specs.Validity.{planValid, windowValid}
 use Rattle.plan.specs.Windows.{ticksTotal}
 use Rattle.plan.proofs.MaskLists.{mask-alike}
-use Rattle.plan.proofs.ValidPlans.{both, counts, declared, parts, undeclared}
+use Rattle.lists.proofs.Tests.{both}
+use Rattle.plan.proofs.ValidPlans.{counts, declared, parts, undeclared}
 use Rattle.plan.proofs.Sums.{all-below}
 use Rattle.refusal.specs.declared.Verdict.the-variants.{Accepted}
 use Rattle.plan.specs.Zeros.{noPlan}
@@ -107,7 +108,6 @@ none-colourless plan valid (suc left) domain all =
 
 -- nothing is lacking
 none-lacking : (plan : Plan) → planValid plan ≡ true → lacking (unmasked plan) ≡ false
-unfolding lacking
 none-lacking plan valid =
     let count = counts plan valid in
     rw (

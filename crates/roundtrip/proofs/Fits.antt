@@ -63,7 +63,7 @@ domain-most plan domain =
 
 -- ---- the text
 
--- lines of at most so many bytes, each after its LF
+-- lines of bounded length, each after its LF
 lines-most :
     (line : ℕ → List ℕ) (most : ℕ)
     → ((index : ℕ) → length (line index) < most)

@@ -4,7 +4,6 @@ pub mod Lines
 pub mod Forms
 pub mod Bits
 pub mod Recipients
-pub mod Rising
 pub mod Domains
 pub mod Filled
 pub mod Walk

@@ -14,7 +14,7 @@ use Rattle.plan.specs.Colours.{shareOf}
 use Rattle.plan.specs.Validity.{planValid}
 use Rattle.plan.specs.Rights.{rightsAt}
 use Rattle.plan.proofs.ValidPlans.{counts, declared, declared-window}
-use Rattle.plan.specs.Parts.{planFrom, withDomain, withPad, withRun, withWindow}
+use Rattle.plan.specs.Parts.{planFrom}
 use Rattle.plan.specs.Limits.{mostDomains, mostWindows}
 use Rattle.reader.specs.Draft.{DraftOutcome, noOps, outcomeOf, takeDomain, takeForm, takePad, takeRun, takeWindow, taken}
 use Rattle.roundtrip.specs.Lines.{domainLine, linesFrom, padLine, planLines, runLine, windowLine}
@@ -37,7 +37,7 @@ module _ (plan : Plan) (named : List ℕ) (bracket : ℕ) where
   pad-taken :
       takeForm (Pad (plan .pad)) bracket named (draftWith (soFar plan 0 0 0 0) named) noOps
       ≡ outcomeOf (taken (draftWith (soFar plan (plan .pad) 0 0 0) named)) noOps
-  unfolding takePad withPad
+  unfolding takePad
   pad-taken = refl
 
   domain-taken :
@@ -45,7 +45,7 @@ module _ (plan : Plan) (named : List ℕ) (bracket : ℕ) where
       → takeForm (Domain (record { share = shareOf plan domain; rights = rightsAt plan domain })) bracket later
       (draftWith (soFar plan pad 0 domain 0) named) noOps
       ≡ outcomeOf (taken (draftWith (soFar plan pad 0 (domain + 1) 0) later)) noOps
-  unfolding takeDomain withDomain
+  unfolding takeDomain
   domain-taken pad domain later = rw (filled-more domain (plan .shares), filled-more domain (plan .rights))
 
   window-taken :
@@ -54,14 +54,14 @@ module _ (plan : Plan) (named : List ℕ) (bracket : ℕ) where
       → takeForm (Window (record { owner = getD (plan .owners) slot 0; length = getD (plan .lengths) slot 0 })) bracket named
       (draftWith (soFar plan pad 0 domains slot) named) noOps
       ≡ outcomeOf (taken (draftWith (soFar plan pad 0 domains (slot + 1)) named)) noOps
-  unfolding takeWindow withWindow
+  unfolding takeWindow
   window-taken pad domains slot few = rw (lt-leb mostWindows slot few, filled-more slot (plan .owners), filled-more slot (plan .lengths))
 
   run-taken :
       (pad domains windows : ℕ)
       → takeForm (Run (plan .run)) bracket named (draftWith (soFar plan pad 0 domains windows) named) noOps
       ≡ outcomeOf (taken (draftWith (soFar plan pad (plan .run) domains windows) named)) noOps
-  unfolding takeRun withRun
+  unfolding takeRun
   run-taken pad domains windows = refl
 
 -- ---- line by line

@@ -13,11 +13,11 @@ use Rattle.plan.specs.Limits.{mostDomains, mostTextBytes}
 use Rattle.refusal.specs.declared.Verdict.{Verdict}
 use Rattle.refusal.specs.declared.Verdict.the-variants.{Accepted}
 use Rattle.reader.specs.Draft.{DraftOutcome, noDraft, noOps, outcomeOf, taken}
+use Rattle.reader.proofs.GoodDraft.{zeros}
 use Rattle.reader.specs.Read.{linesOf, readOf, readVerdict, readWith}
 use Rattle.roundtrip.specs.Lines.{planLines, planText}
 use Rattle.roundtrip.specs.Accepted.{Shaped}
 use Rattle.roundtrip.proofs.Final.{accepted, masks-kept, read-all, read-none, unmasked}
-use Rattle.roundtrip.proofs.Filled.{zeros}
 use Rattle.roundtrip.proofs.Fits.{text-fits}
 use Rattle.roundtrip.proofs.Progress.{plan-stands, soFar}
 use Rattle.roundtrip.proofs.Walk.{Ended, Stands, draftWith, no-line}

@@ -12,10 +12,12 @@ use lib.Seq.{getD-set-other}
 use borrow.Author.Tests.{le-leb, ne-eqb}
 use Rattle.lists.specs.Ascii.{bytesOf}
 use Rattle.plan.specs.Colours.{hasBit}
+use Rattle.script.specs.Limits.{lastDomain}
 use Rattle.syntax.specs.declared.TokenParse.the-variants.{To}
 use Rattle.syntax.specs.declared.RecipientParse.the-variants.{Next, Done}
 use Rattle.syntax.specs.declared.RecipientList.{RecipientList}
-use Rattle.syntax.specs.Recipients.{mention, recipientAt, recipientOf, recipientsAt, recipientsFrom}
+use Rattle.syntax.specs.Recipients.{mention, nextRecipient, recipientAt, recipientsAt, recipientsFrom}
+use Rattle.syntax.specs.Tokens.{passClose, takeNumber}
 use Rattle.lexer.specs.Bytes.{endsRun}
 use Rattle.lexer.specs.Decimal.{decimalOf}
 use Rattle.lexer.proofs.Scanned.{close-token, left-next, left-past, stopsAt, token-space}
@@ -67,12 +69,12 @@ module _ (text rest : List ℕ) (declared own rights : ℕ) (few : declared ≤ 
 
   -- past the last domain stands the bracket
   last : FromLeft 0
-  unfolding risingFrom spaced recipientsFrom recipientAt
+  unfolding risingFrom spaced recipientsFrom recipientAt passClose
   last domain zero at named all enough left quiet = absurd (not-suc-le-zero enough)
   last domain (suc turns) at named all enough left quiet =
       let eight : domain ≡ 8 = omega arith in
       let whole : rights % 2 ^ domain ≡ rights = rw eight (bits-all rights declared small few) in
-      let done : recipientAt text own (rights % 2 ^ domain) at ≡ Done (at + 1) = ap (recipientOf own (rights % 2 ^ domain)) (close-token text at rest left) in
+      let done : recipientAt text own (rights % 2 ^ domain) at ≡ Done (at + 1) = rw (close-token text at rest left) in
       record { end = at + 1; named = named; is = rw (done, recipientsFrom, whole); left = left-next text at 41 rest left; quiet = quiet }
 
   -- a recipient that is listed
@@ -82,12 +84,16 @@ module _ (text rest : List ℕ) (declared own rights : ℕ) (few : declared ≤ 
       → hasBit rights domain ≡ true
       → drop at text ≡ 32 ∷ (decimalOf domain ++ (spaced more ++ 41 ∷ rest))
       → recipientAt text own (rights % 2 ^ domain) at ≡ Next domain (at + 1) (at + 1 + length (decimalOf domain))
-  unfolding recipientAt
+  unfolding recipientAt nextRecipient passClose takeNumber
   next-at domain at more below has left =
       let other : (domain ≡ own → ⊥) = λ same. false≢true (sym not-own ∙ (rw (← same) has)) in
-      ap (recipientOf own (rights % 2 ^ domain))
-      (token-space text at _ left ∙ number-token text (at + 1) domain _ (left-next text at 32 _ left) (omega arith) (spaced-ends more rest))
-      ∙ rw (le-leb domain 7 (omega arith), ne-eqb domain own other, bit-new rights domain)
+      rw (
+        token-space text at _ left ∙ number-token text (at + 1) domain _ (left-next text at 32 _ left) (omega arith) (spaced-ends more rest),
+        le-leb 0 domain (omega arith),
+        le-leb domain lastDomain (omega arith),
+        ne-eqb domain own other,
+        bit-new rights domain,
+      )
 
   -- one domain more: listed, or passed over
   listed :

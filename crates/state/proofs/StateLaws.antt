@@ -1,10 +1,11 @@
--- Laws of the check for 14: the clock in a window and after the last. Assumes nothing.
+-- Laws of state validity: the clock in a window and after the last. Assumes nothing.
 use mathlib.Core.Path.{_≡_}
 use mathlib.Core.Bool.{true, false, _&&_}
-use Prim.Native.Nat.{ℕ, _+_, _≤_, _<_}
+use Prim.Native.Nat.{ℕ, _+_, _-_, _≤_, _<_}
 use lib.Dec.{eqb, leb, ltb}
 use borrow.Author.Tests.{lt-ltb, le-ltb}
 use Rattle.plan.specs.declared.Plan.{Plan}
+use Rattle.plan.specs.Limits.{dearestOp}
 use Rattle.plan.specs.Windows.{windowEnd, windowLength, windowStart, ticksTotal, windowsTotal}
 use Rattle.state.specs.declared.State.{State}
 use Rattle.state.specs.StateValidity.{clockValid}
@@ -16,7 +17,7 @@ pub clock-in-window :
     → state .windows < total
     → start ≡ windowStart plan (state .windows)
     → length ≡ windowLength plan (state .windows)
-    → leb start (state .clock) && leb (state .clock) (start + length + 212) ≡ clockValid plan state
+    → leb start (state .clock) && leb (state .clock) (start + length + (dearestOp - 1)) ≡ clockValid plan state
 unfolding clockValid windowEnd
 clock-in-window plan state total start length totals within starts lasts =
     let test : ltb (state .windows) (windowsTotal plan) ≡ true = lt-ltb _ _ (rw totals at within) in

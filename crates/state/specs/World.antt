@@ -5,6 +5,7 @@ use mathlib.Core.List.{List}
 use lib.Dec.{leb}
 use lib.ListN.{getD, replicate}
 use Rattle.plan.specs.declared.Plan.{Plan}
+use Rattle.plan.specs.Limits.{mostDomains}
 use Rattle.plan.specs.Windows.{windowOwner, windowsTotal}
 use Rattle.state.specs.declared.State.{State}
 
@@ -15,7 +16,7 @@ pub record World : Type 0 where
   pub boxes : List ℕ
   pub log : List ℕ
 
--- a domain's place in its script, and its number of records
+-- a domain's position in its script, and its number of records
 abbrev pub positionAt : State → ℕ → ℕ
 positionAt state domain = getD (state .positions) domain 0
 
@@ -32,4 +33,10 @@ endedOf plan state = leb (windowsTotal plan) (state .windows)
 
 -- the state of a fresh start
 unfoldable pub freshState : State
-freshState = record { windows = 0; clock = 0; positions = replicate 8 0; records = replicate 8 0 }
+freshState =
+    record {
+      windows = 0;
+      clock = 0;
+      positions = replicate mostDomains 0;
+      records = replicate mostDomains 0;
+    }

@@ -1,7 +1,9 @@
-// The small state of a run, and the checks of what is lent beside a plan: a state that is possible (14), a cache table and boxes that are sound (13).
+// The small state of a run, and the validity of what is lent beside a plan: the cache table and the
+// boxes (13), and the state (14).
 pub mod state_validity;
 pub mod table_validity;
 
+use plan::limits::DOMAIN_ENTRIES;
 ghost use mathlib.Core.Path.{_≡_};
 ghost use Rattle.state.specs.World.{freshState};
 
@@ -10,10 +12,10 @@ pub struct State {
     // windows completed
     pub windows: u64,
     pub clock: u64,
-    // each domain's place in its script
-    pub positions: [u64; 8],
+    // each domain's position in its script
+    pub positions: [u64; DOMAIN_ENTRIES],
     // each domain's number of records
-    pub records: [u64; 8],
+    pub records: [u64; DOMAIN_ENTRIES],
 }
 
 // The state of a fresh start.
@@ -23,7 +25,7 @@ pub fn fresh_state() -> State
     State {
         windows: 0,
         clock: 0,
-        positions: [0; 8],
-        records: [0; 8],
+        positions: [0; DOMAIN_ENTRIES],
+        records: [0; DOMAIN_ENTRIES],
     }
 }

@@ -1,28 +1,40 @@
-// The check for 13: whether a lent cache table and lent boxes are sound.
+// Table validity (13): of a lent cache table and lent boxes.
 use crate::State;
+use cache::limits::DIRTY_MARK;
+use cache::limits::KERNEL_COLOUR;
+use cache::limits::L1_LENGTH;
+use cache::limits::MOST_LINE;
+use cache::limits::SET_COUNT;
+use cache::limits::SETS_PER_COLOUR;
+use cache::limits::WAYS_PER_SET;
+use ops::limits::BOXES_LENGTH;
 use plan::Plan;
+use plan::limits::DOMAIN_ENTRIES;
 use plan::sharing::has_bit;
 use plan::timing::window_owner;
 use plan::timing::windows_total;
+use script::limits::MOST_WORD;
 ghost use mathlib.Core.Path.{_≡_};
-ghost use mathlib.Core.Bool.{not, true, _&&_};
+ghost use mathlib.Core.Bool.{true};
 ghost use Prim.Native.Nat.{_+_, _<_};
-ghost use lib.Dec.{eqb};
 ghost use lib.ListN.{drop, getD, length};
 ghost use Rattle.plan.specs.Colours.{maskAt};
 ghost use Rattle.plan.specs.Validity.{planValid};
 ghost use Rattle.plan.specs.Sums.{allBelow};
-ghost use Rattle.cache.specs.Lines.{setOf};
+ghost use Rattle.cache.specs.Lines.{l1Length, setCount, tableLength};
 ghost use Rattle.cache.specs.Sets.{has};
-ghost use Rattle.state.specs.TableValidity.{allEmpty, boxValid, l1EntryValid, entryLine, setValid, standsForLine, tablesValid, unmarked, waysValid};
+ghost use Rattle.ops.specs.Ops.{boxesLength};
+ghost use Rattle.state.specs.TableValidity.{allEmpty, boxValid, l1EntryValid, setValid};
+ghost use Rattle.state.specs.TableValidity.{standsForLine, tablesValid, unmarked, wayValid};
+ghost use Rattle.state.specs.TableValidity.{waysValid};
 ghost use Rattle.state.specs.World.{endedOf, runningOf};
 
 // An L1 number without its dirty mark.
 fn without_mark(entry: u16) -> u16
     ensures { λ r. ⌜ r ≡ unmarked entry ⌝ }
 {
-    if 32_768 <= entry {
-        entry - 32_768
+    if DIRTY_MARK <= entry {
+        entry - DIRTY_MARK
     } else {
         entry
     }
@@ -32,13 +44,16 @@ fn without_mark(entry: u16) -> u16
 fn is_line(entry: u16) -> bool
     ensures { λ r. ⌜ r ≡ standsForLine entry ⌝ }
 {
-    (1 <= entry) & (entry <= 4_096)
+    (1 <= entry) & (entry <= MOST_LINE + 1)
 }
 
-// Whether an L1 number is sound, by whether the run has ended and by the running domain's mask.
+// Whether an L1 number is valid, by whether the run has ended and by the running domain's mask.
 fn l1_entry_valid(cache: &[u16], index: usize, ended: bool, mask: u16) -> bool
     requires { ⌜ index < length (now cache) ⌝ }
-    ensures { λ r. ⌜ ((plan : Plan) (state : State) → endedOf plan state ≡ ended → maskAt plan (runningOf plan state) ≡ mask → r ≡ l1EntryValid plan state (now (cache .entry)) index) ⌝ }
+    ensures { λ r. ⌜ ((plan : Plan) (state : State)
+        → endedOf plan state ≡ ended
+        → maskAt plan (runningOf plan state) ≡ mask
+        → r ≡ l1EntryValid plan state (now (cache .entry)) index) ⌝ }
 {
     let entry = cache[index];
     if entry == 0 {
@@ -48,20 +63,22 @@ fn l1_entry_valid(cache: &[u16], index: usize, ended: bool, mask: u16) -> bool
     if !is_line(number) {
         return false;
     }
-    let line = number - 1;
-    let colour = line % 64 / 4;
+    let line = (number - 1) as usize;
+    let colour = line % SET_COUNT / SETS_PER_COLOUR;
     let owned = has_bit(mask as u32, colour as u32);
-    let place = (line % 16) as usize;
-    (place == index) & !ended & (owned | (colour == 15))
+    (line % L1_LENGTH == index) & (owned | (colour == KERNEL_COLOUR)) & !ended
 }
 
-// Whether every L1 number is sound.
+// Whether every L1 number is valid.
 fn l1_valid(cache: &[u16], ended: bool, mask: u16) -> bool
-    requires { ⌜ length (now cache) ≡ 272 ⌝ }
-    ensures { λ r. ⌜ ((plan : Plan) (state : State) → endedOf plan state ≡ ended → maskAt plan (runningOf plan state) ≡ mask → r ≡ allBelow (l1EntryValid plan state (now (cache .entry))) 16) ⌝ }
+    requires { ⌜ length (now cache) ≡ tableLength ⌝ }
+    ensures { λ r. ⌜ ((plan : Plan) (state : State)
+        → endedOf plan state ≡ ended
+        → maskAt plan (runningOf plan state) ≡ mask
+        → r ≡ allBelow (l1EntryValid plan state (now (cache .entry))) l1Length) ⌝ }
 {
     let mut index = 0;
-    while index < 16 {
+    while index < L1_LENGTH {
         if !l1_entry_valid(cache, index, ended, mask) {
             return false;
         }
@@ -99,9 +116,10 @@ fn has_entry(ways: &[u16], entry: u16) -> bool
 }
 
 // Whether a full way of a set is a line of this set that no way behind it repeats.
-fn way_valid(ways: &[u16], way: usize, set: u16) -> bool
+fn way_valid(ways: &[u16], way: usize, set: usize) -> bool
     requires { ⌜ way < length (now ways) ⌝ }
-    ensures { λ r. ⌜ r ≡ (standsForLine (getD (now (ways .entry)) way 0) && eqb (setOf (entryLine (getD (now (ways .entry)) way 0))) set && not (has (getD (now (ways .entry)) way 0) (drop (way + 1) (now (ways .entry))))) ⌝ }
+    ensures { λ r. ⌜ r
+        ≡ wayValid set (getD (now (ways .entry)) way 0) (drop (way + 1) (now (ways .entry))) ⌝ }
 {
     let entry = ways[way];
     if !is_line(entry) {
@@ -109,11 +127,11 @@ fn way_valid(ways: &[u16], way: usize, set: u16) -> bool
     }
     let next = way + 1;
     let repeated = has_entry(&ways[next..], entry);
-    ((entry - 1) % 64 == set) & !repeated
+    ((entry - 1) as usize % SET_COUNT == set) & !repeated
 }
 
-// Whether the ways of a set, of any number, are sound.
-fn ways_valid(ways: &[u16], set: u16) -> bool
+// Whether the ways of a set, of any number, are valid.
+fn ways_valid(ways: &[u16], set: usize) -> bool
     ensures { λ r. ⌜ r ≡ waysValid set (now (ways .entry)) ⌝ }
 {
     let mut way = 0;
@@ -130,12 +148,13 @@ fn ways_valid(ways: &[u16], set: u16) -> bool
     true
 }
 
-// Whether a set is sound. Most sets are empty: that is seen in one test, before the ways are walked.
-fn set_valid(cache: &[u16], set: u16) -> bool
-    requires { ⌜ (length (now cache) ≡ 272) × (set < 64) ⌝ }
+// Whether a set is valid. Most sets are empty: that is seen in one test, before the ways are
+// walked.
+fn set_valid(cache: &[u16], set: usize) -> bool
+    requires { ⌜ (length (now cache) ≡ tableLength) × (set < setCount) ⌝ }
     ensures { λ r. ⌜ r ≡ setValid (now (cache .entry)) set ⌝ }
 {
-    let from = 16 + 4 * (set as usize);
+    let from = L1_LENGTH + WAYS_PER_SET * set;
     if (cache[from] == 0)
         & (cache[from + 1] == 0)
         & (cache[from + 2] == 0)
@@ -143,17 +162,17 @@ fn set_valid(cache: &[u16], set: u16) -> bool
     {
         return true;
     }
-    let to = from + 4;
+    let to = from + WAYS_PER_SET;
     ways_valid(&cache[from..to], set)
 }
 
-// Whether every set is sound.
+// Whether every set is valid.
 fn sets_valid(cache: &[u16]) -> bool
-    requires { ⌜ length (now cache) ≡ 272 ⌝ }
-    ensures { λ r. ⌜ r ≡ allBelow (setValid (now (cache .entry))) 64 ⌝ }
+    requires { ⌜ length (now cache) ≡ tableLength ⌝ }
+    ensures { λ r. ⌜ r ≡ allBelow (setValid (now (cache .entry))) setCount ⌝ }
 {
     let mut set = 0;
-    while set < 64 {
+    while set < SET_COUNT {
         if !set_valid(cache, set) {
             return false;
         }
@@ -162,39 +181,45 @@ fn sets_valid(cache: &[u16]) -> bool
     true
 }
 
-// Whether a box is sound.
-fn box_valid(rights: &[u32; 8], boxes: &[u32], place: usize) -> bool
-    requires { ⌜ (length (now boxes) ≡ 64) × (place < 64) ⌝ }
-    ensures { λ r. ⌜ ((plan : Plan) → plan .rights ≡ now (rights .entry) → r ≡ boxValid plan (now (boxes .entry)) place) ⌝ }
+// Whether a box is valid.
+fn box_valid(rights: &[u32; DOMAIN_ENTRIES], boxes: &[u32], index: usize) -> bool
+    requires { ⌜ (length (now boxes) ≡ boxesLength) × (index < boxesLength) ⌝ }
+    ensures { λ r. ⌜ ((plan : Plan)
+        → plan .rights ≡ now (rights .entry)
+        → r ≡ boxValid plan (now (boxes .entry)) index) ⌝ }
 {
-    let number = boxes[place];
+    let number = boxes[index];
     if number == 0 {
         return true;
     }
-    let sender = place / 8;
-    let recipient = place % 8;
+    let sender = index / DOMAIN_ENTRIES;
+    let recipient = index % DOMAIN_ENTRIES;
     let may = has_bit(rights[sender], recipient as u32);
-    (number <= 65_536) & may
+    (number <= MOST_WORD + 1) & may
 }
 
-// Whether every box is sound.
-fn boxes_valid(rights: &[u32; 8], boxes: &[u32]) -> bool
-    requires { ⌜ length (now boxes) ≡ 64 ⌝ }
-    ensures { λ r. ⌜ ((plan : Plan) → plan .rights ≡ now (rights .entry) → r ≡ allBelow (boxValid plan (now (boxes .entry))) 64) ⌝ }
+// Whether every box is valid.
+fn boxes_valid(rights: &[u32; DOMAIN_ENTRIES], boxes: &[u32]) -> bool
+    requires { ⌜ length (now boxes) ≡ boxesLength ⌝ }
+    ensures { λ r. ⌜ ((plan : Plan)
+        → plan .rights ≡ now (rights .entry)
+        → r ≡ allBelow (boxValid plan (now (boxes .entry))) boxesLength) ⌝ }
 {
-    let mut place = 0;
-    while place < 64 {
-        if !box_valid(rights, boxes, place) {
+    let mut index = 0;
+    while index < BOXES_LENGTH {
+        if !box_valid(rights, boxes, index) {
             return false;
         }
-        place += 1;
+        index += 1;
     }
     true
 }
 
-// Whether a lent cache table and lent boxes are sound beside a state.
+// Whether a lent cache table and lent boxes are valid beside a state.
 pub fn tables_valid(plan: Plan, state: State, cache: &[u16], boxes: &[u32]) -> bool
-    requires { ⌜ (planValid plan ≡ true) × (length (now cache) ≡ 272) × (length (now boxes) ≡ 64) ⌝ }
+    requires { ⌜ (planValid plan ≡ true)
+        × (length (now cache) ≡ tableLength)
+        × (length (now boxes) ≡ boxesLength) ⌝ }
     ensures { λ r. ⌜ r ≡ tablesValid plan state (now (cache .entry)) (now (boxes .entry)) ⌝ }
 {
     let total = windows_total(plan);
@@ -202,8 +227,8 @@ pub fn tables_valid(plan: Plan, state: State, cache: &[u16], boxes: &[u32]) -> b
     let owner = window_owner(plan, windows) as usize;
     let masks = plan.masks;
     let rights = plan.rights;
-    let l1 = l1_valid(cache, total <= windows, masks[owner]);
     let l2 = sets_valid(cache);
+    let l1 = l1_valid(cache, total <= windows, masks[owner]);
     let full = boxes_valid(&rights, boxes);
-    l1 & l2 & full
+    l2 & l1 & full
 }

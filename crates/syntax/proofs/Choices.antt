@@ -1,10 +1,16 @@
--- Tests and the choices that they make: two tests that both fail, a test that cannot pass, and a choice by whether two numbers are equal.
--- Assumes nothing.
+-- Tests and the choices that they make: what holds of both choices, two tests that both fail, a test that cannot pass, and a choice by
+-- whether two numbers are equal. Assumes nothing.
 use Prim.Native.Nat.{ℕ}
 use mathlib.Core.Bool.{Bool, true, false, _||_, true≢false}
 use mathlib.Core.Path.{_≡_, refl}
 use lib.Dec.{eqb}
 use borrow.Author.Tests.{eqb-false, eqb-true}
+
+-- `cond-holds` of crate lexer for a choice that computes only the branch it takes
+pub choice-holds : {A : Type 0} (P : A → Type 0) (test : Bool) (a b : A) → (test ≡ true → P a) → (test ≡ false → P b)
+    → P (elim test [ true ↦ a | false ↦ b ])
+choice-holds P true a b f g = f refl
+choice-holds P false a b f g = g refl
 
 pub neither : (a b : Bool) → (a || b) ≡ false → (a ≡ false) × (b ≡ false)
 neither true b e = absurd (true≢false e)

@@ -11,9 +11,10 @@ use lib.Seq.{getD-set-other, getD-set-same}
 use borrow.Author.Tests.{eqb-false, eqb-true}
 use Rattle.plan.proofs.Bits.{zero-no-bit}
 use Rattle.plan.specs.Colours.{hasBit}
+use Rattle.plan.specs.Limits.{mostDomains}
 use Rattle.lexer.proofs.Reached.{cond-holds}
 use Rattle.syntax.proofs.Choices.{is-false, same-or-not}
-use Rattle.syntax.proofs.Listing.{Fresh, Listed, next-listed}
+use Rattle.syntax.proofs.Listing.{Fresh, Listed, recipient-listed}
 use Rattle.syntax.proofs.NewBit.{new-bit-most, new-bit-other}
 use Rattle.syntax.specs.declared.TokenParse.{TokenParse}
 use Rattle.syntax.specs.declared.TokenParse.the-variants.{To, Refused}
@@ -61,7 +62,7 @@ mention-noted named recipient start within =
 -- the domain `own` has listed `rights`, and `marked` notes them beside what `named` did
 pub record Recorded (own rights : ℕ) (named marked : List ℕ) : Type 0 where
   pub size : length marked ≡ length named
-  pub small : rights < 2 ^ 8
+  pub small : rights < 2 ^ mostDomains
   pub not-own : hasBit rights own ≡ false
   pub noted : Noted rights marked
   pub keeps : Keeps named marked
@@ -76,15 +77,15 @@ recorded-first own named =
       keeps = λ other gone. gone;
     }
 
-recorded-next : (text : List ℕ) (own rights at recipient start end : ℕ) (named marked : List ℕ) → length named ≡ 8
+recorded-next : (text : List ℕ) (own rights at recipient start end : ℕ) (named marked : List ℕ) → length named ≡ mostDomains
     → Fresh text own rights at recipient start end → Recorded own rights named marked
     → Recorded own (rights + 2 ^ recipient) named (mention marked recipient start)
 recorded-next text own rights at recipient start end named marked eight fresh so-far =
-    let below : recipient < 8 = omega (arith, fresh .domain) in
+    let below : recipient < mostDomains = omega (arith, fresh .domain) in
     let within : recipient < length marked = omega (arith, so-far .size) in
     record {
       size = mention-length marked recipient start ∙ so-far .size;
-      small = new-bit-most rights 8 recipient (so-far .small) below (fresh .unlisted);
+      small = new-bit-most rights mostDomains recipient (so-far .small) below (fresh .unlisted);
       not-own = is-false _ (λ has. false≢true (sym (so-far .not-own)
           ∙ new-bit-other rights recipient own (fresh .unlisted) has (λ same. fresh .other (sym same))));
       noted = λ other has gone. same-or-not other recipient
@@ -101,12 +102,12 @@ GoodPassed own at named rights marked (Refused refusal) = Unit {0}
 abbrev pub GoodList : ℕ → ℕ → List ℕ → RecipientList → Type 0
 GoodList own at named list = GoodPassed own at named (list .rights) (list .named) (list .passed)
 
-rest-good : (turns : ℕ) (text : List ℕ) (own rights first at : ℕ) (named marked : List ℕ) → length named ≡ 8 → first ≤ at
+rest-good : (turns : ℕ) (text : List ℕ) (own rights first at : ℕ) (named marked : List ℕ) → length named ≡ mostDomains → first ≤ at
     → Recorded own rights named marked → GoodList own first named (recipientsFrom turns text own rights marked at)
 unfolding recipientsFrom
 rest-good zero text own rights first at named marked eight past so-far = tt
 rest-good (suc turns) text own rights first at named marked eight past so-far =
-    go (recipientAt text own rights at) (next-listed text own rights at)
+    go (recipientAt text own rights at) (recipient-listed text own rights at)
     (λ recipient start end fresh.
     rest-good turns text own (rights + 2 ^ recipient) first end named (mention marked recipient start) eight
     (omega (arith, fresh .least, fresh .some))
@@ -128,6 +129,6 @@ rest-good (suc turns) text own rights first at named marked eight past so-far =
     go (Done end) h again = (omega arith, so-far)
     go (RefusedRecipient refusal) h again = tt
 
-pub list-good : (text : List ℕ) (own : ℕ) (named : List ℕ) (at : ℕ) → length named ≡ 8 → GoodList own at named (recipientsAt text own named at)
+pub list-good : (text : List ℕ) (own : ℕ) (named : List ℕ) (at : ℕ) → length named ≡ mostDomains → GoodList own at named (recipientsAt text own named at)
 unfolding recipientsAt
 list-good text own named at eight = rest-good (length text) text own 0 at at named named eight (omega arith) (recorded-first own named)

@@ -11,7 +11,7 @@ use lib.Seq.{drop-cons}
 use borrow.Author.Tests.{eq-eqb, ne-eqb}
 use Rattle.syntax.specs.Tokens.{sameBytes}
 
--- two lists of bytes from a place on
+-- two lists of bytes from an offset on
 unfoldable pub sameFrom : List ℕ → List ℕ → ℕ → Bool
 sameFrom one other i = sameBytes (drop i one) (drop i other)
 

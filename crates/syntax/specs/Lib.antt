@@ -1,3 +1,5 @@
 pub mod Tokens
+pub mod Keywords
 pub mod Ops
+pub mod Brackets
 pub mod Recipients

@@ -1,59 +1,61 @@
--- Document 01, "The plan text": an op's word and the numbers after it; their limits, of "What an op costs", are crate script's. `at` is the offset
--- that is reached. Assumes nothing.
+-- Document 01, "The plan text": an op's word and the numbers after it; their limits, of "What an op
+-- costs", are crate script's. Assumes nothing.
 use Prim.Native.Nat.{ℕ}
-use mathlib.Core.Bool.{cond}
-use mathlib.Core.List.{List}
-use Rattle.lists.specs.Ascii.{bytesOf}
+use mathlib.Core.List.{List, [], _∷_}
 use Rattle.refusal.specs.declared.Refusal.{Refusal}
-use Rattle.refusal.specs.declared.Refusal.the-variants.{BrokenShape}
 use Rattle.script.specs.declared.Op.{Op}
 use Rattle.script.specs.declared.Op.the-variants.{Read, Write, Send, Receive, Compute}
 use Rattle.script.specs.Limits.{lastDomain, leastTicks, mostNumber, mostTicks, mostWord}
-use Rattle.lexer.specs.declared.Token.{Token}
-use Rattle.lexer.specs.declared.Token.the-variants.{LineEnd, Open, Close, Word, Number, LongNumber, Other}
-use Rattle.lexer.specs.Tokens.{tokenAt}
-use Rattle.syntax.specs.declared.OpKeyword.{OpKeyword}
-use Rattle.syntax.specs.declared.OpKeyword.the-variants.{Read as ReadWord, Write as WriteWord, Send as SendWord}
-use Rattle.syntax.specs.declared.OpKeyword.the-variants.{Receive as ReceiveWord, Compute as ComputeWord, Refused as RefusedOpWord}
+use Rattle.syntax.specs.declared.NumberOp.{NumberOp}
+use Rattle.syntax.specs.declared.NumberOp.the-variants.{Read as ReadOp, Write as WriteOp}
+use Rattle.syntax.specs.declared.NumberOp.the-variants.{Receive as ReceiveOp}
+use Rattle.syntax.specs.declared.NumberOp.the-variants.{Compute as ComputeOp}
 use Rattle.syntax.specs.declared.OpParse.{OpParse}
 use Rattle.syntax.specs.declared.OpParse.the-variants.{Op as Took, Refused as RefusedOp}
-use Rattle.syntax.specs.Tokens.{isWord, takeNumber, thenNumber}
+use Rattle.syntax.specs.Keywords.{Keyword, on, oneOf}
+use Rattle.syntax.specs.Tokens.{takeNumber, thenNumber}
 
--- which of the five words stands there
-abbrev pub opKeywordFor : List ℕ → ℕ → ℕ → OpKeyword
-opKeywordFor text start end =
-    cond (isWord text start end (bytesOf "read")) (ReadWord end)
-    (cond (isWord text start end (bytesOf "write")) (WriteWord end)
-    (cond (isWord text start end (bytesOf "send")) (SendWord end)
-    (cond (isWord text start end (bytesOf "receive")) (ReceiveWord end)
-    (cond (isWord text start end (bytesOf "compute")) (ComputeWord end) (RefusedOpWord (BrokenShape start))))))
+-- an op of one number
+unfoldable pub numberOp : List ℕ → ℕ → ℕ → (ℕ → Op) → ℕ → OpParse
+numberOp text low high op at =
+    thenNumber (takeNumber text low high at) RefusedOp λ value start end.
+    Took (op value) end
 
--- a word was due
-abbrev pub opKeywordOf : List ℕ → Token → OpKeyword
-opKeywordOf text (LineEnd at) = RefusedOpWord (BrokenShape at)
-opKeywordOf text (Open at) = RefusedOpWord (BrokenShape at)
-opKeywordOf text (Close at) = RefusedOpWord (BrokenShape at)
-opKeywordOf text (Word start end) = opKeywordFor text start end
-opKeywordOf text (Number start end value) = RefusedOpWord (BrokenShape start)
-opKeywordOf text (LongNumber start end) = RefusedOpWord (BrokenShape start)
-opKeywordOf text (Other start end) = RefusedOpWord (BrokenShape start)
+-- a send: its recipient, which needn't be declared, and its word
+unfoldable pub sendOp : List ℕ → ℕ → OpParse
+sendOp text at =
+    thenNumber (takeNumber text 0 lastDomain at) RefusedOp λ recipient start end.
+    numberOp text 0 mostWord (Send recipient) end
 
--- the same of the next token from an offset on
-unfoldable pub opKeywordAt : List ℕ → ℕ → OpKeyword
-opKeywordAt text at = opKeywordOf text (tokenAt text at)
+-- the five ops by their words. The sender of a receive needn't be declared.
+unfoldable pub opKeywords : List ℕ → List (Keyword OpParse)
+opKeywords text =
+    on "read" (numberOp text 0 mostNumber Read)
+    ∷ on "write" (numberOp text 0 mostNumber Write)
+    ∷ on "send" (sendOp text)
+    ∷ on "receive" (numberOp text 0 lastDomain Receive)
+    ∷ on "compute" (numberOp text leastTicks mostTicks Compute)
+    ∷ []
 
--- the numbers that each word asks for, within the limits of crate script. The other domain of a send or a receive needn't be declared.
-unfoldable pub opNumbers : List ℕ → OpKeyword → OpParse
-opNumbers text (ReadWord at) = thenNumber (takeNumber text 0 mostNumber at) RefusedOp λ line start end. Took (Read line) end
-opNumbers text (WriteWord at) = thenNumber (takeNumber text 0 mostNumber at) RefusedOp λ line start end. Took (Write line) end
-opNumbers text (SendWord at) =
-    thenNumber (takeNumber text 0 lastDomain at) RefusedOp λ recipient first middle.
-    thenNumber (takeNumber text 0 mostWord middle) RefusedOp λ word start end. Took (Send recipient word) end
-opNumbers text (ReceiveWord at) = thenNumber (takeNumber text 0 lastDomain at) RefusedOp λ sender start end. Took (Receive sender) end
-opNumbers text (ComputeWord at) = thenNumber (takeNumber text leastTicks mostTicks at) RefusedOp λ ticks start end. Took (Compute ticks) end
-opNumbers text (RefusedOpWord refusal) = RefusedOp refusal
+-- an op's word and its numbers
+unfoldable pub opAt : List ℕ → ℕ → OpParse
+opAt text at = oneOf (opKeywords text) text at RefusedOp
 
 -- going on from an op, or handing the refusal on
 abbrev pub thenOp : {A : Type 0} → OpParse → (Refusal → A) → (Op → ℕ → A) → A
 thenOp (Took op end) refused go = go op end
 thenOp (RefusedOp refusal) refused go = refused refusal
+
+-- ---- the ops of one number, as the code makes them
+
+abbrev pub opWith : NumberOp → ℕ → Op
+opWith ReadOp = Read
+opWith WriteOp = Write
+opWith ReceiveOp = Receive
+opWith ComputeOp = Compute
+
+abbrev pub mostOf : NumberOp → ℕ
+mostOf ReadOp = mostNumber
+mostOf WriteOp = mostNumber
+mostOf ReceiveOp = lastDomain
+mostOf ComputeOp = mostTicks

@@ -1,6 +1,9 @@
-// What a form asks for, taken token by token: brackets, words and numbers, an op, a list of recipients; or the refusal and its place.
+// The parser's parts: what a form asks for, taken token by token (brackets, words and numbers, an
+// op, a list of recipients), or the refusal with its offset.
+pub mod brackets;
+pub mod keywords;
 pub mod may;
-pub mod op_tokens;
+mod op_tokens;
 pub mod tokens;
 
 use refusal::Refusal;
@@ -12,7 +15,8 @@ pub enum TokenParse {
     Refused(Refusal),
 }
 
-// A number was due: its value within its limits, the offset of its first byte and the offset past its last, or the refusal.
+// A number was due: its value within its limits, the offset of its first byte and the offset past
+// it (past its closing bracket where it has brackets of its own), or the refusal.
 pub enum NumberParse {
     Number {
         value: u32,
@@ -22,17 +26,25 @@ pub enum NumberParse {
     Refused(Refusal),
 }
 
-// The word that opens an op, and the offset past it.
-pub enum OpKeyword {
-    Read(usize),
-    Write(usize),
-    Send(usize),
-    Receive(usize),
-    Compute(usize),
+// One of five words was due: which it is, and the offset past it, or the refusal.
+pub enum KeywordParse {
+    First(usize),
+    Second(usize),
+    Third(usize),
+    Fourth(usize),
+    Fifth(usize),
     Refused(Refusal),
 }
 
-// An op and the offset past its last number, or the refusal.
+// The ops that have one number.
+enum NumberOp {
+    Read,
+    Write,
+    Receive,
+    Compute,
+}
+
+// An op and the offset past its last number or its closing bracket, or the refusal.
 pub enum OpParse {
     Op { op: Op, end: usize },
     Refused(Refusal),
@@ -51,10 +63,11 @@ pub enum RecipientParse {
     Refused(Refusal),
 }
 
-// A list of recipients: the offset past its closing bracket or the refusal, with what was listed up to there.
+// A list of recipients: the offset past its closing bracket or the refusal, with what was listed up
+// to there.
 pub struct RecipientList {
     pub passed: TokenParse,
     pub rights: u32,
-    // where the text up to there first names each domain as a recipient, plus one; 0 where it has not
+    // where the text up to there first names each domain as a recipient, plus one; else 0
     pub named: [usize; 8],
 }

@@ -1,60 +1,58 @@
-// A list of recipients, none or more: 3 outside the domain numbers, 8 for the domain's own number or a repeat.
+// A list of recipients, none or more: 8 for the domain's own number or a repeat.
+use crate::NumberParse;
 use crate::RecipientList;
 use crate::RecipientParse;
 use crate::TokenParse;
-use lexer::Token;
-use lexer::token_at;
-use lexer::token_start;
+use crate::tokens::pass_close;
+use crate::tokens::take_number;
 use plan::sharing::has_bit;
 use refusal::Refusal;
 use script::limits::LAST_DOMAIN;
 ghost use mathlib.Core.Path.{_≡_};
 ghost use Prim.Native.Nat.{_+_, _<_, _^_};
-ghost use Rattle.syntax.specs.Recipients.{mention, recipientAt, recipientFor, recipientsAt};
+ghost use Rattle.plan.specs.Limits.{mostDomains};
+ghost use Rattle.syntax.specs.Recipients.{mention, nextRecipient, recipientAt, recipientsAt};
 
-// A number stands next in the list: a recipient, or 3 or 8.
-fn recipient_for(own: u32, rights: u32, recipient: u64, start: usize, end: usize) -> RecipientParse
-    ensures { λ r. ⌜ r ≡ recipientFor own rights recipient start end ⌝ }
+// One recipient more was due, other than `own` and those of `rights`.
+fn next_recipient(text: &[u8], own: u32, rights: u32, at: usize) -> RecipientParse
+    ensures { λ r. ⌜ r ≡ nextRecipient (now (text .entry)) own rights at ⌝ }
 {
-    if recipient <= LAST_DOMAIN as u64 {
-        let number = recipient as u32;
-        if (number == own) | has_bit(rights, number) {
-            RecipientParse::Refused(Refusal::BadRecipient(start))
-        } else {
-            RecipientParse::Next {
-                recipient: number,
-                start,
-                end,
+    let taken = take_number(text, 0, LAST_DOMAIN, at);
+    match taken {
+        NumberParse::Refused(refusal) => RecipientParse::Refused(refusal),
+        NumberParse::Number { value, start, end } => {
+            if (value == own) | has_bit(rights, value) {
+                RecipientParse::Refused(Refusal::BadRecipient(start))
+            } else {
+                RecipientParse::Next {
+                    recipient: value,
+                    start,
+                    end,
+                }
             }
         }
-    } else {
-        RecipientParse::Refused(Refusal::NumberOutOfLimits(start))
     }
 }
 
-// What stands next in the list of domain `own`, after the recipients of `rights`.
+// What stands next in the list: its closing bracket, or one recipient more.
 fn recipient_at(text: &[u8], own: u32, rights: u32, at: usize) -> RecipientParse
     ensures { λ r. ⌜ r ≡ recipientAt (now (text .entry)) own rights at ⌝ }
 {
-    let token = token_at(text, at);
-    match token {
-        Token::Close(place) => RecipientParse::Done(place + 1),
-        Token::Number { start, end, value } => recipient_for(own, rights, value, start, end),
-        Token::LongNumber { start, end: _ } => {
-            RecipientParse::Refused(Refusal::NumberOutOfLimits(start))
-        }
-        _ => RecipientParse::Refused(Refusal::BrokenShape(token_start(token))),
+    let closing = pass_close(text, at);
+    match closing {
+        TokenParse::To(end) => RecipientParse::Done(end),
+        TokenParse::Refused(_) => next_recipient(text, own, rights, at),
     }
 }
 
-// The text names a domain as a recipient: only the first place counts, kept as its offset + 1.
+// The text names a domain as a recipient: the first time counts, kept as its offset + 1.
 fn note_mention(named: &mut [usize; 8], recipient: u32, start: usize)
-    requires { ⌜ (recipient < 8) × (start + 1 < 2 ^ 64) ⌝ }
+    requires { ⌜ (recipient < mostDomains) × (start + 1 < 2 ^ 64) ⌝ }
     ensures { λ _. ⌜ now (named .exit) ≡ mention (now (named .entry)) recipient start ⌝ }
 {
-    let place = recipient as usize;
-    if named[place] == 0 {
-        named[place] = start + 1;
+    let index = recipient as usize;
+    if named[index] == 0 {
+        named[index] = start + 1;
     }
 }
 

@@ -1,13 +1,10 @@
 // An op: one of five words and the numbers that it asks for.
+use crate::KeywordParse;
+use crate::NumberOp;
 use crate::NumberParse;
-use crate::OpKeyword;
 use crate::OpParse;
-use crate::tokens::is_word;
+use crate::keywords::keyword_at;
 use crate::tokens::take_number;
-use lexer::Token;
-use lexer::token_at;
-use lexer::token_start;
-use refusal::Refusal;
 use script::Op;
 use script::limits::LAST_DOMAIN;
 use script::limits::LEAST_TICKS;
@@ -15,39 +12,28 @@ use script::limits::MOST_NUMBER;
 use script::limits::MOST_TICKS;
 use script::limits::MOST_WORD;
 ghost use mathlib.Core.Path.{_≡_};
-ghost use Rattle.syntax.specs.Ops.{opKeywordAt, opNumbers};
+ghost use Prim.Native.Nat.{_≤_};
+ghost use Rattle.syntax.specs.Ops.{mostOf, numberOp, opAt, opWith, sendOp};
 
-// The word that opens an op.
-pub fn op_keyword_at(text: &[u8], at: usize) -> OpKeyword
-    ensures { λ r. ⌜ r ≡ opKeywordAt (now (text .entry)) at ⌝ }
+// The op of a number, which fits as that op holds it.
+fn op_with(kind: NumberOp, number: u32) -> Op
+    requires { ⌜ number ≤ mostOf kind ⌝ }
+    ensures { λ r. ⌜ r ≡ opWith kind number ⌝ }
 {
-    let token = token_at(text, at);
-    let Token::Word { start, end } = token else {
-        return OpKeyword::Refused(Refusal::BrokenShape(token_start(token)));
-    };
-    if is_word(text, start, end, b"read") {
-        return OpKeyword::Read(end);
+    match kind {
+        NumberOp::Read => Op::Read(number as u16),
+        NumberOp::Write => Op::Write(number as u16),
+        NumberOp::Receive => Op::Receive(number as u8),
+        NumberOp::Compute => Op::Compute(number as u8),
     }
-    if is_word(text, start, end, b"write") {
-        return OpKeyword::Write(end);
-    }
-    if is_word(text, start, end, b"send") {
-        return OpKeyword::Send(end);
-    }
-    if is_word(text, start, end, b"receive") {
-        return OpKeyword::Receive(end);
-    }
-    if is_word(text, start, end, b"compute") {
-        return OpKeyword::Compute(end);
-    }
-    OpKeyword::Refused(Refusal::BrokenShape(start))
 }
 
-// The line of a read.
-fn read_numbers(text: &[u8], at: usize) -> OpParse
-    ensures { λ r. ⌜ r ≡ opNumbers (now (text .entry)) (OpKeyword.Read at) ⌝ }
+// An op of one number.
+fn number_op(text: &[u8], kind: NumberOp, low: u32, high: u32, at: usize) -> OpParse
+    requires { ⌜ high ≤ mostOf kind ⌝ }
+    ensures { λ r. ⌜ r ≡ numberOp (now (text .entry)) low high (opWith kind) at ⌝ }
 {
-    let taken = take_number(text, 0, MOST_NUMBER, at);
+    let taken = take_number(text, low, high, at);
     match taken {
         NumberParse::Refused(refusal) => OpParse::Refused(refusal),
         NumberParse::Number {
@@ -55,33 +41,15 @@ fn read_numbers(text: &[u8], at: usize) -> OpParse
             start: _,
             end,
         } => OpParse::Op {
-            op: Op::Read(value as u16),
-            end,
-        },
-    }
-}
-
-// The line of a write.
-fn write_numbers(text: &[u8], at: usize) -> OpParse
-    ensures { λ r. ⌜ r ≡ opNumbers (now (text .entry)) (OpKeyword.Write at) ⌝ }
-{
-    let taken = take_number(text, 0, MOST_NUMBER, at);
-    match taken {
-        NumberParse::Refused(refusal) => OpParse::Refused(refusal),
-        NumberParse::Number {
-            value,
-            start: _,
-            end,
-        } => OpParse::Op {
-            op: Op::Write(value as u16),
+            op: op_with(kind, value),
             end,
         },
     }
 }
 
 // The recipient and the word of a send.
-fn send_numbers(text: &[u8], at: usize) -> OpParse
-    ensures { λ r. ⌜ r ≡ opNumbers (now (text .entry)) (OpKeyword.Send at) ⌝ }
+fn send_op(text: &[u8], at: usize) -> OpParse
+    ensures { λ r. ⌜ r ≡ sendOp (now (text .entry)) at ⌝ }
 {
     let first = take_number(text, 0, LAST_DOMAIN, at);
     match first {
@@ -107,52 +75,23 @@ fn send_numbers(text: &[u8], at: usize) -> OpParse
     }
 }
 
-// The sender of a receive.
-fn receive_numbers(text: &[u8], at: usize) -> OpParse
-    ensures { λ r. ⌜ r ≡ opNumbers (now (text .entry)) (OpKeyword.Receive at) ⌝ }
+// An op's word and its numbers.
+pub fn op_at(text: &[u8], at: usize) -> OpParse
+    ensures { λ r. ⌜ r ≡ opAt (now (text .entry)) at ⌝ }
 {
-    let taken = take_number(text, 0, LAST_DOMAIN, at);
-    match taken {
-        NumberParse::Refused(refusal) => OpParse::Refused(refusal),
-        NumberParse::Number {
-            value,
-            start: _,
+    let keyword = keyword_at(text, b"read", b"write", b"send", b"receive", b"compute", at);
+    match keyword {
+        KeywordParse::First(end) => number_op(text, NumberOp::Read, 0, MOST_NUMBER, end),
+        KeywordParse::Second(end) => number_op(text, NumberOp::Write, 0, MOST_NUMBER, end),
+        KeywordParse::Third(end) => send_op(text, end),
+        KeywordParse::Fourth(end) => number_op(text, NumberOp::Receive, 0, LAST_DOMAIN, end),
+        KeywordParse::Fifth(end) => number_op(
+            text,
+            NumberOp::Compute,
+            LEAST_TICKS,
+            MOST_TICKS,
             end,
-        } => OpParse::Op {
-            op: Op::Receive(value as u8),
-            end,
-        },
-    }
-}
-
-// The ticks of a compute.
-fn compute_numbers(text: &[u8], at: usize) -> OpParse
-    ensures { λ r. ⌜ r ≡ opNumbers (now (text .entry)) (OpKeyword.Compute at) ⌝ }
-{
-    let taken = take_number(text, LEAST_TICKS, MOST_TICKS, at);
-    match taken {
-        NumberParse::Refused(refusal) => OpParse::Refused(refusal),
-        NumberParse::Number {
-            value,
-            start: _,
-            end,
-        } => OpParse::Op {
-            op: Op::Compute(value as u8),
-            end,
-        },
-    }
-}
-
-// The numbers that an op's word asks for.
-pub fn op_numbers(text: &[u8], head: OpKeyword) -> OpParse
-    ensures { λ r. ⌜ r ≡ opNumbers (now (text .entry)) head ⌝ }
-{
-    match head {
-        OpKeyword::Read(at) => read_numbers(text, at),
-        OpKeyword::Write(at) => write_numbers(text, at),
-        OpKeyword::Send(at) => send_numbers(text, at),
-        OpKeyword::Receive(at) => receive_numbers(text, at),
-        OpKeyword::Compute(at) => compute_numbers(text, at),
-        OpKeyword::Refused(refusal) => OpParse::Refused(refusal),
+        ),
+        KeywordParse::Refused(refusal) => OpParse::Refused(refusal),
     }
 }

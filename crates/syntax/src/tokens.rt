@@ -8,7 +8,8 @@ use refusal::Refusal;
 ghost use mathlib.Core.Path.{_≡_};
 ghost use Prim.Native.Nat.{_≤_};
 ghost use lib.ListN.{length};
-ghost use Rattle.syntax.specs.Tokens.{isWord, passClose, passLineEnd, passOpen, passWord, sameBytes, takeNumber};
+ghost use Rattle.syntax.specs.Tokens.{isWord, passClose, passLineEnd, passOpen, passWord};
+ghost use Rattle.syntax.specs.Tokens.{sameBytes, takeNumber};
 
 // Whether two runs of bytes are equal.
 fn same_bytes(a: &[u8], b: &[u8]) -> bool
@@ -40,10 +41,10 @@ pub fn pass_open(text: &[u8], at: usize) -> TokenParse
     ensures { λ r. ⌜ r ≡ passOpen (now (text .entry)) at ⌝ }
 {
     let token = token_at(text, at);
-    let Token::Open(place) = token else {
+    let Token::Open(bracket) = token else {
         return TokenParse::Refused(Refusal::BrokenShape(token_start(token)));
     };
-    TokenParse::To(place + 1)
+    TokenParse::To(bracket + 1)
 }
 
 // A closing bracket was due.
@@ -51,10 +52,10 @@ pub fn pass_close(text: &[u8], at: usize) -> TokenParse
     ensures { λ r. ⌜ r ≡ passClose (now (text .entry)) at ⌝ }
 {
     let token = token_at(text, at);
-    let Token::Close(place) = token else {
+    let Token::Close(bracket) = token else {
         return TokenParse::Refused(Refusal::BrokenShape(token_start(token)));
     };
-    TokenParse::To(place + 1)
+    TokenParse::To(bracket + 1)
 }
 
 // The line's end was due.
@@ -62,10 +63,10 @@ pub fn pass_line_end(text: &[u8], at: usize) -> TokenParse
     ensures { λ r. ⌜ r ≡ passLineEnd (now (text .entry)) at ⌝ }
 {
     let token = token_at(text, at);
-    let Token::LineEnd(place) = token else {
+    let Token::LineEnd(end) = token else {
         return TokenParse::Refused(Refusal::BrokenShape(token_start(token)));
     };
-    TokenParse::To(place)
+    TokenParse::To(end)
 }
 
 // This word was due.
@@ -83,7 +84,7 @@ pub fn pass_word(text: &[u8], word: &[u8], at: usize) -> TokenParse
     }
 }
 
-// A number that is due: over ten digits it is outside its limits, as a shorter one can be.
+// A number was due: one of too many digits is outside its limits, as a shorter one can be.
 pub fn take_number(text: &[u8], low: u32, high: u32, at: usize) -> NumberParse
     ensures { λ r. ⌜ r ≡ takeNumber (now (text .entry)) low high at ⌝ }
 {

@@ -7,13 +7,14 @@ use Rattle.plan.specs.Zeros.{noPlan}
 use Rattle.lexer.specs.Decimal.{digitsOf, decimalOf}
 use Rattle.lexer.specs.Scan.{scanFrom, scanOf, allBytes}
 use Rattle.lexer.specs.Tokens.{valueAfter, decimalValue, digitsToken, runToken, longestRun, tokenFrom, tokenAt}
-use Rattle.syntax.specs.Ops.{opKeywordAt, opNumbers}
-use Rattle.syntax.specs.Recipients.{recipientAt, mention, recipientsFrom, recipientsAt}
-use Rattle.syntax.specs.Tokens.{sameBytes, isWord, passOpen, passClose, passLineEnd, passWord, takeNumber}
-use Rattle.forms.specs.Forms.{padBody, runBody, lengthBody, windowBody, scriptBody, opBody}
-use Rattle.forms.specs.Forms.{listedBody, mayBody, shareBody, domainBody}
-use Rattle.line.specs.Keywords.{formKeywordAt, bodyOf}
-use Rattle.line.specs.Lines.{closedLine, bodyLine, tokenLine, lineAt}
+use Rattle.syntax.specs.Brackets.{passHead, bracketedNumber, bracketedOp}
+use Rattle.syntax.specs.Keywords.{follows}
+use Rattle.syntax.specs.Ops.{numberOp, sendOp, opKeywords, opAt}
+use Rattle.syntax.specs.Recipients.{nextRecipient, recipientAt, mention, recipientsFrom, recipientsAt}
+use Rattle.syntax.specs.Tokens.{passOpen, passClose, passLineEnd, sameBytes, isWord, passWord, takeNumber}
+use Rattle.forms.specs.Forms.{padForm, runForm, declaredDomain, windowForm, opForm}
+use Rattle.forms.specs.Forms.{nextDomain, listedDomain, mayForm, domainForm}
+use Rattle.line.specs.Lines.{closedLine, notedLine, formKeywords, formLine, lineAt}
 use Rattle.reader.specs.Draft.{noDraft, noOps, takePad, takeRun, takeDomain, takeWindow, takeOp, takeLine}
 use Rattle.plan.specs.Parts.{withPad, withRun, withDomain, withWindow, withMasks}
 use Rattle.reader.specs.Final.{lacking, mentionsFrom, firstOf, firstColourless, finalVerdict, planWithMasks}
@@ -32,10 +33,11 @@ unfolding
     bytesOf masksFrom noPlan
     scanFrom scanOf allBytes
     valueAfter decimalValue digitsToken runToken longestRun tokenFrom tokenAt
-    opKeywordAt opNumbers recipientAt mention recipientsFrom recipientsAt
-    sameBytes isWord passOpen passClose passLineEnd passWord takeNumber
-    padBody runBody lengthBody windowBody scriptBody opBody listedBody mayBody shareBody domainBody
-    formKeywordAt bodyOf closedLine bodyLine tokenLine lineAt
+    passOpen passClose passLineEnd sameBytes isWord passWord takeNumber
+    passHead bracketedNumber bracketedOp follows numberOp sendOp opKeywords opAt
+    nextRecipient recipientAt mention recipientsFrom recipientsAt
+    padForm runForm declaredDomain windowForm opForm nextDomain listedDomain mayForm domainForm
+    closedLine notedLine formKeywords formLine lineAt
     noDraft noOps takePad takeRun takeDomain takeWindow takeOp takeLine
     withPad withRun withDomain withWindow withMasks
     lacking mentionsFrom firstOf firstColourless finalVerdict planWithMasks

@@ -1,13 +1,11 @@
 -- Document 01, "Settled numbers": the eleven entries that are marked to be proved, a field for
 -- each, in the paper's order. Assumes nothing.
 use Prim.Native.Nat.{ℕ, zero, suc, _-_}
-use Prim.Native.String.{String}
 use mathlib.Core.Bool.{false}
 use mathlib.Core.List.{List, [], _∷_}
 use mathlib.Core.Path.{_≡_}
 use lib.ListN.{replicate, set}
 use Rattle.lists.specs.Part.{part}
-use Rattle.plan.specs.declared.Plan.{Plan}
 use Rattle.plan.specs.Colours.{coloursOf}
 use Rattle.plan.specs.Windows.{windowEnd}
 use Rattle.cache.specs.declared.AccessKind.{AccessKind}

@@ -1,5 +1,5 @@
--- One op, and one switch. A domain's own op keeps two worlds the same for it inside its window; another domain's op, and any switch, keep what it has
--- outside its windows. Assumes nothing.
+-- One op, and one switch. A domain's own op keeps two worlds the same for it inside its window; another domain's op,
+-- and any switch, keep what it has outside its windows. Assumes nothing.
 use Prim.Native.Nat.{ℕ, _+_, _<_}
 use mathlib.Core.Bool.{true}
 use mathlib.Core.List.{List}
@@ -7,6 +7,7 @@ use mathlib.Core.Path.{_≡_, refl, sym, ap₂}
 use lib.ListN.{getD, length, set}
 use Rattle.lists.proofs.Agree.{Agree, agree-fewer, agree-refl, set-alike, set-away}
 use Rattle.plan.specs.declared.Plan.{Plan}
+use Rattle.plan.specs.Limits.{mostDomains}
 use Rattle.plan.specs.Validity.{planValid}
 use Rattle.script.specs.declared.Op.{Op}
 use Rattle.script.specs.Limits.{OpWithinLimits}
@@ -19,59 +20,66 @@ use Rattle.isolation.specs.Statement.{Only}
 use Rattle.isolation.proofs.TwoRuns.Flush.{flush-alike, flush-away}
 use Rattle.isolation.proofs.TwoRuns.Log.{raised, stored-alike, stored-away}
 use Rattle.isolation.proofs.TwoRuns.Ops.{effect-alike, effect-away}
-use Rattle.isolation.proofs.TwoRuns.Places.{FlushedPlace, OwnPlace, WorkPlace, flushed, own, own-between, own-untouched}
+use Rattle.isolation.proofs.TwoRuns.Places.{FlushedPlace, OwnPlace, WorkPlace, flushed, own, own-between}
+use Rattle.isolation.proofs.TwoRuns.Places.{own-untouched}
 use Rattle.isolation.proofs.TwoRuns.Relations.{Alike, Close, same-records}
 
 -- the cache table has all its numbers
 abbrev pub Whole : World → Type 0
 Whole world = length (world .cache) ≡ tableLength
 
--- tables that agree at a domain's own places and at those that a switch empties agree wherever its ops touch
-both-places : (plan : Plan) (domain : ℕ) {one other : List ℕ} → Agree (OwnPlace plan domain) one other → Agree FlushedPlace one other
+-- tables that agree at a domain's own indices and at those that a switch empties agree wherever its ops touch
+both-indices : (plan : Plan) (domain : ℕ) {one other : List ℕ} → Agree (OwnPlace plan domain) one other
+    → Agree FlushedPlace one other
     → Agree (WorkPlace plan domain) one other
-both-places plan domain {one} {other} a b = record { len = a .len; at = go }
+both-indices plan domain {one} {other} a b = record { len = a .len; at = go }
   where
-    go : (place : ℕ) → WorkPlace plan domain place → getD one place 0 ≡ getD other place 0
-    go place (own p) = a .at place p
-    go place (flushed p) = b .at place p
+    go : (index : ℕ) → WorkPlace plan domain index → getD one index 0 ≡ getD other index 0
+    go index (own p) = a .at index p
+    go index (flushed p) = b .at index p
 
 -- a domain's number raised by one in two lists
 raise-alike : (domain : ℕ) {one other : List ℕ} → Agree (Only domain) one other
     → Agree (Only domain) (set one domain (getD one domain 0 + 1)) (set other domain (getD other domain 0 + 1))
 raise-alike domain {one} {other} a =
-    rw (← (a .at domain refl)) (set-alike domain (getD one domain 0 + 1) (agree-fewer (λ place p. p .0) a))
+    rw (← (a .at domain refl)) (set-alike domain (getD one domain 0 + 1) (agree-fewer (λ index p. p .0) a))
 
 module _ (plan : Plan) (quota domain : ℕ) where
   -- ---- its own op
 
-  module _ {Kept : ℕ → Type 0} (to : (sender : ℕ) → sender < 8 → Kept (boxIndex sender domain)) where
-    pub op-alike : {one other : World} (op : Op) → OpWithinLimits op → Whole one → Close plan quota domain Kept one other
+  module _ {Kept : ℕ → Type 0} (to : (sender : ℕ) → sender < mostDomains → Kept (boxIndex sender domain)) where
+    pub op-alike : {one other : World} (op : Op) → OpWithinLimits op → Whole one
+        → Close plan quota domain Kept one other
         → Close plan quota domain Kept (opStepOf plan quota domain op one) (opStepOf plan quota domain op other)
     unfolding opStepOf
     op-alike {one} {other} op good whole a =
-        let effect = effect-alike plan domain whole (both-places plan domain (a .outside .sets) (a .flushed)) op good to (a .boxes) in
+        let effect =
+        effect-alike plan domain whole (both-indices plan domain (a .outside .sets) (a .flushed)) op good to
+        (a .boxes) in
         let clock = ap₂ (λ (n m : ℕ). n + m) (a .clock) (effect .ticks) in
         record {
           outside =
               record {
                 positions = raise-alike domain (a .outside .positions);
                 records = raise-alike domain (a .outside .records);
-                sets = agree-fewer (λ place p. own p) (effect .cache);
+                sets = agree-fewer (λ index p. own p) (effect .cache);
                 log =
                     rw (← (same-records plan quota domain (a .outside)), ← clock, ← (effect .seen))
                     (stored-alike quota domain _ _ _ _ (raised (one .state .records) domain) (a .outside .log));
               };
           windows = a .windows;
           clock = clock;
-          flushed = agree-fewer (λ place p. flushed p) (effect .cache);
+          flushed = agree-fewer (λ index p. flushed p) (effect .cache);
           boxes = effect .boxes;
         }
 
   -- ---- another's op
 
   module _ (possible : planValid plan ≡ true) (declared : domain < plan .domains) where
-    pub op-away : (running : ℕ) (op : Op) (world : World) → running < plan .domains → (domain ≡ running → ⊥) → Whole world
-        → recordsAt (world .state) running < quota → Alike plan quota domain world (opStepOf plan quota running op world)
+    pub op-away : (running : ℕ) (op : Op) (world : World) → running < plan .domains → (domain ≡ running → ⊥)
+        → Whole world
+        → recordsAt (world .state) running < quota
+        → Alike plan quota domain world (opStepOf plan quota running op world)
     unfolding opStepOf
     op-away running op world there other whole room =
         record {
@@ -79,7 +87,7 @@ module _ (plan : Plan) (quota domain : ℕ) where
           records = set-away _ running _ (λ e. other (sym e));
           sets =
               effect-away plan running (world .cache) whole
-              (λ place. own-untouched plan possible domain place declared running there other) op (world .boxes);
+              (λ index. own-untouched plan possible domain index declared running there other) op (world .boxes);
           log = stored-away quota domain _ running _ _ _ (world .log) room other;
         }
 
@@ -91,7 +99,7 @@ module _ (plan : Plan) (quota domain : ℕ) where
         record {
           positions = agree-refl _ _;
           records = agree-refl _ _;
-          sets = flush-away (world .cache) whole (λ place. own-between plan possible domain place declared);
+          sets = flush-away (world .cache) whole (λ index. own-between plan possible domain index declared);
           log = agree-refl _ _;
         }
 

@@ -3,15 +3,9 @@ use Rattle.lexer.specs.Tokens.{tokenAt}
 use Rattle.lexer.proofs.find_token.Statement.{statement}
 use Rattle.lexer.proofs.find_token.Tie as tie
 
-skip-spaces-requires : tie.Need-skip-spaces-requires
-skip-spaces-requires c κs = tt
-
-token-from-requires : tie.Need-token-from-requires
-token-from-requires c κs = tt
-
 returns : tie.Need-returns
 unfolding tokenAt
 returns c = simp (← (c .before .skip-spaces .ensures), ← (c .token-from .ensures))
 
 pub find-token-spec : {M : Type 1} → statement M
-find-token-spec = tie.close (tie.spec skip-spaces-requires token-from-requires returns)
+find-token-spec = tie.close (tie.spec (λ c κs. tt) (λ c κs. tt) returns)

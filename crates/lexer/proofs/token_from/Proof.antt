@@ -5,9 +5,6 @@ use Rattle.lexer.specs.Tokens.{tokenFrom}
 use Rattle.lexer.proofs.token_from.Statement.{statement}
 use Rattle.lexer.proofs.token_from.Tie as tie
 
-shared-slice-read-byte : tie.Need-shared-slice-read-byte
-shared-slice-read-byte c = search needs
-
 returns : tie.Need-returns
 unfolding tokenFrom
 returns c = simp (lt-ltb _ _ (c .before .before .if1 .taken), eq-eqb _ _ (c .if2 .taken))
@@ -18,14 +15,24 @@ returns-2 c = simp (lt-ltb _ _ (c .before .before .before .if1 .taken), ne-eqb _
 
 returns-3 : tie.Need-returns-3
 unfolding tokenFrom
-returns-3 c = simp (lt-ltb _ _ (c .before .before .before .before .if1 .taken), ne-eqb _ _ (c .before .before .if2 .left), ne-eqb _ _ (c .before .if3 .left), eq-eqb _ _ (c .if4 .taken))
-
-longest-run-requires : tie.Need-longest-run-requires
-longest-run-requires c κs = search needs
+returns-3 c =
+    simp (
+      lt-ltb _ _ (c .before .before .before .before .if1 .taken),
+      ne-eqb _ _ (c .before .before .if2 .left),
+      ne-eqb _ _ (c .before .if3 .left),
+      eq-eqb _ _ (c .if4 .taken),
+    )
 
 returns-4 : tie.Need-returns-4
 unfolding tokenFrom
-returns-4 c = simp (lt-ltb _ _ (c .before .before .before .before .before .if1 .taken), ne-eqb _ _ (c .before .before .before .if2 .left), ne-eqb _ _ (c .before .before .if3 .left), ne-eqb _ _ (c .before .if4 .left), ← (c .longest-run .ensures))
+returns-4 c =
+    simp (
+      lt-ltb _ _ (c .before .before .before .before .before .if1 .taken),
+      ne-eqb _ _ (c .before .before .before .if2 .left),
+      ne-eqb _ _ (c .before .before .if3 .left),
+      ne-eqb _ _ (c .before .if4 .left),
+      ← (c .longest-run .ensures),
+    )
 
 returns-5 : tie.Need-returns-5
 unfolding tokenFrom
@@ -34,11 +41,4 @@ returns-5 c = simp (le-ltb _ _ (c .if1 .left))
 pub token-from-spec : {M : Type 1} → statement M
 token-from-spec =
     tie.close
-    (tie.spec
-    shared-slice-read-byte
-    returns
-    returns-2
-    returns-3
-    longest-run-requires
-    returns-4
-    returns-5)
+    (tie.spec (λ c. search needs) returns returns-2 returns-3 (λ c κs. search needs) returns-4 returns-5)

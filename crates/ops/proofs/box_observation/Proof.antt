@@ -5,9 +5,6 @@ use Rattle.ops.specs.Ops.{boxObservation}
 use Rattle.ops.proofs.box_observation.Statement.{statement}
 use Rattle.ops.proofs.box_observation.Tie as tie
 
-sub-t5 : tie.Need-sub-t5
-sub-t5 c = search needs
-
 returns : tie.Need-returns
 unfolding boxObservation
 returns c = simp (eq-eqb _ _ (c .if1 .taken))
@@ -17,4 +14,4 @@ unfolding boxObservation
 returns-2 c = simp (ne-eqb _ _ (c .if1 .left))
 
 pub box-observation-spec : {M : Type 1} → statement M
-box-observation-spec = tie.close (tie.spec sub-t5 returns returns-2)
+box-observation-spec = tie.close (tie.spec (λ c. search needs) returns returns-2)

@@ -5,15 +5,9 @@ use Rattle.records.specs.Records.{partRecords}
 use Rattle.records.proofs.part_records.Statement.{statement}
 use Rattle.records.proofs.part_records.Tie as tie
 
-mul-size : tie.Need-mul-size
-mul-size c = search needs
-
-div-result : tie.Need-div-result
-div-result c = search needs
-
 returns : tie.Need-returns
 unfolding partRecords
 returns c = λ plan same. rw same refl
 
 pub part-records-spec : {M : Type 1} → statement M
-part-records-spec = tie.close (tie.spec mul-size div-result returns)
+part-records-spec = tie.close (tie.spec (λ c. search needs) (λ c. search needs) returns)

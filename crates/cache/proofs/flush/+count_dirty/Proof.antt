@@ -1,5 +1,5 @@
 -- The proof of `count_dirty`, which calls itself. The measure is the number left. Assumes nothing.
-use Prim.Native.Nat.{ℕ, _+_, _-_, _<_}
+use Prim.Native.Nat.{ℕ, _<_}
 use mathlib.Core.Path.{sym}
 use native.Mathlib.Omega.{arith}
 use borrow.Fn.Kinds.{In}
@@ -26,49 +26,34 @@ below t = and 1 kinds.ps (falls 1 kinds.ps _<_ μ t) reads.Pre
 abbrev claims : ℕ → lts.Claims
 claims t = (choose-number-reads.Asked, choose-number-reads.Learnt, below t, reads.Post)
 
-mul-choose-number : (t : ℕ) → lts.Need-mul-choose-number (claims t) (at t) reads.Post
-mul-choose-number t c = omega arith
-
-element-copy-out-choose-number : (t : ℕ) → lts.Need-element-copy-out-choose-number (claims t) (at t) reads.Post
-element-copy-out-choose-number t c = omega (arith, above-zero (c .if1 .left))
-
-choose-number-requires : (t : ℕ) → lts.Need-choose-number-requires (claims t) (at t) reads.Post
-choose-number-requires t c κs = tt
-
-add-count-dirty : (t : ℕ) → lts.Need-add-count-dirty (claims t) (at t) reads.Post
-add-count-dirty t c = omega (arith, above-zero (c .before .before .if1 .left))
-
-sub-count-dirty : (t : ℕ) → lts.Need-sub-count-dirty (claims t) (at t) reads.Post
-sub-count-dirty t c = above-zero (c .before .before .if1 .left)
-
-count-dirty-requires : (t : ℕ) → lts.Need-count-dirty-requires (claims t) (at t) reads.Post
-count-dirty-requires t c κs = omega (arith, above-zero (c .before .before .if1 .left))
-
 add-result : (t : ℕ) → lts.Need-add-result (claims t) (at t) reads.Post
 add-result t c =
     let args = c .before .before .before .before .args in
-    let some = above-zero (c .before .before .before .if1 .left) in
     let one = c .before .choose-number in
     let rest = c .count-dirty in
     omega (
       arith,
-      count-turn-limit isDirty (args .at) (args .numbers .now) (args .left) (one .result) (rest .result) some (one .ensures) (rest .ensures),
+      count-turn-limit isDirty (args .at) (args .numbers .now) (args .left) (one .result) (rest .result)
+          (above-zero (c .before .before .before .if1 .left)) (one .ensures) (rest .ensures),
     )
 
 returns : (t : ℕ) → lts.Need-returns (claims t) (at t) reads.Post
-returns t c =
-    rw (c .if1 .taken) (sym (count-none isDirty (c .before .args .at) (c .before .args .numbers .now)))
+returns t c = rw (c .if1 .taken) (sym (count-none isDirty (c .before .args .at) (c .before .args .numbers .now)))
 
 returns-2 : (t : ℕ) → lts.Need-returns-2 (claims t) (at t) reads.Post
 returns-2 t c =
     let start = c .before .before .before .before in
-    let some = above-zero (c .before .before .before .if1 .left) in
     rw (c .before .choose-number .ensures, c .count-dirty .ensures)
-    (count-next isDirty (start .args .at) (start .args .numbers .now) (start .args .left) some (omega (arith, start .pre .1)))
+    (count-next isDirty (start .args .at) (start .args .numbers .now) (start .args .left)
+    (above-zero (c .before .before .before .if1 .left)) (omega (arith, start .pre .1)))
 
 pub +count-dirty-spec : {M : Type 1} → statement M
 +count-dirty-spec =
     close μ λ t. lts.spec (claims t) (at t) reads.Post
-    (mul-choose-number t) (element-copy-out-choose-number t) (choose-number-requires t)
-    (add-count-dirty t) (sub-count-dirty t) (count-dirty-requires t)
+    (λ c. omega arith)
+    (λ c. omega (arith, above-zero (c .if1 .left)))
+    (λ c κs. tt)
+    (λ c. omega (arith, above-zero (c .before .before .if1 .left)))
+    (λ c. above-zero (c .before .before .if1 .left))
+    (λ c κs. omega (arith, above-zero (c .before .before .if1 .left)))
     (add-result t) (returns t) (returns-2 t)

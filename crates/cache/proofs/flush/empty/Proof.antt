@@ -1,4 +1,5 @@
--- `empty` meets its contract. The loop's invariant: the numbers passed are 0, and the others are as they were. Assumes nothing.
+-- `empty` meets its contract. The loop's invariant: the numbers passed are 0, and the others are as they were. Assumes
+-- nothing.
 use Prim.Native.Nat.{_-_, _≤_, _<_}
 use mathlib.Core.Path.{_≡_, ap, refl, _∙_}
 use mathlib.Core.List.{_++_}
@@ -21,16 +22,8 @@ loop-holds c = (search needs, refl)
 
 -- the part is as long as at first
 here-length : (c : tie.At-loop Inv-loop μ-loop) → length (c .loop .entries) ≡ length (c .before .args .entries .now)
-here-length c = ap length (c .loop .inv .1) ∙ emptied-length (c .loop .i) (c .before .args .entries .now) (c .loop .inv .0)
-
-mul-entries : tie.Need-mul-entries Inv-loop μ-loop
-mul-entries c = search needs
-
-slice-write-entries : tie.Need-slice-write-entries Inv-loop μ-loop
-slice-write-entries c = search needs
-
-add-i : tie.Need-add-i Inv-loop μ-loop
-add-i c = search needs
+here-length c =
+    ap length (c .loop .inv .1) ∙ emptied-length (c .loop .i) (c .before .args .entries .now) (c .loop .inv .0)
 
 loop-less : tie.Need-loop-less Inv-loop μ-loop
 loop-less c = omega (arith, here-length (c .before))
@@ -46,20 +39,13 @@ same-length c = here-length (c .before)
 
 returns : tie.Need-returns Inv-loop μ-loop
 returns c =
-    let all : c .before .loop .i ≡ length (c .before .before .args .entries .now) = omega (arith, here-length (c .before)) in
+    let all : c .before .loop .i ≡ length (c .before .before .args .entries .now) =
+    omega (arith, here-length (c .before)) in
     c .before .loop .inv .1 ∙ rw all (emptied-all (c .before .before .args .entries .now))
 
 pub empty-spec : {M : Type 1} → statement M
 empty-spec =
     tie.close
     (tie.spec
-    Inv-loop
-    μ-loop
-    loop-holds
-    mul-entries
-    slice-write-entries
-    add-i
-    loop-less
-    loop-again
-    same-length
-    returns)
+    Inv-loop μ-loop loop-holds (λ c. search needs) (λ c. search needs) (λ c. search needs) loop-less loop-again
+    same-length returns)

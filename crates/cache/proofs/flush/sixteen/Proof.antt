@@ -18,27 +18,6 @@ loop-holds : tie.Need-loop-holds Inv-loop μ-loop
 unfolding part
 loop-holds c = (omega arith, refl, refl)
 
-add-taken : tie.Need-add-taken Inv-loop μ-loop
-add-taken c = omega arith
-
-mul-taken : tie.Need-mul-taken Inv-loop μ-loop
-mul-taken c = omega arith
-
-shared-slice-read-taken : tie.Need-shared-slice-read-taken Inv-loop μ-loop
-shared-slice-read-taken c = omega arith
-
-mul-taken-2 : tie.Need-mul-taken-2 Inv-loop μ-loop
-mul-taken-2 c = omega arith
-
-array-write-taken : tie.Need-array-write-taken Inv-loop μ-loop
-array-write-taken c = omega arith
-
-add-i : tie.Need-add-i Inv-loop μ-loop
-add-i c = omega arith
-
-loop-less : tie.Need-loop-less Inv-loop μ-loop
-loop-less c = omega arith
-
 loop-again : tie.Need-loop-again Inv-loop μ-loop
 loop-again c =
     let loop = c .before .before .loop in
@@ -51,15 +30,5 @@ pub sixteen-spec : {M : Type 1} → statement M
 sixteen-spec =
     tie.close
     (tie.spec
-    Inv-loop
-    μ-loop
-    loop-holds
-    add-taken
-    mul-taken
-    shared-slice-read-taken
-    mul-taken-2
-    array-write-taken
-    add-i
-    loop-less
-    loop-again
-    returns)
+    Inv-loop μ-loop loop-holds (λ c. omega arith) (λ c. omega arith) (λ c. omega arith) (λ c. omega arith)
+    (λ c. omega arith) (λ c. omega arith) (λ c. omega arith) loop-again returns)

@@ -19,7 +19,8 @@ use ghost.Atoms.{Atoms, sem}
 use contract.Lifetimes.{AllOutlive}
 use contract.Monad.{Fun, fact}
 use contract.Running.{givenOf, tables, tablesOf}
-use types.Kit.{Given, Item, ‵, raw, given, some, later, _⊛_, ⋆, _$_, _∵_, !, qed, by, move, keep, drop, use1, use2, split, join, learn, pick, rewrite, fsplit, fsplit3, fjoin, fjoin3, feqI, suffices, frame, await, done}
+use types.Kit.{Given, Item, ‵, raw, given, some, later, _⊛_, ⋆, _$_, _∵_, !, qed, by, move, keep, drop, use1, use2, split, join}
+use types.Kit.{learn, pick, rewrite, fsplit, fsplit3, fjoin, fjoin3, feqI, suffices, frame, await, done}
 use types.Part.{whole, sub, look-in, store-in}
 use types.Run.{look, init, store, forget, stop, hop, fld, from, load, of-opd, and-then, no-more, assigns, land, returns, enter, alloc1, alloc0, params1, pass1, pass0, free1, free0}
 use types.SemTy.{Body}
@@ -203,24 +204,33 @@ module _ {M : Type 1} (𝓤 : URA M) (H : Heap 𝓤) (A : Atoms 𝓤) (W : Given
         assigns ! (of-opd ! (load ! (from ! (hop ! (look ! 13 refl) (fld ! refl (stop !)))) (look-in ! 0 (sub ! 1 refl (whole !))))) (from ! (stop !)) (init ! 7 refl (tt, typed .1 .1 .0)) $
         move ! (5 ∷ 1 ∷ []) $ use2 W (raw (Find 𝓤 H A at-mem run .pre find-call) ⊛ ‵ Own) (apart (typed .1 .1 .0 .fits)) $ split ! $
         -- in hand: what `find_token` asks; what the reader owns; its cell; the open borrow; obs; auth; true; _4 to _0 at 7, 9, 11, 13, 15
-        calls-at ! fm (Find 𝓤 H A at-mem run) known-find find-call (and-then ! (load ! (from ! (stop !)) (look ! 9 refl)) (and-then ! (load ! (from ! (stop !)) (look ! 7 refl)) (no-more !))) (λ value.
-        use1 W (later (some (λ (token : Token). (Alive ⊛ ‵ (Token.the-row .own token (value ∷ []))) ⊛ raw (ensured 𝓤 H A find.ended (find.clauses 𝓤 H A at-mem run) (κ′, tt) (reader .text, (reader .at, tt)) tt token)))) (id⊢ 𝓤 _) $
-        await ! tt $ pick ! (λ token. split ! $ move ! (1 ∷ []) $ use1 W (raw (fact 𝓤 (token ≡ found))) (find-said token) $ heard ! (token ≡ found) (λ is-found. split ! $ move ! (1 ∷ []) $
+        calls-at ! fm (Find 𝓤 H A at-mem run) known-find find-call
+        (and-then ! (load ! (from ! (stop !)) (look ! 9 refl)) (and-then ! (load ! (from ! (stop !)) (look ! 7 refl)) (no-more !))) (λ value.
+        use1 W (later (some (λ (token : Token). (Alive ⊛ ‵ (Token.the-row .own token (value ∷ [])))
+        ⊛ raw (ensured 𝓤 H A find.ended (find.clauses 𝓤 H A at-mem run) (κ′, tt) (reader .text, (reader .at, tt)) tt token)))) (id⊢ 𝓤 _) $
+        await ! tt $ pick ! (λ token. split ! $ move ! (1 ∷ []) $ use1 W (raw (fact 𝓤 (token ≡ found))) (find-said token) $
+        heard ! (token ≡ found) (λ is-found. split ! $ move ! (1 ∷ []) $
         -- in hand: the token; 'a's token; what the reader owns; its cell; the open borrow; obs; auth; true; _4 to _0 at 8, 10, 12, 14, 16
         peeks ! Token.the-row (Is Token.the-row) (shows 𝓤 H A Token.the-row) token (value ∷ []) (λ is-token.
         land ! (from ! (stop !)) (init ! 12 refl (EL.lawful Token.the-type Token′.the-laws 𝓤 H A W tt .typed token _ is-token .0)) $
-        use1 W (raw (End 𝓤 H A at-mem run .pre (end-call token value))) (end-asked token value (end-fits token is-found (typed .1 .0 .1 .0 .fits) (typed .1 .1 .0 .fits))) $
+        use1 W (raw (End 𝓤 H A at-mem run .pre (end-call token value)))
+        (end-asked token value (end-fits token is-found (typed .1 .0 .1 .0 .fits) (typed .1 .1 .0 .fits))) $
         calls-at ! fm (End 𝓤 H A at-mem run) known-end (end-call token value) (and-then ! (load ! (from ! (stop !)) (look ! 12 refl)) (no-more !)) (λ number.
-        use1 W (later (some (λ (offset : ℕ). (‵ ftrue ⊛ ‵ (usize .own offset (number ∷ []))) ⊛ raw (ensured 𝓤 H A end.ended (end.clauses 𝓤 H A at-mem run) tt (token, tt) tt offset)))) (id⊢ 𝓤 _) $
-        await ! tt $ pick ! (λ offset. split ! $ move ! (1 ∷ []) $ use1 W (raw (fact 𝓤 (offset ≡ tokenEnd token))) (end-said token offset) $ heard ! (offset ≡ tokenEnd token) (λ is-end. split ! $ drop ! $
+        use1 W (later (some (λ (offset : ℕ). (‵ ftrue ⊛ ‵ (usize .own offset (number ∷ [])))
+        ⊛ raw (ensured 𝓤 H A end.ended (end.clauses 𝓤 H A at-mem run) tt (token, tt) tt offset)))) (id⊢ 𝓤 _) $
+        await ! tt $ pick ! (λ offset. split ! $ move ! (1 ∷ []) $ use1 W (raw (fact 𝓤 (offset ≡ tokenEnd token))) (end-said token offset) $
+        heard ! (offset ≡ tokenEnd token) (λ is-end. split ! $ drop ! $
         peeks ! usize (Is usize) (shows 𝓤 H A usize) offset (number ∷ []) (λ is-offset.
         -- the offset is stored in the reader, and the token is what is returned
-        land ! (from ! (stop !)) (store ! 8 refl (uint-lawful 𝓤 H A W w64 .typed offset _ is-offset .0)) $ rewrite ! 8 (λ (z : Val). ‵ (fat fullShare (tyInt w64) l₄ 0 z)) (ap only (is-offset .0)) refl $
-        assigns ! (of-opd ! (load ! (from ! (stop !)) (look ! 8 refl))) (from ! (hop ! (look ! 14 refl) (fld ! refl (stop !)))) (store-in ! 3 (sub ! 1 refl (whole !)) (tt, record { fits = is-offset .1 })) $
+        land ! (from ! (stop !)) (store ! 8 refl (uint-lawful 𝓤 H A W w64 .typed offset _ is-offset .0)) $
+        rewrite ! 8 (λ (z : Val). ‵ (fat fullShare (tyInt w64) l₄ 0 z)) (ap only (is-offset .0)) refl $
+        assigns ! (of-opd ! (load ! (from ! (stop !)) (look ! 8 refl))) (from ! (hop ! (look ! 14 refl) (fld ! refl (stop !))))
+        (store-in ! 3 (sub ! 1 refl (whole !)) (tt, record { fits = is-offset .1 })) $
         assigns ! (of-opd ! (load ! (from ! (stop !)) (look ! 12 refl))) (from ! (stop !)) (init ! 16 refl (EL.lawful Token.the-type Token′.the-laws 𝓤 H A W tt .typed token _ is-token .0)) $
         -- the reader is put together again at the new offset, and the borrow is closed
         move ! (2 ∷ []) $ use1 W (‵ (Row .own (moved offset) (Reader′.lowered (moved offset) ∷ []))) (again offset (is-offset .1)) $
-        move ! (3 ∷ []) $ use1 W (‵ (cellAt fullShare (Row .mir) (Reader′.lowered (moved offset) ∷ []) block place)) (W .laws .at-raw fullShare (Reader′.mir erased) block place (Reader′.lowered (moved offset))) $
+        move ! (3 ∷ []) $ use1 W (‵ (cellAt fullShare (Row .mir) (Reader′.lowered (moved offset) ∷ []) block place))
+        (W .laws .at-raw fullShare (Reader′.mir erased) block place (Reader′.lowered (moved offset))) $
         move ! (0 ∷ 1 ∷ 4 ∷ 5 ∷ 6 ∷ []) $ closes ! tt Row (moved offset) (Reader′.lowered (moved offset) ∷ []) block place $
         -- in hand: obs; the borrow; its lifetime's token; the offset's; 'a's token; true; _4 to _0 at 6, 8, 10, 12, 14
         returns ! (look ! 14 refl) $ forget ! 6 refl $ forget ! 8 refl $ forget ! 10 refl $ forget ! 12 refl $ forget ! 14 refl $

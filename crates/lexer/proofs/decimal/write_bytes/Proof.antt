@@ -18,30 +18,12 @@ abbrev μ-loop : tie.MeasureT-loop
 loop-holds : tie.Need-loop-holds Inv-loop μ-loop
 loop-holds c = (search needs, refl)
 
-add-store : tie.Need-add-store Inv-loop μ-loop
-add-store c = omega arith
-
-shared-slice-read-store : tie.Need-shared-slice-read-store Inv-loop μ-loop
-shared-slice-read-store c = omega arith
-
-store-requires : tie.Need-store-requires Inv-loop μ-loop
-store-requires c κs = search needs
-
-add-i : tie.Need-add-i Inv-loop μ-loop
-add-i c = omega arith
-
-loop-less : tie.Need-loop-less Inv-loop μ-loop
-loop-less c = omega arith
-
 loop-again : tie.Need-loop-again Inv-loop μ-loop
 loop-again c =
     let l = c .before .before .before .before .before .before .loop in
     let start = c .before .before .before .before .before .before .before .before .before in
     let within = c .before .before .before .before .before .loop-test .taken in
     (omega arith, c .before .before .store .ensures ∙ rw (l .inv .1) (sets-next (start .args .out .now) (start .args .at) (l .i) (start .args .bytes .now) within))
-
-add-result : tie.Need-add-result Inv-loop μ-loop
-add-result c = omega arith
 
 same-length : tie.Need-same-length Inv-loop μ-loop
 same-length c = ap length (c .before .loop .inv .1) ∙ simp length-sets
@@ -55,16 +37,5 @@ returns c =
 pub write-bytes-spec : {M : Type 1} → statement M
 write-bytes-spec =
     tie.close
-    (tie.spec
-    Inv-loop
-    μ-loop
-    loop-holds
-    add-store
-    shared-slice-read-store
-    store-requires
-    add-i
-    loop-less
-    loop-again
-    add-result
-    same-length
-    returns)
+    (tie.spec Inv-loop μ-loop loop-holds (λ c. omega arith) (λ c. omega arith) (λ c κs. search needs)
+    (λ c. omega arith) (λ c. omega arith) loop-again (λ c. omega arith) same-length returns)

@@ -7,6 +7,7 @@ use native.Mathlib.Omega.{arith}
 use lib.ListN.{drop, length, length-set, length-take}
 use borrow.Author.Needs.{needs}
 use Rattle.lexer.specs.Decimal.{decimalOf, digitsOf}
+use Rattle.lexer.specs.Limits.{widestDigits}
 use Rattle.lexer.proofs.DigitsMade.{digit-made, front-fits, last-digit-made}
 use Rattle.lexer.proofs.decimal.write_decimal.Statement.{statement}
 use Rattle.lexer.proofs.decimal.write_decimal.Tie as tie
@@ -14,9 +15,9 @@ use Rattle.lexer.proofs.decimal.write_decimal.Tie as tie
 abbrev Inv-loop : tie.InvT-loop
 Inv-loop out at number digits₀ left₀ first₀ digits left first =
     (0 < first)
-    × (first ≤ 20)
+    × (first ≤ widestDigits)
     × (left < 10 ^ first)
-    × (length digits ≡ 20)
+    × (length digits ≡ widestDigits)
     × (decimalOf number ≡ digitsOf first left ++ drop first digits)
 
 abbrev μ-loop : tie.MeasureT-loop
@@ -25,21 +26,6 @@ abbrev μ-loop : tie.MeasureT-loop
 loop-holds : tie.Need-loop-holds Inv-loop μ-loop
 unfolding decimalOf
 loop-holds c = (search needs, search needs, omega arith, refl, sym (append-nil _))
-
-sub-first : tie.Need-sub-first Inv-loop μ-loop
-sub-first c = omega arith
-
-cast-digits : tie.Need-cast-digits Inv-loop μ-loop
-cast-digits c = omega arith
-
-add-digits : tie.Need-add-digits Inv-loop μ-loop
-add-digits c = omega arith
-
-array-write-digits : tie.Need-array-write-digits Inv-loop μ-loop
-array-write-digits c = omega arith
-
-loop-less : tie.Need-loop-less Inv-loop μ-loop
-loop-less c = omega arith
 
 loop-again : tie.Need-loop-again Inv-loop μ-loop
 loop-again c =
@@ -53,60 +39,22 @@ loop-again c =
       l .inv .4 ∙ digit-made (l .first) (l .left) (l .digits) large (l .inv .0) (omega arith),
     )
 
-sub-first-2 : tie.Need-sub-first-2 Inv-loop μ-loop
-sub-first-2 c = omega arith
-
-cast-digits-2 : tie.Need-cast-digits-2 Inv-loop μ-loop
-cast-digits-2 c = omega arith
-
-add-digits-2 : tie.Need-add-digits-2 Inv-loop μ-loop
-add-digits-2 c = omega arith
-
-array-write-digits-2 : tie.Need-array-write-digits-2 Inv-loop μ-loop
-array-write-digits-2 c = omega arith
-
-sub-write-bytes : tie.Need-sub-write-bytes Inv-loop μ-loop
-sub-write-bytes c = omega arith
-
-part-write-bytes-start : tie.Need-part-write-bytes-start Inv-loop μ-loop
-part-write-bytes-start c = omega arith
-
 part-write-bytes-end : tie.Need-part-write-bytes-end Inv-loop μ-loop
 part-write-bytes-end c = simp length-set (omega arith)
 
 write-bytes-requires : tie.Need-write-bytes-requires Inv-loop μ-loop
 write-bytes-requires c κs = simp length-take (omega arith)
 
-same-length : tie.Need-same-length Inv-loop μ-loop
-same-length c = search needs
-
 returns : tie.Need-returns Inv-loop μ-loop
 returns c =
     let l = c .before .before .before .before .before .before .before .loop in
     let small = c .before .before .before .before .before .before .loop-test .left in
-    let made = l .inv .4 ∙ last-digit-made (l .first) (l .left) 20 (l .digits) small (l .inv .0) (l .inv .1) (l .inv .3) in
+    let made = l .inv .4 ∙ last-digit-made (l .first) (l .left) widestDigits (l .digits) small (l .inv .0) (l .inv .1) (l .inv .3) in
     rw made (c .before .before .write-bytes .ensures)
 
 pub write-decimal-spec : {M : Type 1} → statement M
 write-decimal-spec =
     tie.close
-    (tie.spec
-    Inv-loop
-    μ-loop
-    loop-holds
-    sub-first
-    cast-digits
-    add-digits
-    array-write-digits
-    loop-less
-    loop-again
-    sub-first-2
-    cast-digits-2
-    add-digits-2
-    array-write-digits-2
-    sub-write-bytes
-    part-write-bytes-start
-    part-write-bytes-end
-    write-bytes-requires
-    same-length
-    returns)
+    (tie.spec Inv-loop μ-loop loop-holds (λ c. omega arith) (λ c. omega arith) (λ c. omega arith) (λ c. omega arith)
+    (λ c. omega arith) loop-again (λ c. omega arith) (λ c. omega arith) (λ c. omega arith) (λ c. omega arith)
+    (λ c. omega arith) (λ c. omega arith) part-write-bytes-end write-bytes-requires (λ c. search needs) returns)

@@ -29,9 +29,6 @@ loop-holds c = (search needs, refl, search needs)
 mul-value : tie.Need-mul-value Inv-loop μ-loop
 mul-value c = omega (arith, ten-digits _ _ (c .before .loop .inv .2) (omega arith))
 
-shared-slice-read-value : tie.Need-shared-slice-read-value Inv-loop μ-loop
-shared-slice-read-value c = search needs
-
 sub-value : tie.Need-sub-value Inv-loop μ-loop
 sub-value c = in-turn c .0
 
@@ -40,12 +37,6 @@ cast-value c = omega (arith, in-turn c)
 
 add-value : tie.Need-add-value Inv-loop μ-loop
 add-value c = omega (arith, in-turn c, ten-digits _ _ (c .before .before .loop .inv .2) (omega arith))
-
-add-i : tie.Need-add-i Inv-loop μ-loop
-add-i c = search needs
-
-loop-less : tie.Need-loop-less Inv-loop μ-loop
-loop-less c = search needs
 
 loop-again : tie.Need-loop-again Inv-loop μ-loop
 loop-again c = (search needs, value-next _ _ _ (search needs) ∙ c .before .before .loop .inv .1, digit-more _ _ _ (c .before .before .loop .inv .2) (omega (arith, in-turn c)))
@@ -56,16 +47,5 @@ returns c = sym (value-end _ _ _ (search needs)) ∙ c .before .loop .inv .1
 pub decimal-value-spec : {M : Type 1} → statement M
 decimal-value-spec =
     tie.close
-    (tie.spec
-    Inv-loop
-    μ-loop
-    loop-holds
-    mul-value
-    shared-slice-read-value
-    sub-value
-    cast-value
-    add-value
-    add-i
-    loop-less
-    loop-again
-    returns)
+    (tie.spec Inv-loop μ-loop loop-holds mul-value (λ c. search needs) sub-value cast-value add-value
+    (λ c. search needs) (λ c. search needs) loop-again returns)

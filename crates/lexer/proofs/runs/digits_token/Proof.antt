@@ -5,9 +5,6 @@ use Rattle.lexer.specs.Tokens.{digitsToken}
 use Rattle.lexer.proofs.runs.digits_token.Statement.{statement}
 use Rattle.lexer.proofs.runs.digits_token.Tie as tie
 
-decimal-value-requires : tie.Need-decimal-value-requires
-decimal-value-requires c κs = search needs
-
 returns : tie.Need-returns
 unfolding digitsToken
 returns c = simp (le-leb _ _ (c .before .if1 .taken), ← (c .decimal-value .ensures))
@@ -17,4 +14,4 @@ unfolding digitsToken
 returns-2 c = simp (lt-leb _ _ (c .if1 .left))
 
 pub digits-token-spec : {M : Type 1} → statement M
-digits-token-spec = tie.close (tie.spec decimal-value-requires returns returns-2)
+digits-token-spec = tie.close (tie.spec (λ c κs. search needs) returns returns-2)

@@ -7,9 +7,6 @@ use Rattle.lexer.proofs.Scanning.{scan-least, scan-most}
 use Rattle.lexer.proofs.runs.longest_run.Statement.{statement}
 use Rattle.lexer.proofs.runs.longest_run.Tie as tie
 
-run-end-requires : tie.Need-run-end-requires
-run-end-requires c κs = tt
-
 sub-run-token : tie.Need-sub-run-token
 sub-run-token c = rw (c .run-end .ensures) (scan-least endsRun _ _)
 
@@ -19,9 +16,6 @@ part-run-token-start c = rw (c .run-end .ensures) (scan-least endsRun _ _)
 part-run-token-end : tie.Need-part-run-token-end
 part-run-token-end c = rw (c .run-end .ensures) (scan-most endsRun _ _ (search needs))
 
-run-token-requires : tie.Need-run-token-requires
-run-token-requires c κs = tt
-
 returns : tie.Need-returns
 unfolding longestRun part
 returns c = simp (← (c .before .before .run-end .ensures), ← (c .run-token .ensures))
@@ -29,10 +23,4 @@ returns c = simp (← (c .before .before .run-end .ensures), ← (c .run-token .
 pub longest-run-spec : {M : Type 1} → statement M
 longest-run-spec =
     tie.close
-    (tie.spec
-    run-end-requires
-    sub-run-token
-    part-run-token-start
-    part-run-token-end
-    run-token-requires
-    returns)
+    (tie.spec (λ c κs. tt) sub-run-token part-run-token-start part-run-token-end (λ c κs. tt) returns)

@@ -20,20 +20,8 @@ loop-holds : tie.Need-loop-holds Inv-loop μ-loop
 unfolding allFrom
 loop-holds c = refl
 
-shared-slice-read-is-letter : tie.Need-shared-slice-read-is-letter Inv-loop μ-loop
-shared-slice-read-is-letter c = search needs
-
-is-letter-requires : tie.Need-is-letter-requires Inv-loop μ-loop
-is-letter-requires c κs = tt
-
 returns : tie.Need-returns Inv-loop μ-loop
 returns c = sym (all-fails isLetter _ _ (search needs) (sym (c .before .is-letter .ensures) ∙ not-true _ (c .if1 .taken))) ∙ c .before .before .before .before .loop .inv
-
-add-i : tie.Need-add-i Inv-loop μ-loop
-add-i c = search needs
-
-loop-less : tie.Need-loop-less Inv-loop μ-loop
-loop-less c = search needs
 
 loop-again : tie.Need-loop-again Inv-loop μ-loop
 loop-again c = all-next isLetter _ _ (search needs) (sym (c .before .is-letter .ensures) ∙ not-false _ (c .if1 .left)) ∙ c .before .before .before .before .loop .inv
@@ -44,14 +32,5 @@ returns-2 c = sym (all-end isLetter _ _ (search needs)) ∙ c .before .loop .inv
 pub all-letters-spec : {M : Type 1} → statement M
 all-letters-spec =
     tie.close
-    (tie.spec
-    Inv-loop
-    μ-loop
-    loop-holds
-    shared-slice-read-is-letter
-    is-letter-requires
-    returns
-    add-i
-    loop-less
-    loop-again
-    returns-2)
+    (tie.spec Inv-loop μ-loop loop-holds (λ c. search needs) (λ c κs. tt) returns (λ c. search needs)
+    (λ c. search needs) loop-again returns-2)

@@ -1,4 +1,4 @@
--- `lexer::scan::run_end` meets its contract: from the place reached the walk goes on as it would from the first. Assumes nothing.
+-- `lexer::scan::run_end` meets its contract: from the offset reached the walk goes on as it would from the first. Assumes nothing.
 use Prim.Native.Nat.{_-_}
 use mathlib.Core.Path.{_≡_, refl, sym, _∙_}
 use lib.ListN.{length}
@@ -18,20 +18,8 @@ abbrev μ-loop : tie.MeasureT-loop
 loop-holds : tie.Need-loop-holds Inv-loop μ-loop
 loop-holds c = refl
 
-shared-slice-read-ends-run : tie.Need-shared-slice-read-ends-run Inv-loop μ-loop
-shared-slice-read-ends-run c = search needs
-
-ends-run-requires : tie.Need-ends-run-requires Inv-loop μ-loop
-ends-run-requires c κs = tt
-
 returns : tie.Need-returns Inv-loop μ-loop
 returns c = sym (scan-here endsRun _ _ (search needs) (sym (c .before .ends-run .ensures) ∙ c .if1 .taken)) ∙ c .before .before .before .before .loop .inv
-
-add-here : tie.Need-add-here Inv-loop μ-loop
-add-here c = search needs
-
-loop-less : tie.Need-loop-less Inv-loop μ-loop
-loop-less c = search needs
 
 loop-again : tie.Need-loop-again Inv-loop μ-loop
 loop-again c = scan-next endsRun _ _ (search needs) (sym (c .before .ends-run .ensures) ∙ c .if1 .left) ∙ c .before .before .before .before .loop .inv
@@ -42,14 +30,5 @@ returns-2 c = sym (scan-end endsRun _ _ (search needs)) ∙ c .before .loop .inv
 pub run-end-spec : {M : Type 1} → statement M
 run-end-spec =
     tie.close
-    (tie.spec
-    Inv-loop
-    μ-loop
-    loop-holds
-    shared-slice-read-ends-run
-    ends-run-requires
-    returns
-    add-here
-    loop-less
-    loop-again
-    returns-2)
+    (tie.spec Inv-loop μ-loop loop-holds (λ c. search needs) (λ c κs. tt) returns (λ c. search needs)
+    (λ c. search needs) loop-again returns-2)

@@ -1,4 +1,4 @@
--- `lexer::scan::skip_spaces` meets its contract: from the place reached the walk goes on as it would from the first. Assumes nothing.
+-- `lexer::scan::skip_spaces` meets its contract: from the offset reached the walk goes on as it would from the first. Assumes nothing.
 use Prim.Native.Nat.{_-_}
 use mathlib.Core.Path.{_≡_, refl, sym, _∙_}
 use lib.ListN.{length}
@@ -19,17 +19,8 @@ abbrev μ-loop : tie.MeasureT-loop
 loop-holds : tie.Need-loop-holds Inv-loop μ-loop
 loop-holds c = refl
 
-shared-slice-read-if1 : tie.Need-shared-slice-read-if1 Inv-loop μ-loop
-shared-slice-read-if1 c = search needs
-
 returns : tie.Need-returns Inv-loop μ-loop
 returns c = sym (scan-here isNoSpace _ _ (search needs) (simp (ne-eqb _ _ (c .if1 .taken)))) ∙ c .before .before .before .loop .inv
-
-add-here : tie.Need-add-here Inv-loop μ-loop
-add-here c = search needs
-
-loop-less : tie.Need-loop-less Inv-loop μ-loop
-loop-less c = search needs
 
 loop-again : tie.Need-loop-again Inv-loop μ-loop
 loop-again c = scan-next isNoSpace _ _ (search needs) (simp (eq-eqb _ _ (c .if1 .left))) ∙ c .before .before .before .loop .inv
@@ -40,13 +31,5 @@ returns-2 c = sym (scan-end isNoSpace _ _ (search needs)) ∙ c .before .loop .i
 pub skip-spaces-spec : {M : Type 1} → statement M
 skip-spaces-spec =
     tie.close
-    (tie.spec
-    Inv-loop
-    μ-loop
-    loop-holds
-    shared-slice-read-if1
-    returns
-    add-here
-    loop-less
-    loop-again
-    returns-2)
+    (tie.spec Inv-loop μ-loop loop-holds (λ c. search needs) returns (λ c. search needs) (λ c. search needs)
+    loop-again returns-2)

@@ -1,6 +1,8 @@
 -- `machine::stepping::op_step` meets its contract. Assumes nothing.
+use mathlib.Core.Path.{refl}
 use native.Mathlib.Omega.{arith}
 use borrow.Author.Needs.{needs}
+use Rattle.ops.specs.View.{viewOf}
 use Rattle.machine.proofs.Turns.{op-ran, operated-ticks}
 use Rattle.machine.proofs.stepping.op_step.Statement.{statement}
 use Rattle.machine.proofs.stepping.op_step.Tie as tie
@@ -11,7 +13,7 @@ operate-requires c κs = search needs
 add-clock : tie.Need-add-clock
 add-clock c =
     let pre = c .before .before .before .before .before .before .before .before .before .before .before .before .pre in
-    omega (arith, operated-ticks _ _ _ _ _ _ _ _ (pre .1) (c .before .before .before .before .before .before .operate .ensures), pre)
+    omega (arith, operated-ticks _ _ _ _ _ _ _ _ (pre .1) (c .before .before .before .before .before .before .operate .ensures (viewOf _ _) refl refl), pre)
 
 store-record-requires : tie.Need-store-record-requires
 store-record-requires c κs = search needs
@@ -34,7 +36,9 @@ same-length-3 c = search needs
 returns : tie.Need-returns
 returns c =
     let pre = c .before .before .before .before .before .before .before .before .before .before .before .before .before .before .before .before .before .before .pre in
-    op-ran _ _ _ _ _ _ _ _ _ _ (pre .1) (c .before .before .before .before .before .before .before .before .before .before .before .before .operate .ensures) (c .before .before .before .before .store-record .ensures)
+    op-ran _ _ _ _ _ _ _ _ _ _ (pre .1)
+    (c .before .before .before .before .before .before .before .before .before .before .before .before .operate .ensures (viewOf _ _) refl refl)
+    (c .before .before .before .before .store-record .ensures)
 
 pub op-step-spec : {M : Type 1} → statement M
 op-step-spec =

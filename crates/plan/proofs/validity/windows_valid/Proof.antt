@@ -12,10 +12,10 @@ use Rattle.plan.proofs.validity.windows_valid.Statement.{statement}
 use Rattle.plan.proofs.validity.windows_valid.Tie as tie
 
 abbrev Inv-loop : tie.InvT-loop
-Inv-loop plan windows possible₀ slot₀ valid slot = (slot ≤ mostWindows) × (valid ≡ allBelow (windowValid plan) slot)
+Inv-loop plan windows valid₀ slot₀ valid slot = (slot ≤ mostWindows) × (valid ≡ allBelow (windowValid plan) slot)
 
 abbrev μ-loop : tie.MeasureT-loop
-μ-loop plan windows possible₀ slot₀ valid slot = mostWindows - slot
+μ-loop plan windows valid₀ slot₀ valid slot = mostWindows - slot
 
 cast-windows : tie.Need-cast-windows Inv-loop μ-loop
 cast-windows c = search needs

@@ -10,15 +10,6 @@ use Rattle.state.proofs.state_validity.clock_valid.Tie as tie
 windows-total-requires : tie.Need-windows-total-requires
 windows-total-requires c κs = let count = counts _ (c .pre) in (count .run-most, count .windows-most)
 
-window-start-requires : tie.Need-window-start-requires
-window-start-requires c κs = search needs
-
-window-length-requires : tie.Need-window-length-requires
-window-length-requires c κs = search needs
-
-cast-end : tie.Need-cast-end
-cast-end c = search needs
-
 add-end : tie.Need-add-end
 add-end c =
     let start = c .before .before .before .before in
@@ -40,18 +31,13 @@ returns c =
     (c .before .window-start .ensures) (c .window-length .ensures)
 
 returns-2 : tie.Need-returns-2
-returns-2 c = clock-after-last _ _ _ _ (c .before .before .windows-total .ensures) (c .before .if1 .left) (c .ticks-total .ensures)
+returns-2 c =
+    clock-after-last _ _ _ _ (c .before .before .windows-total .ensures) (c .before .if1 .left)
+    (c .ticks-total .ensures)
 
 pub clock-valid-spec : {M : Type 1} → statement M
 clock-valid-spec =
     tie.close
     (tie.spec
-    windows-total-requires
-    window-start-requires
-    window-length-requires
-    cast-end
-    add-end
-    add-result
-    ticks-total-requires
-    returns
-    returns-2)
+    windows-total-requires (λ c κs. search needs) (λ c κs. search needs) (λ c. search needs) add-end
+    (λ c. search needs) add-result ticks-total-requires returns returns-2)

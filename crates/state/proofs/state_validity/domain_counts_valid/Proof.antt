@@ -6,21 +6,6 @@ use Rattle.state.specs.StateValidity.{domainCountsValid}
 use Rattle.state.proofs.state_validity.domain_counts_valid.Statement.{statement}
 use Rattle.state.proofs.state_validity.domain_counts_valid.Tie as tie
 
-mul-position : tie.Need-mul-position
-mul-position c = search needs
-
-array-read-position : tie.Need-array-read-position
-array-read-position c = search needs
-
-mul-count : tie.Need-mul-count
-mul-count c = search needs
-
-array-read-count : tie.Need-array-read-count
-array-read-count c = search needs
-
-cast-domains : tie.Need-cast-domains
-cast-domains c = search needs
-
 returns : tie.Need-returns
 unfolding domainCountsValid
 returns c = rw (lt-ltb _ _ (c .if1 .taken)) refl
@@ -33,10 +18,5 @@ pub domain-counts-valid-spec : {M : Type 1} → statement M
 domain-counts-valid-spec =
     tie.close
     (tie.spec
-    mul-position
-    array-read-position
-    mul-count
-    array-read-count
-    cast-domains
-    returns
+    (λ c. search needs) (λ c. search needs) (λ c. search needs) (λ c. search needs) (λ c. search needs) returns
     returns-2)

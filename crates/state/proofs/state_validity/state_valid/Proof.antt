@@ -1,4 +1,5 @@
--- `state::state_validity::state_valid` meets its contract. The loop's invariant: the counts of the domains passed are possible. Assumes nothing.
+-- `state::state_validity::state_valid` meets its contract. The loop's invariant: the counts of the domains passed are
+-- possible. Assumes nothing.
 use mathlib.Core.Bool.{true}
 use mathlib.Core.Path.{_∙_, _≡_, ap, refl, sym}
 use Prim.Native.Nat.{_-_, _≤_}
@@ -17,11 +18,9 @@ abbrev μ-loop : tie.MeasureT-loop
 μ-loop plan quota state domain₀ domain = 8 - domain
 
 -- the clock is possible where the loop begins
-clocked : (c : tie.Else1 Inv-loop μ-loop) → clockValid (c .before .before .args .plan) (c .before .before .args .state) ≡ true
+clocked : (c : tie.Else1 Inv-loop μ-loop)
+    → clockValid (c .before .before .args .plan) (c .before .before .args .state) ≡ true
 clocked c = sym (c .before .clock-valid .ensures) ∙ not-false _ (c .if1 .left)
-
-clock-valid-requires : tie.Need-clock-valid-requires Inv-loop μ-loop
-clock-valid-requires c κs = c .pre
 
 returns : tie.Need-returns Inv-loop μ-loop
 unfolding stateValid
@@ -31,21 +30,12 @@ loop-holds : tie.Need-loop-holds Inv-loop μ-loop
 unfolding allBelow
 loop-holds c = (omega arith, refl)
 
-domain-counts-valid-requires : tie.Need-domain-counts-valid-requires Inv-loop μ-loop
-domain-counts-valid-requires c κs = c .loop-test .taken
-
 returns-2 : tie.Need-returns-2 Inv-loop μ-loop
 unfolding stateValid
 returns-2 c =
     let fails = sym (c .before .domain-counts-valid .ensures) ∙ not-true _ (c .if2 .taken) in
     rw (clocked (c .before .before .before .before))
     (all-below-fails _ 8 (c .before .before .before .loop .domain) (c .before .before .loop-test .taken) fails)
-
-add-domain : tie.Need-add-domain Inv-loop μ-loop
-add-domain c = omega arith
-
-loop-less : tie.Need-loop-less Inv-loop μ-loop
-loop-less c = omega arith
 
 loop-again : tie.Need-loop-again Inv-loop μ-loop
 loop-again c =
@@ -63,14 +53,5 @@ pub state-valid-spec : {M : Type 1} → statement M
 state-valid-spec =
     tie.close
     (tie.spec
-    Inv-loop
-    μ-loop
-    clock-valid-requires
-    returns
-    loop-holds
-    domain-counts-valid-requires
-    returns-2
-    add-domain
-    loop-less
-    loop-again
-    returns-3)
+    Inv-loop μ-loop (λ c κs. c .pre) returns loop-holds (λ c κs. c .loop-test .taken) returns-2
+    (λ c. omega arith) (λ c. omega arith) loop-again returns-3)

@@ -1,4 +1,5 @@
--- `state::table_validity::all_empty` meets its contract. The loop's invariant: what is left decides the answer. Assumes nothing.
+-- `state::table_validity::all_empty` meets its contract. The loop's invariant: what is left decides the answer. Assumes
+-- nothing.
 use mathlib.Core.Bool.{false}
 use mathlib.Core.Path.{refl}
 use Prim.Native.Nat.{_-_}
@@ -17,32 +18,19 @@ Inv-loop ways way₀ way = Decides allEmpty ways way
 abbrev μ-loop : tie.MeasureT-loop
 μ-loop ways way₀ way = length ways - way
 
-loop-holds : tie.Need-loop-holds Inv-loop μ-loop
-loop-holds c = search needs
-
-mul-if1 : tie.Need-mul-if1 Inv-loop μ-loop
-mul-if1 c = omega arith
-
-shared-slice-read-if1 : tie.Need-shared-slice-read-if1 Inv-loop μ-loop
-shared-slice-read-if1 c = omega arith
-
 returns : tie.Need-returns Inv-loop μ-loop
 unfolding allEmpty
 returns c =
     let loop = c .before .before .before .loop in
-    decides-here allEmpty _ (loop .way) false (c .before .before .loop-test .taken) (loop .inv) (rw (ne-eqb _ _ (c .if1 .taken)) refl)
-
-add-way : tie.Need-add-way Inv-loop μ-loop
-add-way c = omega arith
-
-loop-less : tie.Need-loop-less Inv-loop μ-loop
-loop-less c = omega arith
+    decides-here allEmpty _ (loop .way) false (c .before .before .loop-test .taken) (loop .inv)
+    (rw (ne-eqb _ _ (c .if1 .taken)) refl)
 
 loop-again : tie.Need-loop-again Inv-loop μ-loop
 unfolding allEmpty
 loop-again c =
     let loop = c .before .before .before .loop in
-    decides-next allEmpty _ (loop .way) (c .before .before .loop-test .taken) (loop .inv) (rw (eq-eqb _ _ (c .if1 .left)) refl)
+    decides-next allEmpty _ (loop .way) (c .before .before .loop-test .taken) (loop .inv)
+    (rw (eq-eqb _ _ (c .if1 .left)) refl)
 
 returns-2 : tie.Need-returns-2 Inv-loop μ-loop
 unfolding allEmpty
@@ -52,13 +40,5 @@ pub all-empty-spec : {M : Type 1} → statement M
 all-empty-spec =
     tie.close
     (tie.spec
-    Inv-loop
-    μ-loop
-    loop-holds
-    mul-if1
-    shared-slice-read-if1
-    returns
-    add-way
-    loop-less
-    loop-again
-    returns-2)
+    Inv-loop μ-loop (λ c. search needs) (λ c. omega arith) (λ c. omega arith) returns (λ c. omega arith)
+    (λ c. omega arith) loop-again returns-2)

@@ -1,32 +1,14 @@
 -- `state::table_validity::box_valid` meets its contract. Assumes nothing.
 use mathlib.Core.Path.{refl}
 use borrow.Author.Needs.{needs}
-use borrow.Author.Tests.{eq-eqb, ne-eqb}
+use borrow.Author.Tests.{ne-eqb}
 use Rattle.state.specs.TableValidity.{boxValid}
 use Rattle.state.proofs.table_validity.box_valid.Statement.{statement}
 use Rattle.state.proofs.table_validity.box_valid.Tie as tie
 
-mul-number : tie.Need-mul-number
-mul-number c = search needs
-
-shared-slice-read-number : tie.Need-shared-slice-read-number
-shared-slice-read-number c = search needs
-
 returns : tie.Need-returns
 unfolding boxValid
-returns c = λ plan rights. rw (eq-eqb _ _ (c .if1 .taken)) refl
-
-mul-has-bit : tie.Need-mul-has-bit
-mul-has-bit c = search needs
-
-element-copy-out-has-bit : tie.Need-element-copy-out-has-bit
-element-copy-out-has-bit c = search needs
-
-cast-has-bit : tie.Need-cast-has-bit
-cast-has-bit c = search needs
-
-has-bit-requires : tie.Need-has-bit-requires
-has-bit-requires c κs = search needs
+returns c = λ plan rights. rw (c .if1 .taken) refl
 
 returns-2 : tie.Need-returns-2
 unfolding boxValid
@@ -36,11 +18,5 @@ pub box-valid-spec : {M : Type 1} → statement M
 box-valid-spec =
     tie.close
     (tie.spec
-    mul-number
-    shared-slice-read-number
-    returns
-    mul-has-bit
-    element-copy-out-has-bit
-    cast-has-bit
-    has-bit-requires
-    returns-2)
+    (λ c. search needs) (λ c. search needs) returns (λ c. search needs) (λ c. search needs) (λ c. search needs)
+    (λ c κs. search needs) (λ c. search needs) returns-2)

@@ -1,4 +1,5 @@
--- `state::table_validity::boxes_valid` meets its contract. The loop's invariant: the boxes passed are sound. Assumes nothing.
+-- `state::table_validity::boxes_valid` meets its contract. The loop's invariant: the boxes passed are sound. Assumes
+-- nothing.
 use mathlib.Core.Bool.{true}
 use mathlib.Core.Path.{_∙_, _≡_, ap, refl, sym}
 use Prim.Native.Nat.{_-_, _≤_}
@@ -12,10 +13,11 @@ use Rattle.state.proofs.table_validity.boxes_valid.Statement.{statement
 use Rattle.state.proofs.table_validity.boxes_valid.Tie as tie
 
 abbrev Inv-loop : tie.InvT-loop
-Inv-loop rights boxes place₀ place = (place ≤ 64) × ((plan : Plan) → plan .rights ≡ rights → allBelow (boxValid plan boxes) place ≡ true)
+Inv-loop rights boxes index₀ index =
+    (index ≤ 64) × ((plan : Plan) → plan .rights ≡ rights → allBelow (boxValid plan boxes) index ≡ true)
 
 abbrev μ-loop : tie.MeasureT-loop
-μ-loop rights boxes place₀ place = 64 - place
+μ-loop rights boxes index₀ index = 64 - index
 
 loop-holds : tie.Need-loop-holds Inv-loop μ-loop
 unfolding allBelow
@@ -28,13 +30,7 @@ returns : tie.Need-returns Inv-loop μ-loop
 returns c =
     λ plan rights.
     let fails = sym (c .before .box-valid .ensures plan rights) ∙ not-true _ (c .if1 .taken) in
-    all-below-fails _ 64 (c .before .before .before .loop .place) (c .before .before .loop-test .taken) fails
-
-add-place : tie.Need-add-place Inv-loop μ-loop
-add-place c = omega arith
-
-loop-less : tie.Need-loop-less Inv-loop μ-loop
-loop-less c = omega arith
+    all-below-fails _ 64 (c .before .before .before .loop .index) (c .before .before .loop-test .taken) fails
 
 loop-again : tie.Need-loop-again Inv-loop μ-loop
 loop-again c =
@@ -42,24 +38,16 @@ loop-again c =
       omega (arith, c .before .before .loop-test),
       λ plan rights.
           let passes = sym (c .before .box-valid .ensures plan rights) ∙ not-false _ (c .if1 .left) in
-          all-below-more _ (loop .place) (loop .inv .1 plan rights) passes,
+          all-below-more _ (loop .index) (loop .inv .1 plan rights) passes,
     )
 
 returns-2 : tie.Need-returns-2 Inv-loop μ-loop
 returns-2 c =
-    let ended : c .before .loop .place ≡ 64 = omega arith in
+    let ended : c .before .loop .index ≡ 64 = omega arith in
     λ plan rights. sym (c .before .loop .inv .1 plan rights) ∙ ap (allBelow _) ended
 
 pub boxes-valid-spec : {M : Type 1} → statement M
 boxes-valid-spec =
     tie.close
     (tie.spec
-    Inv-loop
-    μ-loop
-    loop-holds
-    box-valid-requires
-    returns
-    add-place
-    loop-less
-    loop-again
-    returns-2)
+    Inv-loop μ-loop loop-holds box-valid-requires returns (λ c. omega arith) (λ c. omega arith) loop-again returns-2)

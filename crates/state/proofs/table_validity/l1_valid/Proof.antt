@@ -1,4 +1,5 @@
--- `state::table_validity::l1_valid` meets its contract. The loop's invariant: the L1 numbers passed are sound. Assumes nothing.
+-- `state::table_validity::l1_valid` meets its contract. The loop's invariant: the L1 numbers passed are sound. Assumes
+-- nothing.
 use mathlib.Core.Bool.{true}
 use mathlib.Core.Path.{_∙_, _≡_, ap, refl, sym}
 use Prim.Native.Nat.{_-_, _≤_}
@@ -29,20 +30,11 @@ loop-holds : tie.Need-loop-holds Inv-loop μ-loop
 unfolding allBelow
 loop-holds c = (omega arith, λ plan state ended mask. refl)
 
-l1-entry-valid-requires : tie.Need-l1-entry-valid-requires Inv-loop μ-loop
-l1-entry-valid-requires c κs = omega arith
-
 returns : tie.Need-returns Inv-loop μ-loop
 returns c =
     λ plan state ended mask.
     let fails = sym (c .before .l1-entry-valid .ensures plan state ended mask) ∙ not-true _ (c .if1 .taken) in
     all-below-fails _ 16 (c .before .before .before .loop .index) (c .before .before .loop-test .taken) fails
-
-add-index : tie.Need-add-index Inv-loop μ-loop
-add-index c = omega arith
-
-loop-less : tie.Need-loop-less Inv-loop μ-loop
-loop-less c = omega arith
 
 loop-again : tie.Need-loop-again Inv-loop μ-loop
 loop-again c =
@@ -62,12 +54,5 @@ pub l1-valid-spec : {M : Type 1} → statement M
 l1-valid-spec =
     tie.close
     (tie.spec
-    Inv-loop
-    μ-loop
-    loop-holds
-    l1-entry-valid-requires
-    returns
-    add-index
-    loop-less
-    loop-again
+    Inv-loop μ-loop loop-holds (λ c κs. omega arith) returns (λ c. omega arith) (λ c. omega arith) loop-again
     returns-2)

@@ -1,4 +1,5 @@
--- `state::table_validity::sets_valid` meets its contract. The loop's invariant: the sets passed are sound. Assumes nothing.
+-- `state::table_validity::sets_valid` meets its contract. The loop's invariant: the sets passed are sound. Assumes
+-- nothing.
 use mathlib.Core.Bool.{true}
 use mathlib.Core.Path.{_∙_, _≡_, ap, refl, sym}
 use Prim.Native.Nat.{_-_, _≤_}
@@ -28,12 +29,6 @@ returns c =
     let fails = sym (c .before .set-valid .ensures) ∙ not-true _ (c .if1 .taken) in
     all-below-fails _ 64 (c .before .before .before .loop .set) (c .before .before .loop-test .taken) fails
 
-add-set : tie.Need-add-set Inv-loop μ-loop
-add-set c = omega arith
-
-loop-less : tie.Need-loop-less Inv-loop μ-loop
-loop-less c = omega arith
-
 loop-again : tie.Need-loop-again Inv-loop μ-loop
 loop-again c =
     let loop = c .before .before .before .loop in (
@@ -51,12 +46,4 @@ pub sets-valid-spec : {M : Type 1} → statement M
 sets-valid-spec =
     tie.close
     (tie.spec
-    Inv-loop
-    μ-loop
-    loop-holds
-    set-valid-requires
-    returns
-    add-set
-    loop-less
-    loop-again
-    returns-2)
+    Inv-loop μ-loop loop-holds set-valid-requires returns (λ c. omega arith) (λ c. omega arith) loop-again returns-2)

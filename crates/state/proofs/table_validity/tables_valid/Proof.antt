@@ -15,29 +15,11 @@ use Rattle.state.proofs.table_validity.tables_valid.Tie as tie
 windows-total-requires : tie.Need-windows-total-requires
 windows-total-requires c κs = let count = counts _ (c .before .before .pre .0) in (count .run-most, count .windows-most)
 
-window-owner-requires : tie.Need-window-owner-requires
-window-owner-requires c κs = search needs
-
-cast-owner : tie.Need-cast-owner
-cast-owner c = search needs
-
-mul-l1-valid : tie.Need-mul-l1-valid
-mul-l1-valid c = search needs
-
 array-read-l1-valid : tie.Need-array-read-l1-valid
 array-read-l1-valid c =
-    let start = c .before .before .before .before .before .before in
+    let start = c .before .before .before .before .before .before .before in
     let plan = start .args .plan in
     omega (arith, owner-declared plan (start .args .state .windows) (start .pre .0), domains-most plan (start .pre .0))
-
-l1-valid-requires : tie.Need-l1-valid-requires
-l1-valid-requires c κs = search needs
-
-sets-valid-requires : tie.Need-sets-valid-requires
-sets-valid-requires c κs = search needs
-
-boxes-valid-requires : tie.Need-boxes-valid-requires
-boxes-valid-requires c κs = search needs
 
 returns : tie.Need-returns
 unfolding tablesValid endedOf
@@ -48,19 +30,12 @@ returns c =
     let state = start .args .state in
     let ended = ap (λ (total : ℕ). leb total (state .windows)) (sym (calls .before .windows-total .ensures)) in
     let mask = ap (maskAt plan) (sym (calls .window-owner .ensures)) in
-    let l1 = c .before .before .before .l1-valid .ensures plan state ended mask in
-    rw (l1, c .before .before .sets-valid .ensures, c .boxes-valid .ensures plan refl) refl
+    let l1 = c .before .before .l1-valid .ensures plan state ended mask in
+    rw (l1, c .before .before .before .sets-valid .ensures, c .boxes-valid .ensures plan refl) refl
 
 pub tables-valid-spec : {M : Type 1} → statement M
 tables-valid-spec =
     tie.close
     (tie.spec
-    windows-total-requires
-    window-owner-requires
-    cast-owner
-    mul-l1-valid
-    array-read-l1-valid
-    l1-valid-requires
-    sets-valid-requires
-    boxes-valid-requires
-    returns)
+    windows-total-requires (λ c κs. search needs) (λ c. search needs) (λ c κs. search needs) (λ c. search needs)
+    array-read-l1-valid (λ c κs. search needs) (λ c κs. search needs) returns)

@@ -1,4 +1,5 @@
--- `state::table_validity::ways_valid` meets its contract. The loop's invariant: what is left decides the answer. Assumes nothing.
+-- `state::table_validity::ways_valid` meets its contract. The loop's invariant: what is left decides the answer.
+-- Assumes nothing.
 use mathlib.Core.Bool.{false}
 use mathlib.Core.Path.{_∙_, refl, sym}
 use Prim.Native.Nat.{_-_}
@@ -17,33 +18,6 @@ Inv-loop ways set way₀ way = Decides (waysValid set) ways way
 abbrev μ-loop : tie.MeasureT-loop
 μ-loop ways set way₀ way = length ways - way
 
-loop-holds : tie.Need-loop-holds Inv-loop μ-loop
-loop-holds c = search needs
-
-add-next : tie.Need-add-next Inv-loop μ-loop
-add-next c = omega arith
-
-mul-if1 : tie.Need-mul-if1 Inv-loop μ-loop
-mul-if1 c = omega arith
-
-shared-slice-read-if1 : tie.Need-shared-slice-read-if1 Inv-loop μ-loop
-shared-slice-read-if1 c = omega arith
-
-mul-all-empty : tie.Need-mul-all-empty Inv-loop μ-loop
-mul-all-empty c = omega arith
-
-sub-all-empty : tie.Need-sub-all-empty Inv-loop μ-loop
-sub-all-empty c = omega arith
-
-part-all-empty-start : tie.Need-part-all-empty-start Inv-loop μ-loop
-part-all-empty-start c = omega arith
-
-part-all-empty-end : tie.Need-part-all-empty-end Inv-loop μ-loop
-part-all-empty-end c = omega arith
-
-all-empty-requires : tie.Need-all-empty-requires Inv-loop μ-loop
-all-empty-requires c κs = search needs
-
 returns : tie.Need-returns Inv-loop μ-loop
 unfolding waysValid
 returns c =
@@ -51,25 +25,21 @@ returns c =
     decides-here (waysValid _) _ (loop .way) _ (c .before .before .before .before .loop-test .taken) (loop .inv)
     (rw (eq-eqb _ _ (c .before .before .if1 .taken), c .all-empty .ensures, rest-whole) refl)
 
-way-valid-requires : tie.Need-way-valid-requires Inv-loop μ-loop
-way-valid-requires c κs = omega arith
-
 returns-2 : tie.Need-returns-2 Inv-loop μ-loop
 unfolding waysValid
 returns-2 c =
     let loop = c .before .before .before .before .before .loop in
     decides-here (waysValid _) _ (loop .way) false (c .before .before .before .before .loop-test .taken) (loop .inv)
-    (rw (ne-eqb _ _ (c .before .before .if1 .left), sym (c .before .way-valid .ensures) ∙ not-true _ (c .if2 .taken)) refl)
-
-loop-less : tie.Need-loop-less Inv-loop μ-loop
-loop-less c = omega arith
+    (rw (ne-eqb _ _ (c .before .before .if1 .left), sym (c .before .way-valid .ensures) ∙ not-true _ (c .if2 .taken))
+    refl)
 
 loop-again : tie.Need-loop-again Inv-loop μ-loop
 unfolding waysValid
 loop-again c =
     let loop = c .before .before .before .before .before .loop in
     decides-next (waysValid _) _ (loop .way) (c .before .before .before .before .loop-test .taken) (loop .inv)
-    (rw (ne-eqb _ _ (c .before .before .if1 .left), sym (c .before .way-valid .ensures) ∙ not-false _ (c .if2 .left)) refl)
+    (rw (ne-eqb _ _ (c .before .before .if1 .left), sym (c .before .way-valid .ensures) ∙ not-false _ (c .if2 .left))
+    refl)
 
 returns-3 : tie.Need-returns-3 Inv-loop μ-loop
 unfolding waysValid
@@ -79,20 +49,6 @@ pub ways-valid-spec : {M : Type 1} → statement M
 ways-valid-spec =
     tie.close
     (tie.spec
-    Inv-loop
-    μ-loop
-    loop-holds
-    add-next
-    mul-if1
-    shared-slice-read-if1
-    mul-all-empty
-    sub-all-empty
-    part-all-empty-start
-    part-all-empty-end
-    all-empty-requires
-    returns
-    way-valid-requires
-    returns-2
-    loop-less
-    loop-again
-    returns-3)
+    Inv-loop μ-loop (λ c. search needs) (λ c. omega arith) (λ c. omega arith) (λ c. omega arith) (λ c. omega arith)
+    (λ c. omega arith) (λ c. omega arith) (λ c. omega arith) (λ c κs. search needs) returns (λ c κs. omega arith)
+    returns-2 (λ c. omega arith) loop-again returns-3)

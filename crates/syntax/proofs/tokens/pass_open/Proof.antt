@@ -1,20 +1,11 @@
 -- `syntax::tokens::pass_open` meets its contract. Assumes nothing.
 use native.Mathlib.Omega.{arith}
 use borrow.Author.Needs.{needs}
-use Rattle.syntax.proofs.OtherKinds.{kinds}
+use Rattle.lexer.proofs.OtherKind.{kinds}
 use Rattle.lexer.proofs.Reached.{reached}
 use Rattle.syntax.specs.Tokens.{passOpen}
 use Rattle.syntax.proofs.tokens.pass_open.Statement.{statement}
 use Rattle.syntax.proofs.tokens.pass_open.Tie as tie
-
-token-at-requires : tie.Need-token-at-requires
-token-at-requires c κs = tt
-
-enum-known-token : tie.Need-enum-known-token
-enum-known-token c = search needs
-
-token-start-requires : tie.Need-token-start-requires
-token-start-requires c κs = tt
 
 returns : tie.Need-returns
 unfolding passOpen
@@ -30,4 +21,4 @@ returns-2 c = simp (← (c .before .before .before .token-at .ensures), c .befor
 pub pass-open-spec : {M : Type 1} → statement M
 pass-open-spec =
     tie.close
-    (tie.spec token-at-requires enum-known-token token-start-requires returns add-t7 returns-2)
+    (tie.spec (λ c κs. tt) (λ c. search needs) (λ c κs. tt) returns add-t7 returns-2)

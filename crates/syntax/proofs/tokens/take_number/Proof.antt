@@ -1,31 +1,27 @@
 -- `syntax::tokens::take_number` meets its contract. Assumes nothing.
 use native.Mathlib.Omega.{arith}
 use borrow.Author.Needs.{needs}
-use Rattle.syntax.proofs.OtherKinds.{kinds}
+use Rattle.lexer.proofs.OtherKind.{kinds}
 use Rattle.plan.proofs.ValidPlans.{limits}
 use Rattle.syntax.specs.Tokens.{takeNumber}
 use Rattle.syntax.proofs.tokens.take_number.Statement.{statement}
 use Rattle.syntax.proofs.tokens.take_number.Tie as tie
 
-token-at-requires : tie.Need-token-at-requires
-token-at-requires c κs = tt
-
-enum-known-token : tie.Need-enum-known-token
-enum-known-token c = search needs
-
 returns : tie.Need-returns
 unfolding takeNumber
 returns c = simp (← (c .before .before .before .token-at .ensures), c .before .token .given .1)
 
-enum-known-token-2 : tie.Need-enum-known-token-2
-enum-known-token-2 c = search needs
-
-token-start-requires : tie.Need-token-start-requires
-token-start-requires c κs = tt
-
 returns-2 : tie.Need-returns-2
 unfolding takeNumber
-returns-2 c = simp (← (c .before .before .before .token-at .ensures), c .before .before .match .keys2, kinds, c .before .match2 .keys2, kinds, ← (c .token-start .ensures))
+returns-2 c =
+    simp (
+      ← (c .before .before .before .token-at .ensures),
+      c .before .before .match .keys2,
+      kinds,
+      c .before .match2 .keys2,
+      kinds,
+      ← (c .token-start .ensures),
+    )
 
 cast-t19 : tie.Need-cast-t19
 cast-t19 c =
@@ -34,22 +30,14 @@ cast-t19 c =
 
 returns-3 : tie.Need-returns-3
 unfolding takeNumber
-returns-3 c = simp (← (c .before .before .before .before .before .token-at .ensures), c .before .before .before .before .match .keys2, kinds, c .before .before .token2 .given .1, c .if1 .taken)
+returns-3 c = simp (← (c .before .before .before .before .before .token-at .ensures), c .before .before .token2 .given .1, c .if1 .taken)
 
 returns-4 : tie.Need-returns-4
 unfolding takeNumber
-returns-4 c = simp (← (c .before .before .before .before .before .token-at .ensures), c .before .before .before .before .match .keys2, kinds, c .before .before .token2 .given .1, c .if1 .left)
+returns-4 c = simp (← (c .before .before .before .before .before .token-at .ensures), c .before .before .token2 .given .1, c .if1 .left)
 
 pub take-number-spec : {M : Type 1} → statement M
 take-number-spec =
     tie.close
-    (tie.spec
-    token-at-requires
-    enum-known-token
-    returns
-    enum-known-token-2
-    token-start-requires
-    returns-2
-    cast-t19
-    returns-3
+    (tie.spec (λ c κs. tt) (λ c. search needs) returns (λ c. search needs) (λ c κs. tt) returns-2 cast-t19 returns-3
     returns-4)
