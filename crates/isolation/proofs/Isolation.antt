@@ -16,11 +16,12 @@ use Rattle.refusal.specs.declared.Verdict.the-variants.{Accepted}
 use Rattle.engine.specs.LogQuery.{logQueryOf, logFrom, logStatusOf}
 use Rattle.machine.specs.Fresh.{freshWorld}
 use Rattle.isolation.specs.Calls.{CallList, IsList, leavesOf, pointOf}
-use Rattle.isolation.specs.Points.{SameBoxesTo, worldAfter}
+use Rattle.isolation.specs.Points.{SameBoxesTo, opsOfDomain, worldAfter}
 use Rattle.isolation.specs.Statement.{BoxesAgree, Comparable, ComparableFor, EndsInWindowOf, HasCorresponding, InCommon}
 use Rattle.isolation.specs.Statement.{Isolation, Only, SameKernelSets, SameL1, SameSeen, SameSeenBy, SameSets, runOfList}
 use Rattle.isolation.proofs.OneRun.{every-start, queried, leaves, on-time, own-accepted, own-refused, refused-stays, split}
 use Rattle.isolation.proofs.OneRun.Leaves.{list-valid}
+use Rattle.isolation.proofs.TwoRuns.Positions.{position-is-ops}
 use Rattle.isolation.proofs.TwoRuns.{Same, SameFor, Shared, corresponding, two-runs}
 
 -- what a log query that is not refused hands back
@@ -135,6 +136,13 @@ isolated : (observer : ℕ) (one other : CallList) → IsList one → IsList oth
 isolated observer one other is is′ c =
     together (Only observer) (λ domain. ℕ-discrete domain observer) one other is is′ c .each observer refl
 
+-- a domain's position after a list
+positions : (list : CallList) (is : IsList list) (domain : ℕ)
+    → positionAt (leavesOf list .state) domain ≡ opsOfDomain (runOfList list) domain (pointOf list)
+positions list is domain =
+    ap (λ (w : World). positionAt (w .state) domain) (leaves list is)
+    ∙ position-is-ops (runOfList list) (list-valid list is) domain (pointOf list)
+
 pub isolation : Isolation
 isolation =
     record {
@@ -150,5 +158,6 @@ isolation =
             unchanged = λ list is call. refused-stays (list .plan) (list .scripts) call (leavesOf list);
             split = split;
             starts = λ list is. every-start (runOfList list) (list-valid list is);
+            positions = positions;
           };
     }

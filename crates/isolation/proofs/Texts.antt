@@ -43,6 +43,7 @@ narrower is i =
             unchanged = λ list n. i .lists .unchanged list (is list n);
             split = λ list n. i .lists .split list (is list n);
             starts = λ list n. i .lists .starts list (is list n);
+            positions = λ list n. i .lists .positions list (is list n);
           };
     }
 

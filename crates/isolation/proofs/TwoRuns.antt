@@ -11,6 +11,7 @@ pub mod OpStep
 pub mod Step
 pub mod Progress
 pub mod OpCounts
+pub mod Positions
 pub mod Near
 pub mod Windows
 pub mod Lockstep

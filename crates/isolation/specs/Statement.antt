@@ -21,7 +21,7 @@ use Rattle.isolation.specs.Calls.{Admissible, AllOwn, Call, CallList, Is
 use Rattle.isolation.specs.Calls.{isRefused, leavesOf, pointOf, refusedCode, runTwice}
 use Rattle.isolation.specs.Calls.{verdictAfter}
 use Rattle.isolation.specs.Points.{FreshRun, InWindowOf, SameBoxesTo, Starts, mostSteps}
-use Rattle.isolation.specs.Points.{opsOf, windowsAfter, worldAfter}
+use Rattle.isolation.specs.Points.{opsOf, opsOfDomain, windowsAfter, worldAfter}
 
 -- the run of a list
 abbrev pub runOfList : CallList → FreshRun
@@ -232,6 +232,13 @@ pub record ListLaws (Kind : CallList → Type 0) : Type 0 where
       → (window : ℕ)
       → window ≤ windowsTotal (list .plan)
       → StartedOnTime (runOfList list) mostSteps window
+
+  -- a domain's script position is the number of ops that its windows so far held
+  pub positions :
+      (list : CallList)
+      → Kind list
+      → (domain : ℕ)
+      → positionAt (leavesOf list .state) domain ≡ opsOfDomain (runOfList list) domain (pointOf list)
 
 -- ---- demand 3
 
