@@ -12,13 +12,14 @@ use Rattle.machine.specs.View.{worldWith}
 use Rattle.engine.specs.Running.{RunOutcome, runCallOf, stepCallOf}
 use Rattle.isolation.specs.Calls.{AllOwn, Call, Handed, afterCall, handed, leftIn, logAnswer, logStatus, own}
 use Rattle.isolation.specs.Calls.{runAnswer, runCall, verdictOf}
-use Rattle.isolation.proofs.OneRun.Calls.{is-own, left-same, ownAsked, ownThings}
+use Rattle.isolation.proofs.OneRun.Calls.{is-own, left-same, ownLogThings, ownThings}
 use Rattle.pirkvezo.specs.Answers.{allFit, answerLength, verdictNumber}
 use Rattle.pirkvezo.specs.LogQuery.{LogCall, hostLog, logAnswerOf, logDone}
 use Rattle.pirkvezo.specs.Numbers.{numbersFrom, planLength, planOf, stateLength, stateNumbers, stateOf}
 use Rattle.pirkvezo.specs.Running.{RunCall, hostRun, hostStep, runDone}
+use Rattle.pirkvezo.specs.Theorems.{RunKept}
 use Rattle.pirkvezo.proofs.Calls.{lengths}
-use Rattle.pirkvezo.proofs.Kept.{RunKept, run-kept}
+use Rattle.pirkvezo.proofs.Kept.{run-kept}
 use Rattle.pirkvezo.proofs.StateBack.{run-back}
 use Rattle.host.specs.Calls.{AllOwnArrays, Arrays, HostCall, LogArrays, OwnLogArrays, OwnRunArrays, RunArrays}
 use Rattle.host.specs.Calls.{afterHostCall, answerHanded, hostLogCall, hostRunCall, hostStepCall, isRefusal}
@@ -143,7 +144,7 @@ all-own-log-arrays arrays owned =
 abbrev pub asCall : HostCall → Call
 asCall (hostStepCall arrays) = runCall ownThings 1
 asCall (hostRunCall arrays limit) = runCall ownThings limit
-asCall (hostLogCall arrays domain) = logStatus ownAsked domain
+asCall (hostLogCall arrays domain) = logStatus ownLogThings domain
 
 pub as-own : (call : HostCall) → AllOwn (asCall call)
 as-own (hostStepCall arrays) = (tt, tt, tt, tt, tt, tt)

@@ -22,7 +22,7 @@ use Rattle.isolation.proofs.Isolation.{isolation}
 use Rattle.isolation.proofs.OneRun.{on-time, own-accepted, own-refused}
 use Rattle.isolation.proofs.OneRun.Leaves.{list-valid}
 use Rattle.pirkvezo.specs.Answers.{allFit, answerLength, verdictNumber}
-use Rattle.pirkvezo.specs.Numbers.{planOf, stateOf}
+use Rattle.pirkvezo.specs.Numbers.{planOf, positionsOffset, stateOf}
 use Rattle.pirkvezo.proofs.Runs.{run-at}
 use Rattle.host.specs.Calls.{AllOwnArrays, Arrays, HostCall, HostList, IsHostList, answerHanded, arraysLeft}
 use Rattle.host.specs.Calls.{hostLogCall, hostPointOf, hostRunCall, hostStepCall, isRefusal, numberReturned}
@@ -128,10 +128,11 @@ module _ (list : HostList) (is : IsHostList list) where
   position-at :
       (domain : ℕ)
       → domain < planOf (list .plan) .domains
-      → positionAt (stateOf (held .state)) domain ≡ getD (held .state) (2 + domain) 0
+      → positionAt (stateOf (held .state)) domain ≡ getD (held .state) (positionsOffset + domain) 0
   unfolding stateOf
   position-at domain declared =
-      run-at (held .state) 2 mostDomains domain (omega (arith, domains-most (planOf (list .plan)) host-valid))
+      run-at (held .state) positionsOffset mostDomains domain
+      (omega (arith, domains-most (planOf (list .plan)) host-valid))
 
 -- ---- two lists
 
@@ -175,10 +176,10 @@ module _ (observer : ℕ) (one other : HostList) (is : IsHostList one) (is′ : 
       comparable
 
   status : statusOn (one .plan) (arraysLeft one) observer ≡ Accepted
-  status = left (λ w w′. logStatusOf (planOf (one .plan)) (w .state) (w .log) observer ≡ Accepted) (seen .asked)
+  status = left (λ w w′. logStatusOf (planOf (one .plan)) (w .state) (w .log) observer ≡ Accepted) (seen .queried)
 
   status′ : statusOn (other .plan) (arraysLeft other) observer ≡ Accepted
-  status′ = left (λ w w′. logStatusOf (planOf (other .plan)) (w′ .state) (w′ .log) observer ≡ Accepted) (seen .asked′)
+  status′ = left (λ w w′. logStatusOf (planOf (other .plan)) (w′ .state) (w′ .log) observer ≡ Accepted) (seen .queried′)
 
   same-bytes : bytesOn (one .plan) (arraysLeft one) observer ≡ bytesOn (other .plan) (arraysLeft other) observer
   same-bytes =
@@ -225,10 +226,14 @@ host-isolation =
     record {
       onTime = host-on-time;
       isolated = host-isolated;
-      leaves = host-leaves;
-      accepted = host-accepted;
-      refused = host-refused;
-      unchanged = λ list is call. refused-keeps (list .plan) (list .scripts) call (arraysLeft list);
+      laws =
+          λ list is.
+          record {
+            leaves = host-leaves list is;
+            accepted = host-accepted list is;
+            refused = host-refused list is;
+            unchanged = λ call. refused-keeps (list .plan) (list .scripts) call (arraysLeft list);
+          };
       fromText = text-list;
       runOfText = text-run;
     }

@@ -17,7 +17,8 @@ use Rattle.isolation.specs.Statement.{BoxesAgree, Correspond, Only, SameSets, S
 use Rattle.isolation.specs.Statement.{StartedOnTime}
 use Rattle.pirkvezo.specs.Answers.{answerLength}
 use Rattle.pirkvezo.specs.LogQuery.{LogCall, hostLog}
-use Rattle.pirkvezo.specs.Numbers.{planOf, stateNumbers}
+use Rattle.pirkvezo.specs.Numbers.{clockOffset, completedOffset, planOf}
+use Rattle.pirkvezo.specs.Numbers.{positionsOffset, stateNumbers}
 use Rattle.host.specs.Calls.{AllOwnArrays, Arrays, HostCall, HostList, IsHostList, IsTextList}
 use Rattle.host.specs.Calls.{ReadArrays, afterHostCall, arraysLeft, hostLogCall, hostPointOf}
 use Rattle.host.specs.Calls.{hostRunCall, hostStepCall, isRefusal, numberReturned}
@@ -117,25 +118,47 @@ pub record HostSameSeen (observer : ℕ) (one other : HostList) : Type 0 where
       → length answer ≡ answerLength
       → length answer′ ≡ answerLength
       → shownAfter one observer answer ≡ shownAfter other observer answer′
-  -- its script position: number 2 + its own of the state array
+  -- its script position
   pub position :
-      getD (arraysLeft one .state) (2 + observer) 0
-      ≡ getD (arraysLeft other .state) (2 + observer) 0
+      getD (arraysLeft one .state) (positionsOffset + observer) 0
+      ≡ getD (arraysLeft other .state) (positionsOffset + observer) 0
   -- its part of the partitioned cache, entry by entry
   pub sets :
       SameSets (planOf (one .plan)) observer (arraysLeft one .cache) (arraysLeft other .cache)
-  -- the number of ops in each window that it has completed: the state array begins with the windows
-  -- completed
+  -- the number of ops in each window that it has completed
   pub ops :
       (window : ℕ)
-      → window < getD (arraysLeft one .state) 0 0
+      → window < getD (arraysLeft one .state) completedOffset 0
       → windowOwner (planOf (one .plan)) window ≡ observer
       → opsOf (runOfHost one) window (hostPointOf one)
       ≡ opsOf (runOfHost other) window (hostPointOf other)
-  -- in its own window, the clocks: number 1 of the state array
+  -- in its own window, the clocks
   pub clock :
       InWindowOf (Only observer) (runOfHost one) (hostPointOf one)
-      → getD (arraysLeft one .state) 1 0 ≡ getD (arraysLeft other .state) 1 0
+      → getD (arraysLeft one .state) clockOffset 0 ≡ getD (arraysLeft other .state) clockOffset 0
+
+-- ---- one list
+
+pub record HostListLaws (list : HostList) : Type 0 where
+  -- what it leaves in its arrays is what the machine's steps from a fresh start leave
+  pub leaves : arraysLeft list ≡ arraysOf (worldAfter (runOfHost list) (hostPointOf list))
+  -- one more call on its own arrays: if it is admissible it returns 0
+  pub accepted :
+      (call : HostCall)
+      → AllOwnArrays call
+      → HostAdmissible list call
+      → numberReturned (list .plan) (list .scripts) call (arraysLeft list) ≡ 0
+  -- and else it is refused
+  pub refused :
+      (call : HostCall)
+      → AllOwnArrays call
+      → (HostAdmissible list call → ⊥)
+      → isRefusal (numberReturned (list .plan) (list .scripts) call (arraysLeft list)) ≡ true
+  -- a refused call, whatever it was handed, leaves every array of the list's own as it was
+  pub unchanged :
+      (call : HostCall)
+      → isRefusal (numberReturned (list .plan) (list .scripts) call (arraysLeft list)) ≡ true
+      → afterHostCall (list .plan) (list .scripts) call (arraysLeft list) ≡ arraysLeft list
 
 -- ---- demand 3
 
@@ -149,34 +172,7 @@ pub record HostIsolation : Type 0 where
       → IsHostList other
       → HostComparable observer one other
       → HostSameSeen observer one other
-  -- what a list leaves in its arrays is what the machine's steps from a fresh start leave
-  pub leaves :
-      (list : HostList)
-      → IsHostList list
-      → arraysLeft list ≡ arraysOf (worldAfter (runOfHost list) (hostPointOf list))
-  -- one more call on the list's own arrays: if it is admissible it returns 0
-  pub accepted :
-      (list : HostList)
-      → IsHostList list
-      → (call : HostCall)
-      → AllOwnArrays call
-      → HostAdmissible list call
-      → numberReturned (list .plan) (list .scripts) call (arraysLeft list) ≡ 0
-  -- and else it is refused
-  pub refused :
-      (list : HostList)
-      → IsHostList list
-      → (call : HostCall)
-      → AllOwnArrays call
-      → (HostAdmissible list call → ⊥)
-      → isRefusal (numberReturned (list .plan) (list .scripts) call (arraysLeft list)) ≡ true
-  -- a refused call, whatever it was handed, leaves every array of the list's own as it was
-  pub unchanged :
-      (list : HostList)
-      → IsHostList list
-      → (call : HostCall)
-      → isRefusal (numberReturned (list .plan) (list .scripts) call (arraysLeft list)) ≡ true
-      → afterHostCall (list .plan) (list .scripts) call (arraysLeft list) ≡ arraysLeft list
+  pub laws : (list : HostList) → IsHostList list → HostListLaws list
   -- a list from a text is such a list: its fresh start is never refused
   pub fromText : (arrays : ReadArrays) (list : HostList) → IsTextList arrays list → IsHostList list
   -- and its run is that of the plan and the script store that the text gives

@@ -15,7 +15,7 @@ use Rattle.plan.specs.declared.Plan.{Plan}
 use Rattle.plan.specs.Limits.{mostDomains}
 use Rattle.plan.specs.Sums.{allBelow}
 use Rattle.plan.proofs.Sums.{all-below}
-use Rattle.plan.proofs.ValidPlans.{both}
+use Rattle.lists.proofs.Tests.{both}
 use Rattle.script.specs.Limits.{mostOps}
 use Rattle.lexer.specs.Decimal.{decimalOf}
 use Rattle.lexer.proofs.Decimals.{decimal-most}
