@@ -1,5 +1,5 @@
 -- What a log query on arrays of the right lengths shows: the engine's answer in numbers, and the bytes of the log that
--- was asked for. Assumes nothing.
+-- was queried. Assumes nothing.
 use Prim.Native.Nat.{ℕ}
 use mathlib.Core.Bool.{true}
 use mathlib.Core.List.{List}

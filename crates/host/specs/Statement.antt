@@ -8,13 +8,15 @@ use mathlib.Core.List.{List}
 use mathlib.Core.Path.{_≡_}
 use lib.ListN.{getD, length}
 use Rattle.lists.specs.Part.{part}
+use Rattle.plan.specs.Limits.{mostDomains}
 use Rattle.plan.specs.Windows.{windowOwner}
 use Rattle.script.specs.Limits.{scriptsLength}
+use Rattle.ops.specs.Ops.{boxIndex}
 use Rattle.state.specs.World.{World}
 use Rattle.reader.specs.Read.{readOf}
 use Rattle.isolation.specs.Points.{FreshRun, InWindowOf, opsOf, windowsAfter, worldAfter}
-use Rattle.isolation.specs.Statement.{BoxesAgree, Correspond, Only, SameSets, ScriptsAgree}
-use Rattle.isolation.specs.Statement.{StartedOnTime}
+use Rattle.isolation.specs.Statement.{BoxesAgree, Correspond, Only, SameKernelSets, SameL1, SameSets}
+use Rattle.isolation.specs.Statement.{ScriptsAgree, StartedOnTime}
 use Rattle.pirkvezo.specs.Answers.{answerLength}
 use Rattle.pirkvezo.specs.LogQuery.{LogCall, hostLog}
 use Rattle.pirkvezo.specs.Numbers.{clockOffset, completedOffset, planOf}
@@ -59,20 +61,22 @@ HostWindowsOnTime list =
 
 -- ---- (B): its premises
 
--- what two lists must have in common: the plan's numbers, the observer's script, the logs' length;
--- they end at corresponding points, and the boxes addressed to the observer were equal at the start
--- of each of its windows so far
-pub record HostComparable (observer : ℕ) (one other : HostList) : Type 0 where
+-- what two lists must have in common, over a predicate that names domains: the plan's numbers, the
+-- named domains' scripts, the logs' length; they end at corresponding points, and the boxes addressed
+-- to named domains were equal at the start of each of their windows so far
+pub record HostComparableFor (Named : ℕ → Type 0) (one other : HostList) : Type 0 where
   pub plans : one .plan ≡ other .plan
-  pub declared : observer < planOf (one .plan) .domains
-  pub scripts : ScriptsAgree (Only observer) (one .scripts) (other .scripts)
+  pub declared : (domain : ℕ) → Named domain → domain < planOf (one .plan) .domains
+  pub scripts : ScriptsAgree Named (one .scripts) (other .scripts)
   pub logs : length (one .log) ≡ length (other .log)
   pub points :
-      Correspond (Only observer) (runOfHost one) (hostPointOf one) (runOfHost other)
-      (hostPointOf other)
+      Correspond Named (runOfHost one) (hostPointOf one) (runOfHost other) (hostPointOf other)
   pub boxes :
-      BoxesAgree (Only observer) (runOfHost one) (hostPointOf one) (runOfHost other)
-      (hostPointOf other)
+      BoxesAgree Named (runOfHost one) (hostPointOf one) (runOfHost other) (hostPointOf other)
+
+-- the observer alone is named
+abbrev pub HostComparable : ℕ → HostList → HostList → Type 0
+HostComparable observer one other = HostComparableFor (Only observer) one other
 
 -- ---- (B): its conclusion
 
@@ -99,6 +103,10 @@ logShown plan state log domain answer = shownBy log (hostLog plan state log doma
 abbrev pub shownAfter : HostList → ℕ → List ℕ → LogShown
 shownAfter list domain answer =
     logShown (list .plan) (arraysLeft list .state) (arraysLeft list .log) domain answer
+
+-- a list ends in a window of a named domain
+abbrev pub HostEndsInWindowOf : (ℕ → Type 0) → HostList → Type 0
+HostEndsInWindowOf Named list = InWindowOf Named (runOfHost list) (hostPointOf list)
 
 -- what the observer sees is equal after two lists
 pub record HostSameSeen (observer : ℕ) (one other : HostList) : Type 0 where
@@ -132,10 +140,22 @@ pub record HostSameSeen (observer : ℕ) (one other : HostList) : Type 0 where
       → windowOwner (planOf (one .plan)) window ≡ observer
       → opsOf (runOfHost one) window (hostPointOf one)
       ≡ opsOf (runOfHost other) window (hostPointOf other)
-  -- in its own window, the clocks
+  -- in its own window: the clock, L1, the kernel's sets, and the boxes addressed to it
   pub clock :
-      InWindowOf (Only observer) (runOfHost one) (hostPointOf one)
+      HostEndsInWindowOf (Only observer) one
       → getD (arraysLeft one .state) clockOffset 0 ≡ getD (arraysLeft other .state) clockOffset 0
+  pub l1 :
+      HostEndsInWindowOf (Only observer) one
+      → SameL1 (arraysLeft one .cache) (arraysLeft other .cache)
+  pub kernelSets :
+      HostEndsInWindowOf (Only observer) one
+      → SameKernelSets (arraysLeft one .cache) (arraysLeft other .cache)
+  pub boxes :
+      HostEndsInWindowOf (Only observer) one
+      → (sender : ℕ)
+      → sender < mostDomains
+      → getD (arraysLeft one .boxes) (boxIndex sender observer) 0
+      ≡ getD (arraysLeft other .boxes) (boxIndex sender observer) 0
 
 -- ---- one list
 
@@ -162,7 +182,7 @@ pub record HostListLaws (list : HostList) : Type 0 where
 
 -- ---- demand 3
 
-pub record HostIsolation : Type 0 where
+pub record HostIsolation : Type 1 where
   -- (A)
   pub onTime : (list : HostList) → IsHostList list → HostWindowsOnTime list
   -- (B)
@@ -172,6 +192,17 @@ pub record HostIsolation : Type 0 where
       → IsHostList other
       → HostComparable observer one other
       → HostSameSeen observer one other
+  -- (B) of any set of domains: each of its members sees the same
+  pub together :
+      (Named : ℕ → Type 0)
+      → ((domain : ℕ) → Dec (Named domain))
+      → (one other : HostList)
+      → IsHostList one
+      → IsHostList other
+      → HostComparableFor Named one other
+      → (member : ℕ)
+      → Named member
+      → HostSameSeen member one other
   pub laws : (list : HostList) → IsHostList list → HostListLaws list
   -- a list from a text is such a list: its fresh start is never refused
   pub fromText : (arrays : ReadArrays) (list : HostList) → IsTextList arrays list → IsHostList list

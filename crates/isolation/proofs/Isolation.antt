@@ -151,13 +151,14 @@ isolation =
       together = together;
       corresponding = point-there;
       lists =
+          λ list is.
           record {
-            leaves = leaves;
-            accepted = own-accepted;
-            refused = own-refused;
-            unchanged = λ list is call. refused-stays (list .plan) (list .scripts) call (leavesOf list);
-            split = split;
-            starts = λ list is. every-start (runOfList list) (list-valid list is);
-            positions = positions;
+            leaves = leaves list is;
+            accepted = own-accepted list is;
+            refused = own-refused list is;
+            unchanged = λ call. refused-stays (list .plan) (list .scripts) call (leavesOf list);
+            split = split list is;
+            starts = every-start (runOfList list) (list-valid list is);
+            positions = positions list is;
           };
     }

@@ -35,16 +35,7 @@ narrower is i =
       isolated = λ observer one other n n′. i .isolated observer one other (is one n) (is other n′);
       together = λ Named isNamed one other n n′. i .together Named isNamed one other (is one n) (is other n′);
       corresponding = λ Named isNamed one other n n′. i .corresponding Named isNamed one other (is one n) (is other n′);
-      lists =
-          record {
-            leaves = λ list n. i .lists .leaves list (is list n);
-            accepted = λ list n. i .lists .accepted list (is list n);
-            refused = λ list n. i .lists .refused list (is list n);
-            unchanged = λ list n. i .lists .unchanged list (is list n);
-            split = λ list n. i .lists .split list (is list n);
-            starts = λ list n. i .lists .starts list (is list n);
-            positions = λ list n. i .lists .positions list (is list n);
-          };
+      lists = λ list n. i .lists list (is list n);
     }
 
 pub accepted-isolation : AcceptedIsolation

@@ -188,57 +188,43 @@ pub record HasCorresponding
 
 -- ---- laws of a single list
 
--- said of all lists of some kind
-pub record ListLaws (Kind : CallList → Type 0) : Type 0 where
-  -- what a list leaves is what n steps from a fresh start leave, n its point
-  pub leaves :
-      (list : CallList) → Kind list → leavesOf list ≡ worldAfter (runOfList list) (pointOf list)
-  -- one more call, on the list's own things: if it is admissible it is not refused
+pub record ListLaws (list : CallList) : Type 0 where
+  -- what it leaves is what n steps from a fresh start leave, n its point
+  pub leaves : leavesOf list ≡ worldAfter (runOfList list) (pointOf list)
+  -- one more call, on its own things: if it is admissible it is not refused
   pub accepted :
-      (list : CallList)
-      → Kind list
-      → (call : Call)
+      (call : Call)
       → AllOwn call
       → Admissible (list .plan) (list .scripts) call
       → verdictAfter list call ≡ Accepted
   -- and else it is, with 11, 0 or with 4, 0
   pub refused :
-      (list : CallList)
-      → Kind list
-      → (call : Call)
+      (call : Call)
       → AllOwn call
       → (Admissible (list .plan) (list .scripts) call → ⊥)
       → codeOf (verdictAfter list call) ≡ refusedCode call
   -- a refused call, whatever it was handed, leaves the list's own world as it was
   pub unchanged :
-      (list : CallList)
-      → Kind list
-      → (call : Call)
+      (call : Call)
       → isRefused (verdictAfter list call) ≡ true
       → afterCall (list .plan) (list .scripts) call (leavesOf list) ≡ leavesOf list
   -- a running that may do a + b steps is one that may do a, then one that may do b. The sum is a
   -- number like any other here, also where it is more than the entry point's limit can hold.
   pub split :
-      (list : CallList)
-      → Kind list
-      → (first second : ℕ)
+      (first second : ℕ)
       → runCallOf (list .plan) (list .scripts) (leavesOf list) (first + second)
       ≡ runTwice (list .plan) (list .scripts) (leavesOf list) first second
-  -- every window of the plan does start in its run, on time, and so does its end: the run is over
-  -- after at most `mostSteps` steps
+  -- every window of the plan does start in its run, on time, and so does the run's end, which is
+  -- where a next window would start: the run is over after at most `mostSteps` steps
   pub starts :
-      (list : CallList)
-      → Kind list
-      → (window : ℕ)
+      (window : ℕ)
       → window ≤ windowsTotal (list .plan)
       → StartedOnTime (runOfList list) mostSteps window
-
   -- a domain's script position is the number of ops that its windows so far held
   pub positions :
-      (list : CallList)
-      → Kind list
-      → (domain : ℕ)
-      → positionAt (leavesOf list .state) domain ≡ opsOfDomain (runOfList list) domain (pointOf list)
+      (domain : ℕ)
+      → positionAt (leavesOf list .state) domain
+      ≡ opsOfDomain (runOfList list) domain (pointOf list)
 
 -- ---- demand 3
 
@@ -275,7 +261,7 @@ pub record IsolationOf (Kind : CallList → Type 0) : Type 1 where
       → ((at : ℕ) → BoxesAgree Named (runOfList one) (pointOf one) (runOfList other) at)
       → HasCorresponding Named (runOfList one) (pointOf one) (runOfList other)
   -- and what holds of each list
-  pub lists : ListLaws Kind
+  pub lists : (list : CallList) → Kind list → ListLaws list
 
 -- of every list whose fresh start was not refused
 abbrev pub Isolation : Type 1
