@@ -31,7 +31,7 @@ use Rattle.isolation.specs.Calls.{logCall, logStatus, runCall, stepCall}
 use Rattle.isolation.specs.Calls.{afterCall, afterCalls, leavesOf, logAnswer, pointOf, runAnswer, startWorld, stepAnswer}
 use Rattle.isolation.specs.Calls.{isRefused, stepsCounted, stepsOfCalls, verdictOf}
 use Rattle.isolation.specs.Points.{FreshRun, InWindowOf, SameBoxesTo, Starts, opsOf, windowsAfter, worldAfter}
-use Rattle.isolation.specs.Statement.{BoxesAgree, Comparable, Correspond, InCommon, Only, SamePlan, SameSeen}
+use Rattle.isolation.specs.Statement.{BoxesAgree, Comparable, Correspond, InCommon, Only, SamePlan, SameSeen, StartedOnTime}
 use Rattle.isolation.specs.Statement.{ScriptsAgree, runOfList}
 use Rattle.isolation.proofs.Isolation.{isolation}
 use Rattle.isolation.proofs.TwoRuns.{Same}
@@ -376,4 +376,42 @@ masks-needed claim =
     ∙ sym (no-mail (reads (Compute 5)) refl at′ (boxIndex sender recipient) soFar′ (omega arith)))
     in
     let kind : _≡_ {A = ℕ} 2 3 = ap (λ (log : List ℕ). getD log 0 0) (same .log) in
+    omega arith
+
+-- ---- with a pad of 0 windows start late
+
+-- the plan above without its pad
+abbrev noPad : FreshRun
+noPad =
+    record {
+      plan =
+          record {
+            pad = 0;
+            run = plan .run;
+            domains = plan .domains;
+            windows = plan .windows;
+            shares = plan .shares;
+            rights = plan .rights;
+            owners = plan .owners;
+            lengths = plan .lengths;
+            masks = plan .masks;
+          };
+      scripts = replicate scriptsLength 0;
+      log = replicate 192 0;
+    }
+
+-- nobody has an op: the first step is the first window's switch
+first-switch : (earlier : ℕ) → earlier < 1 → windowsAfter noPad earlier < 1
+unfolding computing
+first-switch zero below = omega arith
+first-switch (suc earlier) below = absurd (omega arith)
+
+-- (A) fails: the two flushes take 8 ticks each, and the second window starts at 316 and not at 300
+pub pad-needed :
+    ((run : FreshRun) (count window : ℕ) → window ≤ windowsAfter run count → StartedOnTime run count window) → ⊥
+unfolding computing
+pad-needed claim =
+    let t = claim noPad 1 1 (omega arith) in
+    let at-first : t .at ≡ 1 = one-start noPad 1 (t .at) 1 (t .starts) (record { reached = refl; first = first-switch }) in
+    let late : _≡_ {A = ℕ} 316 300 = ap (λ (at : ℕ). worldAfter noPad at .state .clock) (sym at-first) ∙ t .onTime in
     omega arith
