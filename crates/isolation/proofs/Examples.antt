@@ -40,7 +40,7 @@ use Rattle.isolation.proofs.TwoRuns.Progress.{no-fewer, one-start}
 -- ---- one plan and two script stores
 
 -- three domains; the observer is 0, and 1 may send to it; the windows 1, 0, 2 twice
-abbrev plan : Plan
+abbrev pub plan : Plan
 plan =
     record {
       pad = 276;
@@ -88,7 +88,7 @@ abbrev logThings : LogThings
 logThings = record { plan = own; state = own; log = own }
 
 -- the first list steps once, has a call on mixed things refused, runs on into the observer's second window, and asks
-abbrev one : CallList
+abbrev pub one : CallList
 one =
     record {
       plan = plan;
@@ -107,7 +107,7 @@ one =
     }
 
 -- the second asks between two runs; its run takes a step more to the same point
-abbrev other : CallList
+abbrev pub other : CallList
 other =
     record {
       plan = plan;
@@ -120,14 +120,14 @@ other =
     }
 
 -- every definition that the examples compute with, named once
-computing : ℕ
+unfoldable pub computing : ℕ
 unfolding
     engine.computing
     runAnswer stepAnswer logAnswer afterCall verdictOf stepsCounted afterCalls stepsOfCalls
     Proper startWorld worldAfter opsOf
 computing = 0
 
-one-is : IsList one
+pub one-is : IsList one
 unfolding computing
 one-is =
     record {
@@ -138,7 +138,7 @@ one-is =
       );
     }
 
-other-is : IsList other
+pub other-is : IsList other
 unfolding computing
 other-is =
     record { started = refl; proper = (inr (tt, tt, tt, tt, tt, tt), (inr (tt, tt, tt), (inr (tt, tt, tt, tt, tt, tt), tt))) }
