@@ -1,6 +1,7 @@
--- Examples that compute. Two lists of calls that may be compared and that have something to see: the rivals' ops differ, the observer gets a message in
--- each of its two windows, a running's limit ends inside the second, and a call that was handed some things of others is refused. And that demand 3 needs
--- what it assumes: without the premise on boxes it fails, and so it does with masks that overlap. Assumes nothing.
+-- Examples that compute. Two lists of calls that may be compared and that have something to see: the rivals' ops
+-- differ, the observer gets a message in each of its two windows, a running's limit ends inside the second, and a call
+-- that was handed some things of others is refused. And that demand 3 needs what it assumes: without the premise on
+-- boxes it fails, and so it does with masks that overlap. Assumes nothing.
 use Prim.Native.Nat.{ℕ, zero, suc, _+_, _-_, _*_, _≤_, _<_}
 use mathlib.Core.Bool.{Bool, true}
 use mathlib.Core.List.{List, [], _∷_, _++_, map}
@@ -23,7 +24,7 @@ use Rattle.plan.proofs.Sums.{all-below}
 use Rattle.cache.specs.Lines.{tableLength}
 use Rattle.ops.specs.Ops.{boxIndex, boxesLength}
 use Rattle.state.specs.declared.State.{State}
-use Rattle.state.specs.World.{World, positionAt}
+use Rattle.state.specs.World.{World, positionAt, recordsAt}
 use Rattle.engine.specs.LogQuery.{logQueryOf}
 use Rattle.engine.proofs.Computing as engine
 use Rattle.isolation.specs.Calls.{CallList, IsList, LogThings, Proper, RunThings, foreign, own}
@@ -61,7 +62,8 @@ script ops = map storedOf ops ++ replicate (mostOps - length ops) 0
 abbrev mine : List ℕ
 mine = script (Receive 1 ∷ Read 3 ∷ Read 67 ∷ Receive 1 ∷ Read 3 ∷ Compute 7 ∷ Write 5 ∷ [])
 
--- in one run a rival sends two words; in the other it writes, and overwrites a word that it sent; and the third domain computes, or sends and reads
+-- in one run a rival sends two words; in the other it writes, and overwrites a word that it sent; and the third domain
+-- computes, or sends and reads
 abbrev rivals : List ℕ
 rivals =
     script (Send 0 77 ∷ Read 100 ∷ Send 0 88 ∷ [])
@@ -247,13 +249,21 @@ pub mid-window :
 unfolding computing
 mid-window = (refl, refl, record { notEnded = omega arith; owner = refl }, refl)
 
+-- a host that stops both after 14 steps shows the observer five records of one run and four of the other: a limit on
+-- steps is no corresponding point
+pub fourteen-steps :
+    (recordsAt (worldAfter (runOfList one) 14 .state) 0 ≡ 5) × (recordsAt (worldAfter (runOfList other) 14 .state) 0 ≡ 4)
+unfolding computing
+fourteen-steps = (refl, refl)
+
 -- the call on mixed things was refused
 pub mixed-refused :
     isRefused (verdictOf plan (mine ++ rivals) (runCall mixedThings 9) (worldAfter (runOfList one) 1)) ≡ true
 unfolding computing
 mixed-refused = refl
 
--- the observer was sent 77 in its first window and 88 in its second: the kinds and values of its first and fourth records
+-- the observer was sent 77 in its first window and 88 in its second: the kinds and values of its first and fourth
+-- records
 pub received :
     (getD (handedBack one 0) 0 0 ≡ 5)
     × (getD (handedBack one 0) 2 0 ≡ 77)

@@ -1,5 +1,5 @@
--- The example's two lists stand under an accepted plan: a text gives it, and so demand 3 of accepted plans speaks of them.
--- Assumes nothing.
+-- The example's two lists stand under an accepted plan: a text gives it, and so demand 3 of accepted plans speaks of
+-- them. Assumes nothing.
 use Prim.Native.Nat.{ℕ}
 use Prim.Native.String.{String}
 use mathlib.Core.List.{List}
