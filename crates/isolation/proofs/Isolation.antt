@@ -6,6 +6,7 @@ use mathlib.Core.Path.{_≡_, refl, sym, ap, subst, subst₂, _∙_}
 use native.Mathlib.Decide.{ℕ-discrete}
 use lib.ListN.{length}
 use Rattle.plan.specs.declared.Plan.{Plan}
+use Rattle.plan.specs.Validity.{planValid}
 use Rattle.plan.specs.Windows.{windowsTotal}
 use Rattle.records.specs.Records.{logPart, partRecords}
 use Rattle.state.specs.declared.State.{State}
@@ -17,11 +18,13 @@ use Rattle.engine.specs.LogQuery.{logQueryOf, logFrom, logStatusOf}
 use Rattle.machine.specs.Fresh.{freshWorld}
 use Rattle.isolation.specs.Calls.{CallList, IsList, leavesOf, pointOf}
 use Rattle.isolation.specs.Points.{SameBoxesTo, opsOfDomain, worldAfter}
+use Rattle.isolation.specs.Solo.{SoloAgreement}
 use Rattle.isolation.specs.Statement.{BoxesAgree, Comparable, ComparableFor, EndsInWindowOf, HasCorresponding, InCommon}
 use Rattle.isolation.specs.Statement.{Isolation, Only, SameKernelSets, SameL1, SameSeen, SameSeenBy, SameSets, runOfList}
 use Rattle.isolation.proofs.OneRun.{every-start, queried, leaves, on-time, own-accepted, own-refused, refused-stays, split}
 use Rattle.isolation.proofs.OneRun.Leaves.{list-valid}
 use Rattle.isolation.proofs.TwoRuns.Positions.{position-is-ops}
+use Rattle.isolation.proofs.TwoRuns.Solo.{agrees-with-solo}
 use Rattle.isolation.proofs.TwoRuns.{Same, SameFor, Shared, corresponding, two-runs}
 
 -- what a log query that is not refused hands back
@@ -162,3 +165,8 @@ isolation =
             positions = positions list is;
           };
     }
+
+-- every list agrees with what was computed for a set of domains
+pub solo-agreement : SoloAgreement
+solo-agreement input list is plans m =
+    agrees-with-solo input (list .scripts) (list .log) (pointOf list) (ap planValid (sym plans) ∙ list-valid list is) m

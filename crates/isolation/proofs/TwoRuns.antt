@@ -17,6 +17,7 @@ pub mod Windows
 pub mod Lockstep
 pub mod Ready
 pub mod Corresponding
+pub mod Solo
 use Prim.Native.Nat.{ℕ, _≤_, _<_}
 use mathlib.Core.Bool.{true}
 use mathlib.Core.List.{List}
@@ -43,15 +44,7 @@ use Log.{part-of-log}
 use Indices.{kernel, l1, own-set}
 use Ready.{BoxesKept, Given}
 use Relations.{same-position, same-records}
-use Windows.{runBy}
-
--- the boxes addressed to the named domains
-pub record BoxTo (Named : ℕ → Type 0) (index : ℕ) : Type 0 where
-  pub sender : ℕ
-  pub recipient : ℕ
-  pub known : sender < mostDomains
-  pub named : Named recipient
-  pub addressed : index ≡ boxIndex sender recipient
+use Windows.{BoxTo, runBy}
 
 -- what two runs must have in common
 pub record Shared (Named : ℕ → Type 0) (one other : FreshRun) : Type 0 where

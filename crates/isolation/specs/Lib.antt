@@ -2,3 +2,4 @@ pub mod Calls
 pub mod Points
 pub mod Statement
 pub mod Texts
+pub mod Solo

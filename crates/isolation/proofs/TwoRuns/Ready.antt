@@ -31,7 +31,7 @@ pub record Ready (plan : Plan) (quota : ℕ) (Named : ℕ → Type 0) (one other
 
 -- ---- a fresh start
 
-fresh-ready : (plan : Plan) (quota : ℕ) (Named : ℕ → Type 0) (log log′ : List ℕ) → length log ≡ length log′
+pub fresh-ready : (plan : Plan) (quota : ℕ) (Named : ℕ → Type 0) (log log′ : List ℕ) → length log ≡ length log′
     → Ready plan quota Named (freshWorld log) (freshWorld log′)
 unfolding freshWorld freshState
 fresh-ready plan quota Named log log′ same = record { near = alike; clock = refl; flushed = agree-refl _ _ }

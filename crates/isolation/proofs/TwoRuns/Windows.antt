@@ -35,6 +35,14 @@ pub record Watched (plan : Plan) (Named Kept : ℕ → Type 0) : Type 0 where
   pub declared : (domain : ℕ) → Named domain → domain < plan .domains
   pub to : (domain : ℕ) → Named domain → (sender : ℕ) → sender < mostDomains → Kept (boxIndex sender domain)
 
+-- the boxes addressed to the named domains
+pub record BoxTo (Named : ℕ → Type 0) (index : ℕ) : Type 0 where
+  pub sender : ℕ
+  pub recipient : ℕ
+  pub known : sender < mostDomains
+  pub named : Named recipient
+  pub addressed : index ≡ boxIndex sender recipient
+
 -- ---- a window of one run
 
 -- the start of a window so far, and the steps since
