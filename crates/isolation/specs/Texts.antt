@@ -3,7 +3,7 @@ use mathlib.Core.Path.{_≡_}
 use lib.ListN.{length}
 use Rattle.cache.specs.Lines.{tableLength}
 use Rattle.ops.specs.Ops.{boxesLength}
-use Rattle.roundtrip.specs.Shaped.{Given}
+use Rattle.roundtrip.specs.Accepted.{Given}
 use Rattle.isolation.specs.Calls.{CallList, Proper, startWorld}
 use Rattle.isolation.specs.Statement.{IsolationOf}
 

@@ -10,50 +10,51 @@ use lib.Dec.{ltb}
 use lib.Pow.{ones-lt, pow-add, pow-mono, pow-pos, shl-exact, shl-lt, shl-shr}
 use borrow.Author.Tests.{eqb-true, ltb-false, ltb-true}
 use Rattle.plan.specs.Colours.{hasBit, maskFrom}
+use Rattle.plan.specs.Limits.{domainColours}
 
 -- a number has no bit at or past its width
-pub no-high-bit : (number width place : ℕ) → number < 2 ^ width → width ≤ place → hasBit number place ≡ true → ⊥
+pub no-high-bit : (number width index : ℕ) → number < 2 ^ width → width ≤ index → hasBit number index ≡ true → ⊥
 unfolding hasBit
-no-high-bit number width place small past has =
-    let gone : number / 2 ^ place ≡ 0 = div-eq-of-lt (lt-of-lt-of-le small (pow-mono past)) in
-    let none : number / 2 ^ place % 2 ≡ 0 = ap (λ (n : ℕ). n % 2) gone in
-    let one : number / 2 ^ place % 2 ≡ 1 = eqb-true _ _ has in
+no-high-bit number width index small past has =
+    let gone : number / 2 ^ index ≡ 0 = div-eq-of-lt (lt-of-lt-of-le small (pow-mono past)) in
+    let none : number / 2 ^ index % 2 ≡ 0 = ap (λ (n : ℕ). n % 2) gone in
+    let one : number / 2 ^ index % 2 ≡ 1 = eqb-true _ _ has in
     omega arith
 
 -- 0 has no bit
-pub zero-no-bit : (place : ℕ) → hasBit 0 place ≡ true → ⊥
-zero-no-bit place has = no-high-bit 0 0 place (omega arith) (omega arith) has
+pub zero-no-bit : (index : ℕ) → hasBit 0 index ≡ true → ⊥
+zero-no-bit index has = no-high-bit 0 0 index (omega arith) (omega arith) has
 
 -- a shifted number has no bit below the shift
-pub no-low-bit : (number shift place : ℕ) → place < shift → hasBit (number * 2 ^ shift) place ≡ true → ⊥
+pub no-low-bit : (number shift index : ℕ) → index < shift → hasBit (number * 2 ^ shift) index ≡ true → ⊥
 unfolding hasBit
-no-low-bit number shift place below has =
-    let rest = shift - suc place in
-    let shape : shift ≡ suc rest + place = omega arith in
-    let split : number * 2 ^ shift ≡ number * 2 ^ suc rest * 2 ^ place =
-    ap (λ (n : ℕ). number * 2 ^ n) shape ∙ ap (λ (n : ℕ). number * n) (pow-add 2 (suc rest) place) ∙ sym (mul-assoc number (2 ^ suc rest) (2 ^ place)) in
-    let even : number * 2 ^ shift / 2 ^ place % 2 ≡ 0 =
-    ap (λ (n : ℕ). n / 2 ^ place % 2) split ∙ ap (λ (n : ℕ). n % 2) (shl-shr (number * 2 ^ suc rest) place) ∙ shifted-even number rest in
-    let one : number * 2 ^ shift / 2 ^ place % 2 ≡ 1 = eqb-true _ _ has in
+no-low-bit number shift index below has =
+    let rest = shift - suc index in
+    let shape : shift ≡ suc rest + index = omega arith in
+    let split : number * 2 ^ shift ≡ number * 2 ^ suc rest * 2 ^ index =
+    ap (λ (n : ℕ). number * 2 ^ n) shape ∙ ap (λ (n : ℕ). number * n) (pow-add 2 (suc rest) index) ∙ sym (mul-assoc number (2 ^ suc rest) (2 ^ index)) in
+    let even : number * 2 ^ shift / 2 ^ index % 2 ≡ 0 =
+    ap (λ (n : ℕ). n / 2 ^ index % 2) split ∙ ap (λ (n : ℕ). n % 2) (shl-shr (number * 2 ^ suc rest) index) ∙ shifted-even number rest in
+    let one : number * 2 ^ shift / 2 ^ index % 2 ≡ 1 = eqb-true _ _ has in
     omega arith
 
 -- the bits of so many adjacent colours from a first one on
-pub mask-bits : (first count place : ℕ) → hasBit (maskFrom first count) place ≡ true → (first ≤ place) × (place < first + count)
+pub mask-bits : (first count index : ℕ) → hasBit (maskFrom first count) index ≡ true → (first ≤ index) × (index < first + count)
 unfolding maskFrom
-mask-bits first count place has = (low (ltb place first) refl, high (ltb place (first + count)) refl)
+mask-bits first count index has = (low (ltb index first) refl, high (ltb index (first + count)) refl)
   where
-    low : (b : Bool) → ltb place first ≡ b → first ≤ place
-    low true e = absurd (no-low-bit (2 ^ count - 1) first place (ltb-true place first e) has)
-    low false e = ltb-false place first e
+    low : (b : Bool) → ltb index first ≡ b → first ≤ index
+    low true e = absurd (no-low-bit (2 ^ count - 1) first index (ltb-true index first e) has)
+    low false e = ltb-false index first e
 
     small : (2 ^ count - 1) * 2 ^ first < 2 ^ (count + first)
     small = shl-lt count first (ones-lt count)
 
-    high : (b : Bool) → ltb place (first + count) ≡ b → place < first + count
-    high true e = ltb-true place (first + count) e
+    high : (b : Bool) → ltb index (first + count) ≡ b → index < first + count
+    high true e = ltb-true index (first + count) e
     high false e =
-        let past : first + count ≤ place = ltb-false place (first + count) e in
-        absurd (no-high-bit _ (count + first) place small (omega arith) has)
+        let past : first + count ≤ index = ltb-false index (first + count) e in
+        absurd (no-high-bit _ (count + first) index small (omega arith) has)
 
 -- as many ones as colours
 pub mask-ones : (first count : ℕ) → ones (maskFrom first count) ≡ count
@@ -65,15 +66,15 @@ mask-ones first count =
     ∙ add-zero count
 
 -- a mask of at most 15 colours, as it is computed at 32 bits
-pub one-shifted : (count : ℕ) → count ≤ 15 → 1 * 2 ^ count % 2 ^ 32 ≡ 2 ^ count
+pub one-shifted : (count : ℕ) → count ≤ domainColours → 1 * 2 ^ count % 2 ^ 32 ≡ 2 ^ count
 one-shifted count small = shl-exact 1 count 32 (omega arith) (omega arith) ∙ one-mul (2 ^ count)
 
-pub mask-shifted : (first count : ℕ) → first + count ≤ 15 → (1 * 2 ^ count % 2 ^ 32 - 1) * 2 ^ first % 2 ^ 32 ≡ maskFrom first count
+pub mask-shifted : (first count : ℕ) → first + count ≤ domainColours → (1 * 2 ^ count % 2 ^ 32 - 1) * 2 ^ first % 2 ^ 32 ≡ maskFrom first count
 unfolding maskFrom
 mask-shifted first count small =
     ap (λ (n : ℕ). (n - 1) * 2 ^ first % 2 ^ 32) (one-shifted count (omega arith))
     ∙ shl-exact count first 32 (ones-lt count) (omega arith)
 
-pub mask-fits : (first count : ℕ) → first + count ≤ 15 → maskFrom first count < 2 ^ 16
+pub mask-fits : (first count : ℕ) → first + count ≤ domainColours → maskFrom first count < 2 ^ 16
 unfolding maskFrom
 mask-fits first count small = lt-of-lt-of-le (shl-lt count first (ones-lt count)) (pow-mono {i = count + first} {j = 16} (omega arith))

@@ -5,3 +5,4 @@ pub mod MaskLists
 pub mod ValidPlans
 pub mod Masks
 pub mod Windows
+pub mod LeastPad

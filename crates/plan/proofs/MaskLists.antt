@@ -1,4 +1,4 @@
--- The masks due, place by place and as one list. Assumes nothing.
+-- The masks due, index by index and as one list. Assumes nothing.
 use Prim.Native.Nat.{ℕ, zero, suc, _+_, _<_}
 use native.Mathlib.Nat.{add-zero, zero-add}
 use native.Mathlib.Omega.{arith}
@@ -9,37 +9,38 @@ use lib.Seq.{ext-getD}
 use Rattle.plan.specs.declared.Plan.{Plan}
 use Rattle.plan.specs.Colours.{coloursOf, firstColour, maskFor, maskFrom, maskOf, masksFrom}
 use Rattle.plan.specs.Sums.{sumTo}
+use Rattle.plan.specs.Limits.{mostDomains}
 
 pub masks-length : (plan : Plan) (left domain : ℕ) → length (masksFrom plan left domain) ≡ left
 unfolding masksFrom
 masks-length plan zero domain = refl
 masks-length plan (suc left) domain = ap suc (masks-length plan left (domain + 1))
 
--- the mask at a place of a part of the list
-mask-past : (plan : Plan) (left domain place : ℕ) → place < left → getD (masksFrom plan left domain) place 0 ≡ maskFor plan (domain + place)
+-- the mask at an index of a part of the list
+mask-past : (plan : Plan) (left domain index : ℕ) → index < left → getD (masksFrom plan left domain) index 0 ≡ maskFor plan (domain + index)
 unfolding masksFrom
-mask-past plan zero domain place below = absurd (omega arith)
+mask-past plan zero domain index below = absurd (omega arith)
 mask-past plan (suc left) domain zero below = ap (λ (n : ℕ). maskFor plan n) (sym (add-zero domain))
-mask-past plan (suc left) domain (suc place) below =
-    mask-past plan left (domain + 1) place (omega arith)
-    ∙ ap (λ (n : ℕ). maskFor plan n) (let e : domain + 1 + place ≡ domain + suc place = omega arith in e)
+mask-past plan (suc left) domain (suc index) below =
+    mask-past plan left (domain + 1) index (omega arith)
+    ∙ ap (λ (n : ℕ). maskFor plan n) (let e : domain + 1 + index ≡ domain + suc index = omega arith in e)
 
-pub mask-due : (plan : Plan) (domain : ℕ) → domain < 8 → getD (masksFrom plan 8 0) domain 0 ≡ maskFor plan domain
-mask-due plan domain below = mask-past plan 8 0 domain below ∙ ap (λ (n : ℕ). maskFor plan n) (zero-add domain)
+pub mask-due : (plan : Plan) (domain : ℕ) → domain < mostDomains → getD (masksFrom plan mostDomains 0) domain 0 ≡ maskFor plan domain
+mask-due plan domain below = mask-past plan mostDomains 0 domain below ∙ ap (λ (n : ℕ). maskFor plan n) (zero-add domain)
 
--- eight numbers, each the mask due at its place, are the list
+-- eight numbers, each the mask due at its index, are the list
 pub masks-are :
     (plan : Plan) (masks : List ℕ)
-    → length masks ≡ 8
-    → ((place : ℕ) → place < 8 → getD masks place 0 ≡ maskFor plan place)
-    → masks ≡ masksFrom plan 8 0
+    → length masks ≡ mostDomains
+    → ((index : ℕ) → index < mostDomains → getD masks index 0 ≡ maskFor plan index)
+    → masks ≡ masksFrom plan mostDomains 0
 masks-are plan masks eight each =
-    ext-getD 0 masks (masksFrom plan 8 0) (eight ∙ sym (masks-length plan 8 0)) (λ place below.
-    let small : place < 8 = omega arith in
-    each place small ∙ sym (mask-due plan place small))
+    ext-getD 0 masks (masksFrom plan mostDomains 0) (eight ∙ sym (masks-length plan mostDomains 0)) (λ index below.
+    let small : index < mostDomains = omega arith in
+    each index small ∙ sym (mask-due plan index small))
 
 -- the mask that a share gives hangs on the shares alone
 pub mask-alike : (one other : Plan) (domain : ℕ) → one .shares ≡ other .shares → maskOf one domain ≡ maskOf other domain
 unfolding maskOf firstColour
 mask-alike one other domain same =
-    ap (λ (shares : List ℕ). maskFrom (sumTo (λ (place : ℕ). coloursOf (getD shares place 0)) domain) (coloursOf (getD shares domain 0))) same
+    ap (λ (shares : List ℕ). maskFrom (sumTo (λ (index : ℕ). coloursOf (getD shares index 0)) domain) (coloursOf (getD shares domain 0))) same

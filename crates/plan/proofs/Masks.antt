@@ -1,4 +1,4 @@
--- The masks of a possible plan: disjoint, within colours 0 to 14, laid from colour 0 upwards, with as many ones as the share gives colours.
+-- The masks of a valid plan: disjoint, within colours 0 to 14, laid from colour 0 upwards, with as many ones as the share gives colours.
 -- Everything above cites these laws and never the rule from shares to colours. Assumes nothing.
 use mathlib.Core.Path.{_≡_, refl, ap, _∙_}
 use mathlib.Core.Bool.{Bool, true, false}
@@ -6,14 +6,15 @@ use Prim.Native.Nat.{ℕ, suc, _≤_, _<_}
 use native.Mathlib.Omega.{arith}
 use lib.Count.{ones}
 use lib.Dec.{ltb}
-use borrow.Author.Tests.{ltb-true, ltb-false}
+use borrow.Author.Tests.{lt-ltb, ltb-true, ltb-false}
 use Rattle.plan.specs.declared.Plan.{Plan}
 use Rattle.plan.specs.Colours.{coloursAt, firstColour, holdingOf, maskAt, maskOf, ownsColour}
 use Rattle.plan.specs.Validity.{planValid}
 use Rattle.plan.specs.Rights.{maySend, rightsAt}
 use Rattle.plan.specs.Sums.{sumTo}
+use Rattle.plan.specs.Limits.{domainColours, mostDomains}
 use Rattle.plan.proofs.Bits.{mask-bits, mask-fits, mask-ones, no-high-bit, zero-no-bit}
-use Rattle.plan.proofs.ValidPlans.{declared, parts, undeclared}
+use Rattle.plan.proofs.ValidPlans.{counts, declared, parts, undeclared}
 use Rattle.plan.proofs.Shares.{colours-at-most}
 use Rattle.plan.proofs.Sums.{sum-mono}
 
@@ -25,8 +26,8 @@ pub owned-range :
     → ownsColour plan domain colour ≡ true
     → (firstColour plan domain ≤ colour) × (colour < firstColour plan (suc domain))
 unfolding maskOf firstColour sumTo
-owned-range plan domain colour possible below owns =
-    let mask : maskAt plan domain ≡ maskOf plan domain = declared plan domain possible below .mask in
+owned-range plan domain colour valid below owns =
+    let mask : maskAt plan domain ≡ maskOf plan domain = declared plan domain valid below .mask in
     let bits = mask-bits (firstColour plan domain) (coloursAt plan domain) colour (rw mask at owns) in
     (bits .0, bits .1)
 
@@ -37,11 +38,11 @@ first-mono plan one other within = sum-mono (coloursAt plan) one other within
 
 -- no colour is given past 14
 pub owned-below :
-    (plan : Plan) (domain colour : ℕ) → planValid plan ≡ true → domain < plan .domains → ownsColour plan domain colour ≡ true → colour < 15
-owned-below plan domain colour possible below owns =
-    let range = owned-range plan domain colour possible below owns in
+    (plan : Plan) (domain colour : ℕ) → planValid plan ≡ true → domain < plan .domains → ownsColour plan domain colour ≡ true → colour < domainColours
+owned-below plan domain colour valid below owns =
+    let range = owned-range plan domain colour valid below owns in
     let rising : firstColour plan (suc domain) ≤ firstColour plan (plan .domains) = first-mono plan (suc domain) (plan .domains) below in
-    let total : firstColour plan (plan .domains) ≤ 15 = colours-at-most plan (plan .domains) (parts plan possible .shares) in
+    let total : firstColour plan (plan .domains) ≤ domainColours = colours-at-most plan (plan .domains) (parts plan valid .shares) in
     omega arith
 
 -- a lower domain's colours end before a higher one's begin
@@ -53,9 +54,9 @@ apart :
     → ownsColour plan one colour ≡ true
     → ownsColour plan other colour ≡ true
     → ⊥
-apart plan one other colour possible less below owns owns′ =
-    let range = owned-range plan one colour possible (omega arith) owns in
-    let range′ = owned-range plan other colour possible below owns′ in
+apart plan one other colour valid less below owns owns′ =
+    let range = owned-range plan one colour valid (omega arith) owns in
+    let range′ = owned-range plan other colour valid below owns′ in
     let rising : firstColour plan (suc one) ≤ firstColour plan other = first-mono plan (suc one) other less in
     omega arith
 
@@ -69,48 +70,50 @@ pub masks-disjoint :
     → ownsColour plan one colour ≡ true
     → ownsColour plan other colour ≡ true
     → ⊥
-masks-disjoint plan one other colour possible below below′ differ owns owns′ = go (ltb one other) refl
+masks-disjoint plan one other colour valid below below′ differ owns owns′ = go (ltb one other) refl
   where
     go : (b : Bool) → ltb one other ≡ b → ⊥
-    go true e = apart plan one other colour possible (ltb-true one other e) below′ owns owns′
+    go true e = apart plan one other colour valid (ltb-true one other e) below′ owns owns′
     go false e =
         let past : other ≤ one = ltb-false one other e in
-        apart plan other one colour possible (omega arith) below owns′ owns
+        apart plan other one colour valid (omega arith) below owns′ owns
 
--- a possible plan's masks have at most 16 bits
-pub mask-most : (plan : Plan) (domain : ℕ) → planValid plan ≡ true → domain < 8 → maskAt plan domain ≤ 65_535
+-- a valid plan's masks have at most 16 bits
+pub mask-most : (plan : Plan) (domain : ℕ) → planValid plan ≡ true → domain < mostDomains → maskAt plan domain ≤ 65_535
 unfolding maskOf firstColour sumTo
-mask-most plan domain possible below = go (ltb domain (plan .domains)) refl
+mask-most plan domain valid below = go (ltb domain (plan .domains)) refl
   where
     go : (b : Bool) → ltb domain (plan .domains) ≡ b → maskAt plan domain ≤ 65_535
     go true e =
         let within = ltb-true domain (plan .domains) e in
         let rising : firstColour plan (suc domain) ≤ firstColour plan (plan .domains) = first-mono plan (suc domain) (plan .domains) within in
-        let total : firstColour plan (plan .domains) ≤ 15 = colours-at-most plan (plan .domains) (parts plan possible .shares) in
+        let total : firstColour plan (plan .domains) ≤ domainColours = colours-at-most plan (plan .domains) (parts plan valid .shares) in
         let fits = mask-fits (firstColour plan domain) (coloursAt plan domain) (omega arith) in
-        omega (arith, declared plan domain possible within .mask)
-    go false e = omega (arith, undeclared plan domain possible (ltb-false domain (plan .domains) e) below .mask)
+        omega (arith, declared plan domain valid within .mask)
+    go false e = omega (arith, undeclared plan domain valid (ltb-false domain (plan .domains) e) below .mask)
 
 -- a domain's holding is what its share gives
 pub holding-is-colours :
     (plan : Plan) (domain : ℕ) → planValid plan ≡ true → domain < plan .domains → holdingOf plan domain ≡ coloursAt plan domain
 unfolding holdingOf maskOf
-holding-is-colours plan domain possible below =
-    ap ones (declared plan domain possible below .mask) ∙ mask-ones (firstColour plan domain) (coloursAt plan domain)
+holding-is-colours plan domain valid below =
+    let small : domain < mostDomains = omega (arith, counts plan valid .domains-most) in
+    rw (lt-ltb domain mostDomains small)
+    (ap ones (declared plan domain valid below .mask) ∙ mask-ones (firstColour plan domain) (coloursAt plan domain))
 
 -- a right to send is a declared domain's, to a declared domain
 pub right-declared :
     (plan : Plan) (sender recipient : ℕ)
     → planValid plan ≡ true
     → maySend plan sender recipient ≡ true
-    → sender < 8
+    → sender < mostDomains
     → (sender < plan .domains) × (recipient < plan .domains)
-right-declared plan sender recipient possible may below = (is-declared, to-declared (ltb recipient (plan .domains)) refl)
+right-declared plan sender recipient valid may below = (is-declared, to-declared (ltb recipient (plan .domains)) refl)
   where
     from : (b : Bool) → ltb sender (plan .domains) ≡ b → sender < plan .domains
     from true e = ltb-true sender (plan .domains) e
     from false e =
-        let none : rightsAt plan sender ≡ 0 = undeclared plan sender possible (ltb-false sender (plan .domains) e) below .rights in
+        let none : rightsAt plan sender ≡ 0 = undeclared plan sender valid (ltb-false sender (plan .domains) e) below .rights in
         absurd (zero-no-bit recipient (rw none at may))
 
     is-declared : sender < plan .domains
@@ -120,5 +123,5 @@ right-declared plan sender recipient possible may below = (is-declared, to-decla
     to-declared true e = ltb-true recipient (plan .domains) e
     to-declared false e =
         absurd
-        (no-high-bit (rightsAt plan sender) (plan .domains) recipient (declared plan sender possible is-declared .rights-most)
+        (no-high-bit (rightsAt plan sender) (plan .domains) recipient (declared plan sender valid is-declared .rights-most)
         (ltb-false recipient (plan .domains) e) may)

@@ -4,14 +4,15 @@ use native.Mathlib.Omega.{arith}
 use Rattle.plan.specs.declared.Plan.{Plan}
 use Rattle.plan.specs.Colours.{coloursAt, coloursOf, firstColour, shareOf, sharesTotal}
 use Rattle.plan.specs.Sums.{sumTo}
+use Rattle.plan.specs.Limits.{domainColours, mostShares}
 
 -- so many colours never go beyond the share that gave them
-in-proportion : (plan : Plan) (count : ℕ) → 1_000 * firstColour plan count ≤ 15 * sharesTotal plan count
+in-proportion : (plan : Plan) (count : ℕ) → mostShares * firstColour plan count ≤ domainColours * sharesTotal plan count
 unfolding coloursOf firstColour sharesTotal sumTo
 in-proportion plan zero = omega arith
 in-proportion plan (suc count) =
-    let before : 1_000 * sumTo (coloursAt plan) count ≤ 15 * sumTo (shareOf plan) count = in-proportion plan count in
+    let before : mostShares * sumTo (coloursAt plan) count ≤ domainColours * sumTo (shareOf plan) count = in-proportion plan count in
     omega arith
 
-pub colours-at-most : (plan : Plan) (count : ℕ) → sharesTotal plan count ≤ 1_000 → firstColour plan count ≤ 15
+pub colours-at-most : (plan : Plan) (count : ℕ) → sharesTotal plan count ≤ mostShares → firstColour plan count ≤ domainColours
 colours-at-most plan count total = omega (arith, in-proportion plan count)

@@ -12,6 +12,8 @@ use Rattle.plan.specs.Validity.{countsValid, declaredValid, domainValid,
 use Rattle.plan.specs.Rights.{maySend, rightsAt}
 use Rattle.plan.specs.Sums.{allBelow}
 use Rattle.plan.specs.Windows.{ticksTotal}
+use Rattle.plan.specs.Limits.{leastLength, leastPad, mostDomains, mostLength, mostPad}
+use Rattle.plan.specs.Limits.{mostRun, mostRunTicks, mostShare, mostShares, mostWindows}
 use Rattle.plan.proofs.Sums.{all-below}
 
 -- both halves of a test that passes
@@ -25,16 +27,16 @@ limits low high number h = let parts = both (leb low number) (leb number high) h
 -- the six parts of the check
 pub record Possible (plan : Plan) : Type 0 where
   pub counts : countsValid plan ≡ true
-  pub domains : allBelow (domainValid plan) 8 ≡ true
-  pub shares : sharesTotal plan (plan .domains) ≤ 1_000
-  pub masks : allBelow (maskValid plan) 8 ≡ true
-  pub windows : allBelow (windowValid plan) 32 ≡ true
-  pub ticks : ticksTotal plan ≤ 4_294_967_295
+  pub domains : allBelow (domainValid plan) mostDomains ≡ true
+  pub shares : sharesTotal plan (plan .domains) ≤ mostShares
+  pub masks : allBelow (maskValid plan) mostDomains ≡ true
+  pub windows : allBelow (windowValid plan) mostWindows ≡ true
+  pub ticks : ticksTotal plan ≤ mostRunTicks
 
 pub parts : (plan : Plan) → planValid plan ≡ true → Possible plan
 unfolding planValid
-parts plan possible =
-    let sixth = both _ _ possible in
+parts plan valid =
+    let sixth = both _ _ valid in
     let fifth = both _ _ (sixth .0) in
     let fourth = both _ _ (fifth .0) in
     let third = both _ _ (fourth .0) in
@@ -50,19 +52,19 @@ parts plan possible =
 
 -- the four counts
 pub record Counts (plan : Plan) : Type 0 where
-  pub pad-least : 276 ≤ plan .pad
-  pub pad-most : plan .pad ≤ 1_000_000
+  pub pad-least : leastPad ≤ plan .pad
+  pub pad-most : plan .pad ≤ mostPad
   pub run-least : 1 ≤ plan .run
-  pub run-most : plan .run ≤ 1_000
+  pub run-most : plan .run ≤ mostRun
   pub domains-least : 1 ≤ plan .domains
-  pub domains-most : plan .domains ≤ 8
+  pub domains-most : plan .domains ≤ mostDomains
   pub windows-least : 1 ≤ plan .windows
-  pub windows-most : plan .windows ≤ 32
+  pub windows-most : plan .windows ≤ mostWindows
 
 pub counts-of : (plan : Plan) → countsValid plan ≡ true → Counts plan
 unfolding countsValid
-counts-of plan possible =
-    let third = both _ _ possible in
+counts-of plan valid =
+    let third = both _ _ valid in
     let second = both _ _ (third .0) in
     let first = both _ _ (second .0) in
     let pad = limits _ _ _ (first .0) in
@@ -81,28 +83,28 @@ counts-of plan possible =
     }
 
 pub counts : (plan : Plan) → planValid plan ≡ true → Counts plan
-counts plan possible = counts-of plan (parts plan possible .counts)
+counts plan valid = counts-of plan (parts plan valid .counts)
 
 -- a declared domain
 pub record Declared (plan : Plan) (domain : ℕ) : Type 0 where
   pub share-least : 1 ≤ shareOf plan domain
-  pub share-most : shareOf plan domain ≤ 1_000
+  pub share-most : shareOf plan domain ≤ mostShare
   pub colour : 1 ≤ coloursAt plan domain
   pub rights-most : rightsAt plan domain < 2 ^ plan .domains
   pub not-own : maySend plan domain domain ≡ false
   pub mask : maskAt plan domain ≡ maskOf plan domain
 
--- the mask at a place
+-- the mask at an index
 mask-at :
-    (plan : Plan) (domain : ℕ) → planValid plan ≡ true → domain < 8 → maskAt plan domain ≡ maskFor plan domain
+    (plan : Plan) (domain : ℕ) → planValid plan ≡ true → domain < mostDomains → maskAt plan domain ≡ maskFor plan domain
 unfolding maskValid
-mask-at plan domain possible below = eqb-true _ _ (all-below (maskValid plan) 8 domain (parts plan possible .masks) below)
+mask-at plan domain valid below = eqb-true _ _ (all-below (maskValid plan) mostDomains domain (parts plan valid .masks) below)
 
 pub declared : (plan : Plan) (domain : ℕ) → planValid plan ≡ true → domain < plan .domains → Declared plan domain
 unfolding domainValid declaredValid
-declared plan domain possible below =
-    let most : plan .domains ≤ 8 = counts plan possible .domains-most in
-    let whole : domainValid plan domain ≡ true = all-below (domainValid plan) 8 domain (parts plan possible .domains) (omega arith) in
+declared plan domain valid below =
+    let most : plan .domains ≤ mostDomains = counts plan valid .domains-most in
+    let whole : domainValid plan domain ≡ true = all-below (domainValid plan) mostDomains domain (parts plan valid .domains) (omega arith) in
     let own : declaredValid plan domain ≡ true = rw (lt-ltb domain (plan .domains) below) at whole in
     let fourth = both _ _ own in
     let third = both _ _ (fourth .0) in
@@ -114,68 +116,68 @@ declared plan domain possible below =
       colour = leb-true _ _ (second .1);
       rights-most = ltb-true _ _ (third .1);
       not-own = not-true _ (fourth .1);
-      mask = rw (lt-ltb domain (plan .domains) below) at (mask-at plan domain possible (omega arith));
+      mask = rw (lt-ltb domain (plan .domains) below) at (mask-at plan domain valid (omega arith));
     }
 
--- a place that no domain is declared for
+-- an entry that no domain is declared for
 pub record Undeclared (plan : Plan) (domain : ℕ) : Type 0 where
   pub share : shareOf plan domain ≡ 0
   pub rights : rightsAt plan domain ≡ 0
   pub mask : maskAt plan domain ≡ 0
 
-pub undeclared : (plan : Plan) (domain : ℕ) → planValid plan ≡ true → plan .domains ≤ domain → domain < 8 → Undeclared plan domain
+pub undeclared : (plan : Plan) (domain : ℕ) → planValid plan ≡ true → plan .domains ≤ domain → domain < mostDomains → Undeclared plan domain
 unfolding domainValid undeclaredValid
-undeclared plan domain possible past below =
-    let whole : domainValid plan domain ≡ true = all-below (domainValid plan) 8 domain (parts plan possible .domains) below in
+undeclared plan domain valid past below =
+    let whole : domainValid plan domain ≡ true = all-below (domainValid plan) mostDomains domain (parts plan valid .domains) below in
     let none : undeclaredValid plan domain ≡ true = rw (le-ltb domain (plan .domains) past) at whole in
     let second = both _ _ none in
     record {
       share = eqb-true _ _ (second .0);
       rights = eqb-true _ _ (second .1);
-      mask = rw (le-ltb domain (plan .domains) past) at (mask-at plan domain possible below);
+      mask = rw (le-ltb domain (plan .domains) past) at (mask-at plan domain valid below);
     }
 
 -- a declared window
 pub record DeclaredWindow (plan : Plan) (slot : ℕ) : Type 0 where
   pub owner : getD (plan .owners) slot 0 < plan .domains
   pub length-least : 1 ≤ getD (plan .lengths) slot 0
-  pub length-most : getD (plan .lengths) slot 0 ≤ 1_000_000
+  pub length-most : getD (plan .lengths) slot 0 ≤ mostLength
 
 pub declared-window : (plan : Plan) (slot : ℕ) → planValid plan ≡ true → slot < plan .windows → DeclaredWindow plan slot
 unfolding windowValid
-declared-window plan slot possible below =
-    let most : plan .windows ≤ 32 = counts plan possible .windows-most in
-    let whole : windowValid plan slot ≡ true = all-below (windowValid plan) 32 slot (parts plan possible .windows) (omega arith) in
+declared-window plan slot valid below =
+    let most : plan .windows ≤ mostWindows = counts plan valid .windows-most in
+    let whole : windowValid plan slot ≡ true = all-below (windowValid plan) mostWindows slot (parts plan valid .windows) (omega arith) in
     let own = rw (lt-ltb slot (plan .windows) below) at whole in
     let second = both _ _ own in
     let length = limits _ _ _ (second .1) in
     record { owner = ltb-true _ _ (second .0); length-least = length .0; length-most = length .1 }
 
--- where every place for a domain is possible, no share is over 1,000
+-- where every entry for a domain is valid, no share is over its limit
 pub shares-most :
-    (plan : Plan) → allBelow (domainValid plan) 8 ≡ true → (domain : ℕ) → domain < 8 → getD (plan .shares) domain 0 ≤ 1_000
+    (plan : Plan) → allBelow (domainValid plan) mostDomains ≡ true → (domain : ℕ) → domain < mostDomains → getD (plan .shares) domain 0 ≤ mostShare
 unfolding domainValid declaredValid undeclaredValid
-shares-most plan all domain below = go (ltb domain (plan .domains)) (all-below (domainValid plan) 8 domain all below)
+shares-most plan all domain below = go (ltb domain (plan .domains)) (all-below (domainValid plan) mostDomains domain all below)
   where
-    go : (b : Bool) → cond b (declaredValid plan domain) (undeclaredValid plan domain) ≡ true → shareOf plan domain ≤ 1_000
+    go : (b : Bool) → cond b (declaredValid plan domain) (undeclaredValid plan domain) ≡ true → shareOf plan domain ≤ mostShare
     go true own = limits _ _ _ (both _ _ (both _ _ (both _ _ own .0) .0) .0) .1
     go false none = let zero : shareOf plan domain ≡ 0 = eqb-true _ _ (both _ _ none .0) in omega arith
 
--- where every place for a window is possible, no length is over 1,000,000
+-- where every entry for a window is valid, no length is over its limit
 pub lengths-most :
-    (plan : Plan) → allBelow (windowValid plan) 32 ≡ true → (slot : ℕ) → slot < 32 → getD (plan .lengths) slot 0 ≤ 1_000_000
+    (plan : Plan) → allBelow (windowValid plan) mostWindows ≡ true → (slot : ℕ) → slot < mostWindows → getD (plan .lengths) slot 0 ≤ mostLength
 unfolding windowValid
-lengths-most plan all slot below = go (ltb slot (plan .windows)) (all-below (windowValid plan) 32 slot all below)
+lengths-most plan all slot below = go (ltb slot (plan .windows)) (all-below (windowValid plan) mostWindows slot all below)
   where
     go :
         (b : Bool)
-        → cond b (ltb (getD (plan .owners) slot 0) (plan .domains) && within 1 1_000_000 (getD (plan .lengths) slot 0))
+        → cond b (ltb (getD (plan .owners) slot 0) (plan .domains) && within leastLength mostLength (getD (plan .lengths) slot 0))
         (eqb (getD (plan .owners) slot 0) 0 && eqb (getD (plan .lengths) slot 0) 0)
         ≡ true
-        → getD (plan .lengths) slot 0 ≤ 1_000_000
+        → getD (plan .lengths) slot 0 ≤ mostLength
     go true own =
-        limits 1 1_000_000 _
-        (both (ltb (getD (plan .owners) slot 0) (plan .domains)) (within 1 1_000_000 (getD (plan .lengths) slot 0)) own .1) .1
+        limits leastLength mostLength _
+        (both (ltb (getD (plan .owners) slot 0) (plan .domains)) (within leastLength mostLength (getD (plan .lengths) slot 0)) own .1) .1
     go false none =
         let zero : getD (plan .lengths) slot 0 ≡ 0 =
         eqb-true _ _ (both (eqb (getD (plan .owners) slot 0) 0) (eqb (getD (plan .lengths) slot 0) 0) none .1) in

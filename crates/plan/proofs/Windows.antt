@@ -1,4 +1,4 @@
--- The windows of a possible plan: their owners and lengths, and their starts in closed form. Assumes nothing.
+-- The windows of a valid plan: their owners and lengths, and their starts in closed form. Assumes nothing.
 use mathlib.Core.Path.{_≡_, sym, ap, _∙_}
 use mathlib.Core.Bool.{true}
 use Prim.Native.Nat.{ℕ, zero, suc, _+_, _*_, _-_, _/_, _%_, _≤_, _<_}
@@ -9,34 +9,35 @@ use Rattle.plan.specs.declared.Plan.{Plan}
 use Rattle.plan.specs.Validity.{planValid}
 use Rattle.plan.specs.Sums.{sumTo}
 use Rattle.plan.specs.Windows.{windowLength, windowOwner, paddedLength, slotOf, windowStart, ticksTotal, windowsTotal}
+use Rattle.plan.specs.Limits.{leastPad, mostDomains, mostLength, mostPad, mostRunTicks}
 use Rattle.plan.proofs.ValidPlans.{counts, declared-window, parts}
 use Rattle.plan.proofs.Sums.{sum-most}
 
-pub pad-least : (plan : Plan) → planValid plan ≡ true → 276 ≤ plan .pad
-pad-least plan possible = counts plan possible .pad-least
+pub pad-least : (plan : Plan) → planValid plan ≡ true → leastPad ≤ plan .pad
+pad-least plan valid = counts plan valid .pad-least
 
 pub domains-positive : (plan : Plan) → planValid plan ≡ true → 0 < plan .domains
-domains-positive plan possible = counts plan possible .domains-least
+domains-positive plan valid = counts plan valid .domains-least
 
-pub domains-most : (plan : Plan) → planValid plan ≡ true → plan .domains ≤ 8
-domains-most plan possible = counts plan possible .domains-most
+pub domains-most : (plan : Plan) → planValid plan ≡ true → plan .domains ≤ mostDomains
+domains-most plan valid = counts plan valid .domains-most
 
 -- a window's slot is a declared one
 pub slot-below : (plan : Plan) (window : ℕ) → planValid plan ≡ true → slotOf plan window < plan .windows
-slot-below plan window possible = mod-lt window (counts plan possible .windows-least)
+slot-below plan window valid = mod-lt window (counts plan valid .windows-least)
 
 -- every window is a declared domain's, of at least one tick
 pub owner-declared : (plan : Plan) (window : ℕ) → planValid plan ≡ true → windowOwner plan window < plan .domains
 unfolding windowOwner
-owner-declared plan window possible = declared-window plan (slotOf plan window) possible (slot-below plan window possible) .owner
+owner-declared plan window valid = declared-window plan (slotOf plan window) valid (slot-below plan window valid) .owner
 
 pub length-least : (plan : Plan) (window : ℕ) → planValid plan ≡ true → 1 ≤ windowLength plan window
 unfolding windowLength
-length-least plan window possible = declared-window plan (slotOf plan window) possible (slot-below plan window possible) .length-least
+length-least plan window valid = declared-window plan (slotOf plan window) valid (slot-below plan window valid) .length-least
 
-pub length-most : (plan : Plan) (window : ℕ) → planValid plan ≡ true → windowLength plan window ≤ 1_000_000
+pub length-most : (plan : Plan) (window : ℕ) → planValid plan ≡ true → windowLength plan window ≤ mostLength
 unfolding windowLength
-length-most plan window possible = declared-window plan (slotOf plan window) possible (slot-below plan window possible) .length-most
+length-most plan window valid = declared-window plan (slotOf plan window) valid (slot-below plan window valid) .length-most
 
 -- the ticks of the declared windows with their pads, once through
 pub frame : Plan → ℕ
@@ -52,10 +53,10 @@ unfolding windowStart windowLength sumTo
 start-within plan repeat zero within first = ap (windowStart plan) (add-zero (repeat * plan .windows)) ∙ first ∙ sym (add-zero (repeat * frame plan))
 start-within plan repeat (suc slot) within first =
     let before = start-within plan repeat slot (omega arith) first in
-    let place : (repeat * plan .windows + slot) % plan .windows ≡ slot =
+    let index : (repeat * plan .windows + slot) % plan .windows ≡ slot =
     mul-add-mod-self-right repeat (plan .windows) slot ∙ mod-eq-of-lt (omega arith) in
     let next : windowStart plan (suc (repeat * plan .windows + slot)) ≡ repeat * frame plan + (sumTo (paddedLength plan) slot + paddedLength plan slot) =
-    rw (before, place) (omega arith) in
+    rw (before, index) (omega arith) in
     ap (windowStart plan) (add-suc (repeat * plan .windows) slot) ∙ next
 
 -- a repeat starts after the repeats before it
@@ -81,7 +82,7 @@ start-closed plan window some =
 -- the start past the last window is the run's total
 pub start-total : (plan : Plan) → planValid plan ≡ true → windowStart plan (windowsTotal plan) ≡ ticksTotal plan
 unfolding windowsTotal ticksTotal frame
-start-total plan possible = start-repeat plan (plan .run)
+start-total plan valid = start-repeat plan (plan .run)
 
 -- a later window starts no earlier
 pub start-mono : (plan : Plan) (window more : ℕ) → windowStart plan window ≤ windowStart plan (window + more)
@@ -91,19 +92,19 @@ start-mono plan window (suc more) =
     let before : windowStart plan window ≤ windowStart plan (window + more) = start-mono plan window more in
     rw add-suc (omega arith)
 
--- no window that has a place in the run ends past the run's total
+-- no window that has an index in the run ends past the run's total
 pub start-most : (plan : Plan) (window : ℕ) → planValid plan ≡ true → window ≤ windowsTotal plan → windowStart plan window ≤ ticksTotal plan
-start-most plan window possible within =
+start-most plan window valid within =
     let rest = windowsTotal plan - window in
     let later : window + rest ≡ windowsTotal plan = omega arith in
-    let last : windowStart plan (window + rest) ≡ ticksTotal plan = ap (windowStart plan) later ∙ start-total plan possible in
+    let last : windowStart plan (window + rest) ≡ ticksTotal plan = ap (windowStart plan) later ∙ start-total plan valid in
     rw last at (start-mono plan window rest)
 
 -- the first declared windows with their pads, each of at most 2,000,000 ticks
 pub padded-most :
     (plan : Plan) (count : ℕ)
-    → plan .pad ≤ 1_000_000
-    → ((slot : ℕ) → slot < count → getD (plan .lengths) slot 0 ≤ 1_000_000)
+    → plan .pad ≤ mostPad
+    → ((slot : ℕ) → slot < count → getD (plan .lengths) slot 0 ≤ mostLength)
     → sumTo (paddedLength plan) count ≤ 2_000_000 * count
 padded-most plan count pad lengths = sum-most (paddedLength plan) 2_000_000 count (λ slot below. omega (arith, lengths slot below))
 
@@ -113,11 +114,11 @@ pub start-repeats :
     → planValid plan ≡ true
     → window / plan .windows * sumTo (paddedLength plan) (plan .windows) + sumTo (paddedLength plan) (slotOf plan window) ≡ windowStart plan window
 unfolding frame
-start-repeats plan window possible = sym (start-closed plan window (counts plan possible .windows-least))
+start-repeats plan window valid = sym (start-closed plan window (counts plan valid .windows-least))
 
 -- no start of a run is over the largest total
 pub start-fits :
-    (plan : Plan) (window : ℕ) → planValid plan ≡ true → window ≤ windowsTotal plan → windowStart plan window ≤ 4_294_967_295
-start-fits plan window possible within =
-    let most : windowStart plan window ≤ ticksTotal plan = start-most plan window possible within in
-    omega (arith, parts plan possible .ticks)
+    (plan : Plan) (window : ℕ) → planValid plan ≡ true → window ≤ windowsTotal plan → windowStart plan window ≤ mostRunTicks
+start-fits plan window valid within =
+    let most : windowStart plan window ≤ ticksTotal plan = start-most plan window valid within in
+    omega (arith, parts plan valid .ticks)

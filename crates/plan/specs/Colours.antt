@@ -1,4 +1,5 @@
--- Document 01, "The core and its tables": a domain's share, its colours, its mask and its holding. Assumes nothing.
+-- Document 01, "The core and its tables": a domain's share, its colours, its mask and its holding.
+-- Assumes nothing.
 use Prim.Native.Nat.{ℕ, zero, suc, _+_, _*_, _-_, _/_, _%_, _^_}
 use mathlib.Core.Bool.{Bool, cond}
 use mathlib.Core.List.{List, [], _∷_}
@@ -7,10 +8,11 @@ use lib.Dec.{eqb, ltb}
 use lib.ListN.{getD}
 use Rattle.plan.specs.declared.Plan.{Plan}
 use Rattle.plan.specs.Sums.{sumTo}
+use Rattle.plan.specs.Limits.{domainColours, mostDomains, mostShares}
 
--- a share in thousandths gives share × 15 / 1,000 colours, rounded down
+-- a share, in thousandths of the domains' colours, gives as many colours, rounded down
 unfoldable pub coloursOf : ℕ → ℕ
-coloursOf share = share * 15 / 1_000
+coloursOf share = share * domainColours / mostShares
 
 -- a domain's share
 abbrev pub shareOf : Plan → ℕ → ℕ
@@ -24,11 +26,12 @@ coloursAt plan domain = coloursOf (shareOf plan domain)
 unfoldable pub sharesTotal : Plan → ℕ → ℕ
 sharesTotal plan count = sumTo (shareOf plan) count
 
--- the colours are dealt out in the order of the domains, the lowest first: a domain's first is the number dealt out before it
+-- the colours are given out in the order of the domains, the lowest first: a domain's first is the
+-- number given out before it
 unfoldable pub firstColour : Plan → ℕ → ℕ
 firstColour plan domain = sumTo (coloursAt plan) domain
 
--- the 16-bit mask of so many adjacent colours from a first one on
+-- the 16-bit mask of `count` adjacent colours from a first one on
 unfoldable pub maskFrom : ℕ → ℕ → ℕ
 maskFrom first count = (2 ^ count - 1) * 2 ^ first
 
@@ -36,11 +39,11 @@ maskFrom first count = (2 ^ count - 1) * 2 ^ first
 unfoldable pub maskOf : Plan → ℕ → ℕ
 maskOf plan domain = maskFrom (firstColour plan domain) (coloursAt plan domain)
 
--- the mask due at a place for a domain: a declared domain's own, and 0 where none is declared
+-- the mask due at a domain's index: a declared domain's own, and 0 where none is declared
 abbrev pub maskFor : Plan → ℕ → ℕ
 maskFor plan domain = cond (ltb domain (plan .domains)) (maskOf plan domain) 0
 
--- the masks due at the `left` places from `domain` on
+-- the masks due at the `left` indices from `domain` on
 unfoldable pub masksFrom : Plan → ℕ → ℕ → List ℕ
 masksFrom plan zero domain = []
 masksFrom plan (suc left) domain = maskFor plan domain ∷ masksFrom plan left (domain + 1)
@@ -49,13 +52,13 @@ masksFrom plan (suc left) domain = maskFor plan domain ∷ masksFrom plan left (
 abbrev pub maskAt : Plan → ℕ → ℕ
 maskAt plan domain = getD (plan .masks) domain 0
 
--- a domain's holding: how many ones its mask has
+-- a domain's holding: how many ones its mask has. A number that no domain can have holds none.
 unfoldable pub holdingOf : Plan → ℕ → ℕ
-holdingOf plan domain = ones (maskAt plan domain)
+holdingOf plan domain = cond (ltb domain mostDomains) (ones (maskAt plan domain)) 0
 
--- bit `place` of a mask is set
+-- a bit of a mask is set
 unfoldable pub hasBit : ℕ → ℕ → Bool
-hasBit mask place = eqb (mask / 2 ^ place % 2) 1
+hasBit mask bit = eqb (mask / 2 ^ bit % 2) 1
 
 -- a colour is a domain's
 abbrev pub ownsColour : Plan → ℕ → ℕ → Bool

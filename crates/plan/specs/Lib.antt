@@ -1,7 +1,9 @@
 pub mod Limits
+pub mod Parts
 pub mod Zeros
 pub mod Sums
 pub mod Colours
 pub mod Rights
+pub mod Bounds
 pub mod Windows
 pub mod Validity

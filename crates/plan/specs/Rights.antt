@@ -1,4 +1,5 @@
--- Document 01, "The plan text": a domain's *may* list, the recipients to which it has the right to send. Assumes nothing.
+-- Document 01, "The plan text": a domain's *may* list, the recipients to which it has the right to send.
+-- Assumes nothing.
 use Prim.Native.Nat.{ℕ}
 use mathlib.Core.Bool.{Bool}
 use lib.ListN.{getD}

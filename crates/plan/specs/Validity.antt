@@ -1,5 +1,5 @@
--- Document 01, "Two lists of calls", 12: the plan values that the reader could give, and none besides: the one of zeros alone is no such value.
--- The limits stand in Limits.antt. Assumes nothing.
+-- Document 01, "The plan text" and "Two lists of calls": plan validity (12), the plan values that the reader
+-- could give and none besides; the one of zeros alone is no such value. Assumes nothing.
 use Prim.Native.Nat.{ℕ, _^_}
 use mathlib.Core.Bool.{Bool, cond, not, _&&_}
 use lib.Dec.{eqb, leb, ltb}
@@ -7,8 +7,10 @@ use lib.ListN.{getD}
 use Rattle.plan.specs.declared.Plan.{Plan}
 use Rattle.plan.specs.Sums.{allBelow}
 use Rattle.plan.specs.Colours.{coloursAt, maskAt, maskFor, shareOf, sharesTotal}
-use Rattle.plan.specs.Limits.{leastDomains, leastLength, leastPad, leastRun, leastShare, leastWindows}
-use Rattle.plan.specs.Limits.{mostDomains, mostLength, mostPad, mostRun, mostRunTicks, mostShare, mostShares, mostWindows}
+use Rattle.plan.specs.Limits.{leastDomains, leastLength, leastPad}
+use Rattle.plan.specs.Limits.{leastRun, leastShare, leastWindows}
+use Rattle.plan.specs.Limits.{mostDomains, mostLength, mostPad, mostRun}
+use Rattle.plan.specs.Limits.{mostRunTicks, mostShare, mostShares, mostWindows}
 use Rattle.plan.specs.Rights.{maySend, rightsAt}
 use Rattle.plan.specs.Windows.{ticksTotal}
 
@@ -24,7 +26,8 @@ countsValid plan =
     && within leastDomains mostDomains (plan .domains)
     && within leastWindows mostWindows (plan .windows)
 
--- a declared domain: a share within its limits that gives a colour; a list of declared recipients without its own number
+-- a declared domain: a share within its limits that gives a colour; a list of declared recipients
+-- without its own number
 unfoldable pub declaredValid : Plan → ℕ → Bool
 declaredValid plan domain =
     within leastShare mostShare (shareOf plan domain)
@@ -32,26 +35,31 @@ declaredValid plan domain =
     && ltb (rightsAt plan domain) (2 ^ plan .domains)
     && not (maySend plan domain domain)
 
--- a place that no domain is declared for holds zeros
+-- an entry that no domain is declared for holds zeros
 unfoldable pub undeclaredValid : Plan → ℕ → Bool
 undeclaredValid plan domain = eqb (shareOf plan domain) 0 && eqb (rightsAt plan domain) 0
 
--- a place for a domain, declared or not
+-- an entry for a domain, declared or not
 unfoldable pub domainValid : Plan → ℕ → Bool
-domainValid plan domain = cond (ltb domain (plan .domains)) (declaredValid plan domain) (undeclaredValid plan domain)
+domainValid plan domain =
+    cond (ltb domain (plan .domains)) (declaredValid plan domain) (undeclaredValid plan domain)
 
 -- the mask that is kept is the one due
 unfoldable pub maskValid : Plan → ℕ → Bool
 maskValid plan domain = eqb (maskAt plan domain) (maskFor plan domain)
 
--- a declared window is a declared domain's, its length within the limits; a place that no window is declared for holds zeros
+-- a declared window is a declared domain's, its length within the limits; an entry that no window is
+-- declared for holds zeros
 unfoldable pub windowValid : Plan → ℕ → Bool
 windowValid plan slot =
+    let owner = getD (plan .owners) slot 0 in
+    let length = getD (plan .lengths) slot 0 in
     cond (ltb slot (plan .windows))
-    (ltb (getD (plan .owners) slot 0) (plan .domains) && within leastLength mostLength (getD (plan .lengths) slot 0))
-    (eqb (getD (plan .owners) slot 0) 0 && eqb (getD (plan .lengths) slot 0) 0)
+    (ltb owner (plan .domains) && within leastLength mostLength length)
+    (eqb owner 0 && eqb length 0)
 
--- the check for 12: the parts above at every place, and neither the shares together nor the run's ticks over their limits
+-- plan validity: the parts above at every entry, and neither the shares together nor the run's ticks over
+-- their limits
 unfoldable pub planValid : Plan → Bool
 planValid plan =
     countsValid plan

@@ -1,4 +1,5 @@
--- Document 01, "Window, switch, run" and "Two lists of calls": the windows of a run, their starts and the run's total. Assumes nothing.
+-- Document 01, "Window, switch, run" and "Two lists of calls": the windows of a run, their starts and the
+-- run's total. Assumes nothing.
 use Prim.Native.Nat.{ℕ, zero, suc, _+_, _*_, _%_}
 use lib.ListN.{getD}
 use Rattle.plan.specs.declared.Plan.{Plan}

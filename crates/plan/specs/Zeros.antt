@@ -1,19 +1,16 @@
 -- Document 01, "The plan text": the plan that a reading hands out with a refusal. Assumes nothing.
+use Prim.Native.Nat.{ℕ}
+use mathlib.Core.List.{List}
 use lib.ListN.{replicate}
 use Rattle.plan.specs.declared.Plan.{Plan}
 use Rattle.plan.specs.Limits.{mostDomains, mostWindows}
+use Rattle.plan.specs.Parts.{planFrom}
 
 -- every number of it is 0
 unfoldable pub noPlan : Plan
 noPlan =
-    record {
-      pad = 0;
-      run = 0;
-      domains = 0;
-      windows = 0;
-      shares = replicate mostDomains 0;
-      rights = replicate mostDomains 0;
-      owners = replicate mostWindows 0;
-      lengths = replicate mostWindows 0;
-      masks = replicate mostDomains 0;
-    }
+    let domains : List ℕ = replicate mostDomains 0 in
+    let windows : List ℕ = replicate mostWindows 0 in
+    planFrom 0 0
+    (record { count = 0; shares = domains; rights = domains })
+    (record { count = 0; owners = windows; lengths = windows }) domains

@@ -4,6 +4,8 @@ pub mod sharing;
 pub mod timing;
 pub mod validity;
 
+use limits::DOMAIN_ENTRIES;
+use limits::WINDOW_ENTRIES;
 ghost use mathlib.Core.Path.{_≡_};
 ghost use Rattle.plan.specs.Zeros.{noPlan};
 
@@ -18,15 +20,15 @@ pub struct Plan {
     // how many windows are declared
     pub windows: u32,
     // each domain's share of the cache, in thousandths
-    pub shares: [u32; 8],
+    pub shares: [u32; DOMAIN_ENTRIES],
     // each domain's recipients, bit b for domain b
-    pub rights: [u32; 8],
+    pub rights: [u32; DOMAIN_ENTRIES],
     // the domain of each window
-    pub owners: [u32; 32],
+    pub owners: [u32; WINDOW_ENTRIES],
     // the ticks of each window
-    pub lengths: [u32; 32],
+    pub lengths: [u32; WINDOW_ENTRIES],
     // each domain's colours, bit c for colour c
-    pub masks: [u16; 8],
+    pub masks: [u16; DOMAIN_ENTRIES],
 }
 
 // The plan of zeros alone, which no text gives: it stands beside a refusal, and a draft starts from it.
@@ -38,10 +40,10 @@ pub fn no_plan() -> Plan
         run: 0,
         domains: 0,
         windows: 0,
-        shares: [0; 8],
-        rights: [0; 8],
-        owners: [0; 32],
-        lengths: [0; 32],
-        masks: [0; 8],
+        shares: [0; DOMAIN_ENTRIES],
+        rights: [0; DOMAIN_ENTRIES],
+        owners: [0; WINDOW_ENTRIES],
+        lengths: [0; WINDOW_ENTRIES],
+        masks: [0; DOMAIN_ENTRIES],
     }
 }

@@ -1,29 +1,34 @@
 // Shares of the cache, the colours that they give, and masks of bits.
 use crate::Plan;
+use crate::limits::DOMAIN_COLOURS;
+use crate::limits::DOMAIN_ENTRIES;
+use crate::limits::MOST_SHARES;
 ghost use mathlib.Core.Path.{_≡_};
-ghost use Prim.Native.Nat.{ℕ, _+_, _*_, _≤_, _<_};
-ghost use lib.ListN.{getD};
-ghost use Rattle.plan.specs.Colours.{coloursOf, firstColour, hasBit, holdingOf, maskFrom, masksFrom, sharesTotal};
+ghost use Prim.Native.Nat.{_+_, _≤_, _<_};
+ghost use Rattle.plan.specs.Bounds.{ColoursBounded, SharesBounded};
+ghost use Rattle.plan.specs.Colours.{coloursOf, hasBit, holdingOf};
+ghost use Rattle.plan.specs.Colours.{maskFrom, masksFrom, sharesTotal};
+ghost use Rattle.plan.specs.Limits.{domainColours, mostDomains, mostShare};
 
 // Whether a bit of a mask is set.
-pub fn has_bit(mask: u32, place: u32) -> bool
-    requires { ⌜ place < 32 ⌝ }
-    ensures { λ r. ⌜ r ≡ hasBit mask place ⌝ }
+pub fn has_bit(mask: u32, bit: u32) -> bool
+    requires { ⌜ bit < 32 ⌝ }
+    ensures { λ r. ⌜ r ≡ hasBit mask bit ⌝ }
 {
-    (mask >> place) % 2 == 1
+    (mask >> bit) % 2 == 1
 }
 
 // How many colours a share gives.
 pub fn colours_of(share: u32) -> u32
-    requires { ⌜ share ≤ 1_000 ⌝ }
+    requires { ⌜ share ≤ mostShare ⌝ }
     ensures { λ r. ⌜ r ≡ coloursOf share ⌝ }
 {
-    share * 15 / 1000
+    share * DOMAIN_COLOURS / MOST_SHARES
 }
 
-// The mask of so many adjacent colours from a first one on.
+// The mask of `count` adjacent colours from a first one on.
 fn mask_from(first: u32, count: u32) -> u16
-    requires { ⌜ first + count ≤ 15 ⌝ }
+    requires { ⌜ first + count ≤ domainColours ⌝ }
     ensures { λ r. ⌜ r ≡ maskFrom first count ⌝ }
 {
     let ones = (1u32 << count) - 1;
@@ -31,18 +36,21 @@ fn mask_from(first: u32, count: u32) -> u16
     mask as u16
 }
 
-// How many colours a domain's mask holds: document 01's holding. No crate here asks for it; a host of the library may.
+// How many colours a domain's mask holds: document 01's holding. No crate here asks for it; a program
+// over these crates may.
 pub fn holding(plan: Plan, domain: usize) -> u32
-    requires { ⌜ domain < 8 ⌝ }
     ensures { λ r. ⌜ r ≡ holdingOf plan domain ⌝ }
 {
     let masks = plan.masks;
-    u16::count_ones(masks[domain])
+    if domain < DOMAIN_ENTRIES {
+        return u16::count_ones(masks[domain]);
+    }
+    0
 }
 
 // The total of the declared domains' shares.
 pub fn shares_total(plan: Plan) -> u32
-    requires { ⌜ (plan .domains ≤ 8) × ((i : ℕ) → i < 8 → getD (plan .shares) i 0 ≤ 1_000) ⌝ }
+    requires { ⌜ SharesBounded plan ⌝ }
     ensures { λ r. ⌜ r ≡ sharesTotal plan (plan .domains) ⌝ }
 {
     let shares = plan.shares;
@@ -57,13 +65,13 @@ pub fn shares_total(plan: Plan) -> u32
 }
 
 // The mask of each declared domain, and 0 for the others.
-pub fn masks_of(plan: Plan) -> [u16; 8]
-    requires { ⌜ (plan .domains ≤ 8) × ((i : ℕ) → i < 8 → getD (plan .shares) i 0 ≤ 1_000) × (firstColour plan (plan .domains) ≤ 15) ⌝ }
-    ensures { λ r. ⌜ r ≡ masksFrom plan 8 0 ⌝ }
+pub fn masks_of(plan: Plan) -> [u16; DOMAIN_ENTRIES]
+    requires { ⌜ ColoursBounded plan ⌝ }
+    ensures { λ r. ⌜ r ≡ masksFrom plan mostDomains 0 ⌝ }
 {
     let shares = plan.shares;
     let domains = plan.domains as usize;
-    let mut masks = [0u16; 8];
+    let mut masks = [0u16; DOMAIN_ENTRIES];
     let mut first: u32 = 0;
     let mut i: usize = 0;
     while i < domains {

@@ -2,15 +2,19 @@
 use crate::Plan;
 ghost use mathlib.Core.Path.{_≡_};
 ghost use mathlib.Core.Bool.{true};
-ghost use Prim.Native.Nat.{ℕ, _*_, _≤_, _<_};
+ghost use Prim.Native.Nat.{ℕ, _≤_, _<_};
 ghost use lib.ListN.{getD};
+ghost use Rattle.plan.specs.Bounds.{TicksBounded};
 ghost use Rattle.plan.specs.Validity.{planValid};
 ghost use Rattle.plan.specs.Sums.{sumTo};
-ghost use Rattle.plan.specs.Windows.{windowLength, windowOwner, paddedLength, windowStart, ticksTotal, windowsTotal};
+ghost use Rattle.plan.specs.Windows.{paddedLength, ticksTotal, windowLength};
+ghost use Rattle.plan.specs.Windows.{windowOwner, windowStart, windowsTotal};
+ghost use Rattle.plan.specs.Limits.{mostLength, mostPad, mostRun, mostWindows};
 
 // The ticks of the first declared windows with their pads, once through.
 fn padded_lengths(plan: Plan, count: usize) -> u64
-    requires { ⌜ (count ≤ 32) × (plan .pad ≤ 1_000_000) × ((i : ℕ) → i < count → getD (plan .lengths) i 0 ≤ 1_000_000) ⌝ }
+    requires { ⌜ (count ≤ mostWindows) × (plan .pad ≤ mostPad)
+        × ((slot : ℕ) → slot < count → getD (plan .lengths) slot 0 ≤ mostLength) ⌝ }
     ensures { λ r. ⌜ r ≡ sumTo (paddedLength plan) count ⌝ }
 {
     let lengths = plan.lengths;
@@ -27,7 +31,7 @@ fn padded_lengths(plan: Plan, count: usize) -> u64
 
 // The run's total of ticks.
 pub fn ticks_total(plan: Plan) -> u64
-    requires { ⌜ (plan .run ≤ 1_000) × (plan .windows ≤ 32) × (plan .pad ≤ 1_000_000) × ((i : ℕ) → i < 32 → getD (plan .lengths) i 0 ≤ 1_000_000) ⌝ }
+    requires { ⌜ TicksBounded plan ⌝ }
     ensures { λ r. ⌜ r ≡ ticksTotal plan ⌝ }
 {
     let windows = plan.windows as usize;
@@ -38,7 +42,7 @@ pub fn ticks_total(plan: Plan) -> u64
 
 // The number of windows of the whole run.
 pub fn windows_total(plan: Plan) -> u64
-    requires { ⌜ (plan .run ≤ 1_000) × (plan .windows ≤ 32) ⌝ }
+    requires { ⌜ (plan .run ≤ mostRun) × (plan .windows ≤ mostWindows) ⌝ }
     ensures { λ r. ⌜ r ≡ windowsTotal plan ⌝ }
 {
     let run = plan.run as u64;

@@ -1,5 +1,6 @@
-// The check for 12: whether the reader could give a plan value.
+// Plan validity (12): whether the reader could give a plan value.
 use crate::Plan;
+use crate::limits::DOMAIN_ENTRIES;
 use crate::limits::LEAST_DOMAINS;
 use crate::limits::LEAST_LENGTH;
 use crate::limits::LEAST_PAD;
@@ -14,6 +15,7 @@ use crate::limits::MOST_RUN_TICKS;
 use crate::limits::MOST_SHARE;
 use crate::limits::MOST_SHARES;
 use crate::limits::MOST_WINDOWS;
+use crate::limits::WINDOW_ENTRIES;
 use crate::sharing::colours_of;
 use crate::sharing::has_bit;
 use crate::sharing::masks_of;
@@ -24,10 +26,11 @@ ghost use mathlib.Core.Bool.{true};
 ghost use Prim.Native.Nat.{ℕ, _≤_, _<_};
 ghost use lib.Dec.{ltb};
 ghost use lib.ListN.{getD};
-ghost use Rattle.plan.specs.Colours.{firstColour};
+ghost use Rattle.plan.specs.Bounds.{ColoursBounded};
 ghost use Rattle.plan.specs.Validity.{countsValid, declaredValid, domainValid, maskValid};
 ghost use Rattle.plan.specs.Validity.{planValid, windowValid, within};
 ghost use Rattle.plan.specs.Sums.{allBelow};
+ghost use Rattle.plan.specs.Limits.{mostDomains, mostWindows};
 
 // Whether a number is within limits, both included.
 fn is_within(low: u32, high: u32, number: u32) -> bool
@@ -36,7 +39,7 @@ fn is_within(low: u32, high: u32, number: u32) -> bool
     (low <= number) & (number <= high)
 }
 
-// Whether the four counts are possible.
+// Whether the four counts are valid.
 fn counts_valid(plan: Plan) -> bool
     ensures { λ r. ⌜ r ≡ countsValid plan ⌝ }
 {
@@ -47,9 +50,9 @@ fn counts_valid(plan: Plan) -> bool
     pad & run & domains & windows
 }
 
-// Whether a declared domain's share and recipients are possible.
+// Whether a declared domain's share and recipients are valid.
 fn declared_valid(plan: Plan, domain: usize) -> bool
-    requires { ⌜ (domain < 8) × (plan .domains ≤ 8) ⌝ }
+    requires { ⌜ (domain < mostDomains) × (plan .domains ≤ mostDomains) ⌝ }
     ensures { λ r. ⌜ r ≡ declaredValid plan domain ⌝ }
 {
     let shares = plan.shares;
@@ -64,9 +67,9 @@ fn declared_valid(plan: Plan, domain: usize) -> bool
     (1 <= colours) & (right < (1u32 << plan.domains)) & !own
 }
 
-// Whether a place for a domain is possible, but for its mask.
+// Whether an entry for a domain is valid, but for its mask.
 fn domain_valid(plan: Plan, domain: usize) -> bool
-    requires { ⌜ (domain < 8) × (plan .domains ≤ 8) ⌝ }
+    requires { ⌜ (domain < mostDomains) × (plan .domains ≤ mostDomains) ⌝ }
     ensures { λ r. ⌜ r ≡ domainValid plan domain ⌝ }
 {
     let domains = plan.domains as usize;
@@ -78,13 +81,13 @@ fn domain_valid(plan: Plan, domain: usize) -> bool
     (shares[domain] == 0) & (rights[domain] == 0)
 }
 
-// Whether every place for a domain is possible, but for its mask.
+// Whether every entry for a domain is valid, but for its mask.
 fn domains_valid(plan: Plan) -> bool
-    requires { ⌜ plan .domains ≤ 8 ⌝ }
-    ensures { λ r. ⌜ r ≡ allBelow (domainValid plan) 8 ⌝ }
+    requires { ⌜ plan .domains ≤ mostDomains ⌝ }
+    ensures { λ r. ⌜ r ≡ allBelow (domainValid plan) mostDomains ⌝ }
 {
     let mut domain: usize = 0;
-    while domain < 8 {
+    while domain < DOMAIN_ENTRIES {
         if !domain_valid(plan, domain) {
             return false;
         }
@@ -93,15 +96,15 @@ fn domains_valid(plan: Plan) -> bool
     true
 }
 
-// Whether every place for a mask is possible.
+// Whether every entry for a mask is valid.
 fn masks_valid(plan: Plan) -> bool
-    requires { ⌜ (plan .domains ≤ 8) × ((i : ℕ) → i < 8 → getD (plan .shares) i 0 ≤ 1_000) × (firstColour plan (plan .domains) ≤ 15) ⌝ }
-    ensures { λ r. ⌜ r ≡ allBelow (maskValid plan) 8 ⌝ }
+    requires { ⌜ ColoursBounded plan ⌝ }
+    ensures { λ r. ⌜ r ≡ allBelow (maskValid plan) mostDomains ⌝ }
 {
     let kept = plan.masks;
     let given = masks_of(plan);
     let mut domain: usize = 0;
-    while domain < 8 {
+    while domain < DOMAIN_ENTRIES {
         if kept[domain] != given[domain] {
             return false;
         }
@@ -110,9 +113,10 @@ fn masks_valid(plan: Plan) -> bool
     true
 }
 
-// Whether a place for a window is possible, by its numbers and by whether a window is declared there.
+// Whether an entry for a window is valid, by its numbers and by whether a window is declared there.
 fn window_valid(owner: u32, length: u32, domains: u32, declared: bool) -> bool
-    ensures { λ r. ⌜ ((plan : Plan) (slot : ℕ) → getD (plan .owners) slot 0 ≡ owner → getD (plan .lengths) slot 0 ≡ length → plan .domains ≡ domains
+    ensures { λ r. ⌜ ((plan : Plan) (slot : ℕ) → getD (plan .owners) slot 0 ≡ owner
+        → getD (plan .lengths) slot 0 ≡ length → plan .domains ≡ domains
         → ltb slot (plan .windows) ≡ declared → r ≡ windowValid plan slot) ⌝ }
 {
     let within = is_within(LEAST_LENGTH, MOST_LENGTH, length);
@@ -121,21 +125,22 @@ fn window_valid(owner: u32, length: u32, domains: u32, declared: bool) -> bool
     if declared { used } else { unused }
 }
 
-// Whether every place for a window is possible. All 32 are looked at, with no way out before, which the compiler turns into few instructions.
+// Whether every entry for a window is valid. All are looked at, with no way out before, which the
+// compiler turns into few instructions.
 fn windows_valid(plan: Plan) -> bool
-    ensures { λ r. ⌜ r ≡ allBelow (windowValid plan) 32 ⌝ }
+    ensures { λ r. ⌜ r ≡ allBelow (windowValid plan) mostWindows ⌝ }
 {
     let windows = plan.windows as usize;
-    let mut possible = true;
+    let mut valid = true;
     let mut slot: usize = 0;
-    while slot < 32 {
+    while slot < WINDOW_ENTRIES {
         let owner = plan.owners[slot];
         let length = plan.lengths[slot];
         let here = window_valid(owner, length, plan.domains, slot < windows);
-        possible = possible & here;
+        valid = valid & here;
         slot += 1;
     }
-    possible
+    valid
 }
 
 // Whether the reader could give this plan.

@@ -7,12 +7,12 @@ use mathlib.Core.Path.{_≡_, sym, ap, _∙_}
 use lib.ListN.{length, getD, set, take}
 use lib.Seq.{take-all, take-suc, take-suc-set}
 
-pub filled-next : (from to : List ℕ) (place : ℕ) → place < length from → place < length to → take place to ≡ take place from
-    → take (place + 1) (set to place (getD from place 0)) ≡ take (place + 1) from
-filled-next from to place within room so-far =
-    let number = getD from place 0 in
-    rw (add-one place)
-    (take-suc-set to place number room ∙ ap (λ (front : List ℕ). front ++ (number ∷ [])) so-far ∙ sym (take-suc from place 0 within))
+pub filled-next : (from to : List ℕ) (index : ℕ) → index < length from → index < length to → take index to ≡ take index from
+    → take (index + 1) (set to index (getD from index 0)) ≡ take (index + 1) from
+filled-next from to index within room so-far =
+    let number = getD from index 0 in
+    rw (add-one index)
+    (take-suc-set to index number room ∙ ap (λ (front : List ℕ). front ++ (number ∷ [])) so-far ∙ sym (take-suc from index 0 within))
 
 pub filled-all : (from to : List ℕ) (count : ℕ) → length from ≡ count → length to ≡ count → take count to ≡ take count from → to ≡ from
 filled-all from to count whole room same =

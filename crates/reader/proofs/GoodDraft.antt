@@ -9,6 +9,8 @@ use lib.Dec.{eqb, leb, ltb}
 use lib.ListN.{length, getD, length-set, replicate, set, getD-replicate, length-replicate, List·getD-eq-default}
 use lib.Seq.{getD-set-other, getD-set-same}
 use borrow.Author.Tests.{leb-false, ltb-false, ltb-true}
+use Rattle.plan.specs.declared.Plan.{Plan}
+use Rattle.plan.specs.Parts.{withDomain, withPad, withRun, withWindow}
 use Rattle.plan.specs.Zeros.{noPlan}
 use Rattle.forms.proofs.GoodForm.{GoodForm}
 use Rattle.forms.specs.declared.DomainLine.{DomainLine}
@@ -19,41 +21,44 @@ use Rattle.forms.specs.declared.WindowLine.{WindowLine}
 use Rattle.line.proofs.GoodLine.{GoodLine}
 use Rattle.line.specs.declared.Line.{Line}
 use Rattle.plan.specs.Colours.{hasBit}
-use Rattle.refusal.specs.declared.Refusal.the-variants.{RepeatedOrMissing, TooMany}
+use Rattle.plan.specs.Limits.{leastLength, leastPad, leastShare, mostDomains, mostLength}
+use Rattle.plan.specs.Limits.{mostPad, mostRun, mostShare, mostWindows}
 use Rattle.script.specs.Stored.{storedOf}
+use Rattle.script.specs.Limits.{lastDomain, mostOps}
 use Rattle.syntax.proofs.Choices.{same-or-not}
 use Rattle.syntax.proofs.GoodList.{Noted, Recorded}
 use Rattle.lexer.proofs.Reached.{cond-holds}
 use Rattle.reader.specs.declared.Draft.{Draft}
-use Rattle.reader.specs.Draft.{DraftOutcome, kept, noDraft, planWithDomain, planWithPad, planWithRun, planWithWindow, refused, takeDomain, takeForm, takeLine, takeOp, takePad, takeRun, takeWindow, withPlan}
+use Rattle.reader.specs.declared.DraftResult.{DraftResult}
+use Rattle.reader.specs.Draft.{DraftOutcome, noDraft, takeDomain, takeForm, takeLine, takeOp, takePad, takeRun, takeWindow}
 
 -- ---- domains
 
 pub record GoodDomain (share rights own : ℕ) (named : List ℕ) : Type 0 where
-  pub share-least : 1 ≤ share
-  pub share-most : share ≤ 1_000
-  pub small : rights < 2 ^ 8
+  pub share-least : leastShare ≤ share
+  pub share-most : share ≤ mostShare
+  pub small : rights < 2 ^ mostDomains
   pub not-own : hasBit rights own ≡ false
   pub noted : Noted rights named
 
 pub record GoodDomains (count : ℕ) (shares rights named : List ℕ) : Type 0 where
-  pub most : count ≤ 8
-  pub share-places : length shares ≡ 8
-  pub right-places : length rights ≡ 8
-  pub named-places : length named ≡ 8
+  pub most : count ≤ mostDomains
+  pub shares-size : length shares ≡ mostDomains
+  pub rights-size : length rights ≡ mostDomains
+  pub named-size : length named ≡ mostDomains
   pub declared : (domain : ℕ) → domain < count → GoodDomain (getD shares domain 0) (getD rights domain 0) domain named
   pub undeclared : (domain : ℕ) → count ≤ domain → (getD shares domain 0 ≡ 0) × (getD rights domain 0 ≡ 0)
 
 -- one domain more, with its recipients noted
-domain-next : (count share own-rights : ℕ) (shares rights named marked : List ℕ) → GoodDomains count shares rights named → count ≤ 7
-    → 1 ≤ share → share ≤ 1_000 → Recorded count own-rights named marked
+domain-next : (count share own-rights : ℕ) (shares rights named marked : List ℕ) → GoodDomains count shares rights named → count ≤ lastDomain
+    → leastShare ≤ share → share ≤ mostShare → Recorded count own-rights named marked
     → GoodDomains (count + 1) (set shares count share) (set rights count own-rights) marked
 domain-next count share own-rights shares rights named marked so-far next low high recorded =
     record {
       most = omega arith;
-      share-places = length-set shares count share ∙ so-far .share-places;
-      right-places = length-set rights count own-rights ∙ so-far .right-places;
-      named-places = recorded .size ∙ so-far .named-places;
+      shares-size = length-set shares count share ∙ so-far .shares-size;
+      rights-size = length-set rights count own-rights ∙ so-far .rights-size;
+      named-size = recorded .size ∙ so-far .named-size;
       declared = λ domain below. same-or-not domain count (λ same. rw same here) (λ differ. earlier domain differ (omega arith));
       undeclared = λ domain past. rw (past-share domain (omega arith), past-rights domain (omega arith)) (so-far .undeclared domain (omega arith));
     }
@@ -67,8 +72,8 @@ domain-next count share own-rights shares rights named marked so-far next low hi
     here : GoodDomain (getD (set shares count share) count 0) (getD (set rights count own-rights) count 0) count marked
     here =
         rw (
-          getD-set-same shares count share 0 (omega (arith, so-far .share-places)),
-          getD-set-same rights count own-rights 0 (omega (arith, so-far .right-places)),
+          getD-set-same shares count share 0 (omega (arith, so-far .shares-size)),
+          getD-set-same rights count own-rights 0 (omega (arith, so-far .rights-size)),
         )
         record { share-least = low; share-most = high; small = recorded .small; not-own = recorded .not-own; noted = recorded .noted }
 
@@ -89,13 +94,13 @@ domain-next count share own-rights shares rights named marked so-far next low hi
 
 pub record GoodWindow (declared owner length : ℕ) : Type 0 where
   pub owned : owner < declared
-  pub least : 1 ≤ length
-  pub most : length ≤ 1_000_000
+  pub least : leastLength ≤ length
+  pub most : length ≤ mostLength
 
 pub record GoodWindows (declared count : ℕ) (owners lengths : List ℕ) : Type 0 where
-  pub most : count ≤ 32
-  pub owner-places : length owners ≡ 32
-  pub length-places : length lengths ≡ 32
+  pub most : count ≤ mostWindows
+  pub owners-size : length owners ≡ mostWindows
+  pub lengths-size : length lengths ≡ mostWindows
   pub window : (slot : ℕ) → slot < count → GoodWindow declared (getD owners slot 0) (getD lengths slot 0)
   pub no-window : (slot : ℕ) → count ≤ slot → (getD owners slot 0 ≡ 0) × (getD lengths slot 0 ≡ 0)
 
@@ -104,21 +109,21 @@ windows-kept : (declared count : ℕ) (owners lengths : List ℕ) → GoodWindow
 windows-kept declared count owners lengths so-far =
     record {
       most = so-far .most;
-      owner-places = so-far .owner-places;
-      length-places = so-far .length-places;
+      owners-size = so-far .owners-size;
+      lengths-size = so-far .lengths-size;
       window = λ slot below.
           let before = so-far .window slot below in
           record { owned = omega (arith, before .owned); least = before .least; most = before .most };
       no-window = so-far .no-window;
     }
 
-window-next : (declared count owner ticks : ℕ) (owners lengths : List ℕ) → GoodWindows declared count owners lengths → count < 32
+window-next : (declared count owner ticks : ℕ) (owners lengths : List ℕ) → GoodWindows declared count owners lengths → count < mostWindows
     → GoodWindow declared owner ticks → GoodWindows declared (count + 1) (set owners count owner) (set lengths count ticks)
 window-next declared count owner ticks owners lengths so-far room fresh =
     record {
       most = omega arith;
-      owner-places = length-set owners count owner ∙ so-far .owner-places;
-      length-places = length-set lengths count ticks ∙ so-far .length-places;
+      owners-size = length-set owners count owner ∙ so-far .owners-size;
+      lengths-size = length-set lengths count ticks ∙ so-far .lengths-size;
       window = λ slot below. same-or-not slot count (λ same. rw same here) (λ differ. rw (past-owner slot differ, past-length slot differ) (so-far .window slot (omega arith)));
       no-window = λ slot past. rw (past-owner slot (omega arith), past-length slot (omega arith)) (so-far .no-window slot (omega arith));
     }
@@ -132,44 +137,48 @@ window-next declared count owner ticks owners lengths so-far room fresh =
     here : GoodWindow declared (getD (set owners count owner) count 0) (getD (set lengths count ticks) count 0)
     here =
         rw (
-          getD-set-same owners count owner 0 (omega (arith, so-far .owner-places)),
-          getD-set-same lengths count ticks 0 (omega (arith, so-far .length-places)),
+          getD-set-same owners count owner 0 (omega (arith, so-far .owners-size)),
+          getD-set-same lengths count ticks 0 (omega (arith, so-far .lengths-size)),
         ) fresh
 
 -- ---- the draft
 
 -- a pad of 0 stands for none yet
-pub record GoodDraft (draft : Draft) : Type 0 where
-  pub pad-least : (draft .plan .pad ≡ 0 → ⊥) → 276 ≤ draft .plan .pad
-  pub pad-most : draft .plan .pad ≤ 1_000_000
-  pub run-most : draft .plan .run ≤ 1_000
-  pub domains : GoodDomains (draft .plan .domains) (draft .plan .shares) (draft .plan .rights) (draft .named)
-  pub windows : GoodWindows (draft .plan .domains) (draft .plan .windows) (draft .plan .owners) (draft .plan .lengths)
+pub record GoodPlan (plan : Plan) (named : List ℕ) : Type 0 where
+  pub pad-least : (plan .pad ≡ 0 → ⊥) → leastPad ≤ plan .pad
+  pub pad-most : plan .pad ≤ mostPad
+  pub run-most : plan .run ≤ mostRun
+  pub domains : GoodDomains (plan .domains) (plan .shares) (plan .rights) named
+  pub windows : GoodWindows (plan .domains) (plan .windows) (plan .owners) (plan .lengths)
 
--- every share and every length is within its limit, at every place
-pub shares-most : (draft : Draft) → GoodDraft draft → (domain : ℕ) → getD (draft .plan .shares) domain 0 ≤ 1_000
-shares-most draft good domain = go (ltb domain (draft .plan .domains)) refl
-  where
-    go : (test : Bool) → ltb domain (draft .plan .domains) ≡ test → getD (draft .plan .shares) domain 0 ≤ 1_000
-    go true e = good .domains .declared domain (ltb-true _ _ e) .share-most
-    go false e = let none = good .domains .undeclared domain (ltb-false _ _ e) .0 in omega arith
+abbrev pub GoodDraft : Draft → Type 0
+GoodDraft draft = GoodPlan (draft .plan) (draft .named)
 
-pub lengths-most : (draft : Draft) → GoodDraft draft → (slot : ℕ) → getD (draft .plan .lengths) slot 0 ≤ 1_000_000
-lengths-most draft good slot = go (ltb slot (draft .plan .windows)) refl
-  where
-    go : (test : Bool) → ltb slot (draft .plan .windows) ≡ test → getD (draft .plan .lengths) slot 0 ≤ 1_000_000
-    go true e = good .windows .window slot (ltb-true _ _ e) .most
-    go false e = let none = good .windows .no-window slot (ltb-false _ _ e) .1 in omega arith
+-- every share and every length is within its limit, at every index
+module _ {plan : Plan} {named : List ℕ} (good : GoodPlan plan named) where
+  pub shares-most : (domain : ℕ) → getD (plan .shares) domain 0 ≤ mostShare
+  shares-most domain = go (ltb domain (plan .domains)) refl
+    where
+      go : (test : Bool) → ltb domain (plan .domains) ≡ test → getD (plan .shares) domain 0 ≤ mostShare
+      go true e = good .domains .declared domain (ltb-true _ _ e) .share-most
+      go false e = let none = good .domains .undeclared domain (ltb-false _ _ e) .0 in omega arith
+
+  pub lengths-most : (slot : ℕ) → getD (plan .lengths) slot 0 ≤ mostLength
+  lengths-most slot = go (ltb slot (plan .windows)) refl
+    where
+      go : (test : Bool) → ltb slot (plan .windows) ≡ test → getD (plan .lengths) slot 0 ≤ mostLength
+      go true e = good .windows .window slot (ltb-true _ _ e) .most
+      go false e = let none = good .windows .no-window slot (ltb-false _ _ e) .1 in omega arith
 
 -- an array of zeros
-zeros : (count place : ℕ) → _≡_ {A = ℕ} (getD (replicate count 0) place 0) 0
-zeros count place = go (ltb place count) refl
+zeros : (count index : ℕ) → _≡_ {A = ℕ} (getD (replicate count 0) index 0) 0
+zeros count index = go (ltb index count) refl
   where
-    go : (test : Bool) → ltb place count ≡ test → _≡_ {A = ℕ} (getD (replicate count 0) place 0) 0
-    go true e = getD-replicate count place 0 0 (ltb-true place count e)
+    go : (test : Bool) → ltb index count ≡ test → _≡_ {A = ℕ} (getD (replicate count 0) index 0) 0
+    go true e = getD-replicate count index 0 0 (ltb-true index count e)
     go false e =
         let none : List ℕ = replicate count 0 in
-        let past : length none ≤ place = rw (length-replicate {A = ℕ} count 0) (ltb-false place count e) in
+        let past : length none ≤ index = rw (length-replicate {A = ℕ} count 0) (ltb-false index count e) in
         List·getD-eq-default none 0 past
 
 pub draft-first : GoodDraft noDraft
@@ -182,104 +191,103 @@ draft-first =
       domains =
           record {
             most = omega arith;
-            share-places = refl;
-            right-places = refl;
-            named-places = refl;
+            shares-size = refl;
+            rights-size = refl;
+            named-size = refl;
             declared = λ domain below. absurd (omega arith);
-            undeclared = λ domain past. (zeros 8 domain, zeros 8 domain);
+            undeclared = λ domain past. (zeros mostDomains domain, zeros mostDomains domain);
           };
       windows =
           record {
             most = omega arith;
-            owner-places = refl;
-            length-places = refl;
+            owners-size = refl;
+            lengths-size = refl;
             window = λ slot below. absurd (omega arith);
-            no-window = λ slot past. (zeros 32 slot, zeros 32 slot);
+            no-window = λ slot past. (zeros mostWindows slot, zeros mostWindows slot);
           };
     }
 
--- what is kept after a line is a good draft again, and a store as long as before
+-- what lines come to has a good draft, and a store as long as before, also where one was refused
 abbrev pub GoodOutcome : ℕ → DraftOutcome → Type 0
-GoodOutcome size (refused refusal) = Unit {0}
-GoodOutcome size (kept draft store) = GoodDraft draft × (length store ≡ size)
+GoodOutcome size outcome = GoodDraft (outcome .draft) × (length (outcome .store) ≡ size)
 
 module _ (draft : Draft) (store : List ℕ) (so-far : GoodDraft draft) where
-  pad-taken : (ticks bracket : ℕ) → 276 ≤ ticks → ticks ≤ 1_000_000 → GoodOutcome (length store) (takePad ticks bracket draft store)
-  unfolding takePad planWithPad
+  abbrev Kept : DraftResult → Type 0
+  Kept result = GoodDraft (result .draft)
+
+  pad-taken : (ticks bracket : ℕ) → leastPad ≤ ticks → ticks ≤ mostPad → Kept (takePad ticks bracket draft)
+  unfolding takePad withPad
   pad-taken ticks bracket low high =
-      cond-holds (GoodOutcome (length store)) (eqb (draft .plan .pad) 0)
-      (kept (withPlan draft (planWithPad (draft .plan) ticks)) store) (refused (RepeatedOrMissing bracket))
-      (λ _. (record { pad-least = λ _. low; pad-most = high; run-most = so-far .run-most; domains = so-far .domains; windows = so-far .windows }, refl))
-      (λ _. tt)
+      cond-holds Kept (eqb (draft .plan .pad) 0) _ _
+      (λ _.
+      record {
+        pad-least = λ _. low;
+        pad-most = high;
+        run-most = so-far .run-most;
+        domains = so-far .domains;
+        windows = so-far .windows;
+      })
+      (λ _. so-far)
 
-  run-taken : (times bracket : ℕ) → times ≤ 1_000 → GoodOutcome (length store) (takeRun times bracket draft store)
-  unfolding takeRun planWithRun
+  run-taken : (times bracket : ℕ) → times ≤ mostRun → Kept (takeRun times bracket draft)
+  unfolding takeRun withRun
   run-taken times bracket high =
-      cond-holds (GoodOutcome (length store)) (eqb (draft .plan .run) 0)
-      (kept (withPlan draft (planWithRun (draft .plan) times)) store) (refused (RepeatedOrMissing bracket))
-      (λ _. (record { pad-least = so-far .pad-least; pad-most = so-far .pad-most; run-most = high; domains = so-far .domains; windows = so-far .windows }, refl))
-      (λ _. tt)
+      cond-holds Kept (eqb (draft .plan .run) 0) _ _
+      (λ _.
+      record {
+        pad-least = so-far .pad-least;
+        pad-most = so-far .pad-most;
+        run-most = high;
+        domains = so-far .domains;
+        windows = so-far .windows;
+      })
+      (λ _. so-far)
 
-  domain-taken : (line : DomainLine) (marked : List ℕ) → draft .plan .domains ≤ 7 → 1 ≤ line .share → line .share ≤ 1_000
-      → Recorded (draft .plan .domains) (line .rights) (draft .named) marked → GoodOutcome (length store) (takeDomain line marked draft store)
-  unfolding takeDomain planWithDomain
-  domain-taken line marked next low high recorded = (
-    record {
-      pad-least = so-far .pad-least;
-      pad-most = so-far .pad-most;
-      run-most = so-far .run-most;
-      domains = domain-next _ _ _ _ _ _ _ (so-far .domains) next low high recorded;
-      windows = windows-kept _ _ _ _ (so-far .windows);
-    },
-    refl,
-  )
+  domain-taken : (line : DomainLine) (marked : List ℕ) → draft .plan .domains ≤ lastDomain → leastShare ≤ line .share
+      → line .share ≤ mostShare → Recorded (draft .plan .domains) (line .rights) (draft .named) marked
+      → Kept (takeDomain line marked draft)
+  unfolding takeDomain withDomain
+  domain-taken line marked next low high recorded =
+      record {
+        pad-least = so-far .pad-least;
+        pad-most = so-far .pad-most;
+        run-most = so-far .run-most;
+        domains = domain-next _ _ _ _ _ _ _ (so-far .domains) next low high recorded;
+        windows = windows-kept _ _ _ _ (so-far .windows);
+      }
 
   window-taken : (line : WindowLine) (bracket : ℕ) → GoodWindow (draft .plan .domains) (line .owner) (line .length)
-      → GoodOutcome (length store) (takeWindow line bracket draft store)
-  unfolding takeWindow planWithWindow
+      → Kept (takeWindow line bracket draft)
+  unfolding takeWindow withWindow
   window-taken line bracket fresh =
-      cond-holds (GoodOutcome (length store)) (leb 32 (draft .plan .windows)) (refused (TooMany bracket))
-      (kept (withPlan draft (planWithWindow (draft .plan) line)) store)
-      (λ _. tt)
-      (λ room. (
-        record {
-          pad-least = so-far .pad-least;
-          pad-most = so-far .pad-most;
-          run-most = so-far .run-most;
-          domains = so-far .domains;
-          windows = window-next _ _ _ _ _ _ (so-far .windows) (leb-false _ _ room) fresh;
-        },
-        refl,
-      ))
+      cond-holds Kept (leb mostWindows (draft .plan .windows)) _ _
+      (λ _. so-far)
+      (λ room.
+      record {
+        pad-least = so-far .pad-least;
+        pad-most = so-far .pad-most;
+        run-most = so-far .run-most;
+        domains = so-far .domains;
+        windows = window-next _ _ _ _ _ _ (so-far .windows) (leb-false _ _ room) fresh;
+      })
 
   op-taken : (line : OpLine) (bracket : ℕ) → GoodOutcome (length store) (takeOp line bracket draft store)
   unfolding takeOp
   op-taken line bracket =
-      let place = getD (draft .counts) (line .domain) 0 in
-      cond-holds (GoodOutcome (length store)) (leb 256 place) (refused (TooMany bracket))
-      (kept (record { plan = draft .plan; counts = set (draft .counts) (line .domain) (place + 1); named = draft .named })
-      (set store (256 * line .domain + place) (storedOf (line .op))))
-      (λ _. tt)
-      (λ _. (
-        record {
-          pad-least = so-far .pad-least;
-          pad-most = so-far .pad-most;
-          run-most = so-far .run-most;
-          domains = so-far .domains;
-          windows = so-far .windows;
-        },
-        length-set store (256 * line .domain + place) (storedOf (line .op)),
-      ))
+      let index = getD (draft .counts) (line .domain) 0 in
+      cond-holds (GoodOutcome (length store)) (leb mostOps index) _ _ (λ _. (so-far, refl))
+      (λ _. (so-far, length-set store (mostOps * line .domain + index) (storedOf (line .op))))
 
   form-taken : (form : Form) (bracket at end : ℕ) (marked : List ℕ) → GoodForm (draft .plan .domains) (draft .named) marked at end form
       → GoodOutcome (length store) (takeForm form bracket marked draft store)
   form-taken Blank bracket at end marked h = (so-far, refl)
-  form-taken (Pad ticks) bracket at end marked h = pad-taken ticks bracket (h .0) (h .1)
-  form-taken (Run times) bracket at end marked h = run-taken times bracket (h .1)
-  form-taken (Domain line) bracket at end marked h = domain-taken line marked (h .0) (h .1) (h .2) (h .3)
-  form-taken (Window line) bracket at end marked h = window-taken line bracket (record { owned = h .0; least = h .1; most = h .2 })
+  form-taken (Pad ticks) bracket at end marked h = (pad-taken ticks bracket (h .0) (h .1), refl)
+  form-taken (Run times) bracket at end marked h = (run-taken times bracket (h .1), refl)
+  form-taken (Domain line) bracket at end marked h = (domain-taken line marked (h .0) (h .1) (h .2) (h .3), refl)
+  form-taken (Window line) bracket at end marked h =
+      (window-taken line bracket (record { owned = h .0; least = h .1; most = h .2 }), refl)
   form-taken (Script line) bracket at end marked h = op-taken line bracket
-  form-taken (RefusedForm refusal) bracket at end marked h = tt
+  form-taken (RefusedForm refusal) bracket at end marked h = (so-far, refl)
 
   pub line-taken : (text : List ℕ) (at : ℕ) (line : Line) → GoodLine text (draft .plan .domains) (draft .named) at line
       → GoodOutcome (length store) (takeLine line draft store)

@@ -9,19 +9,19 @@ use borrow.Author.Tests.{eq-eqb}
 use Rattle.plan.specs.Colours.{hasBit}
 
 -- one bit
-top-off : (number place : ℕ) → number < 2 ^ suc place → (hasBit number place ≡ true → ⊥) → number < 2 ^ place
+top-off : (number index : ℕ) → number < 2 ^ suc index → (hasBit number index ≡ true → ⊥) → number < 2 ^ index
 unfolding hasBit
-top-off number place small off =
-    let top = number / 2 ^ place in
-    let below : top < 2 = div-lt-iff-lt-mul {x = number} {y = 2} (pow-pos place) .1 (rw (← pow-succ' 2 place) small) in
+top-off number index small off =
+    let top = number / 2 ^ index in
+    let below : top < 2 = div-lt-iff-lt-mul {x = number} {y = 2} (pow-pos index) .1 (rw (← pow-succ' 2 index) small) in
     let even : top % 2 ≡ 1 → ⊥ = λ odd. off (eq-eqb (top % 2) 1 odd) in
     let none : top < 1 = omega arith in
-    rw (← one-mul (2 ^ place)) (div-lt-iff-lt-mul {x = number} {y = 1} (pow-pos place) .0 none)
+    rw (← one-mul (2 ^ index)) (div-lt-iff-lt-mul {x = number} {y = 1} (pow-pos index) .0 none)
 
 -- several bits, from the highest down
 pub high-off : (gap number low : ℕ) → number < 2 ^ (low + gap)
-    → ((place : ℕ) → low ≤ place → place < low + gap → hasBit number place ≡ true → ⊥) → number < 2 ^ low
+    → ((index : ℕ) → low ≤ index → index < low + gap → hasBit number index ≡ true → ⊥) → number < 2 ^ low
 high-off zero number low small off = rw (← add-zero low) small
 high-off (suc gap) number low small off =
     high-off gap number low (top-off number (low + gap) (rw (add-suc low gap) at small) (off (low + gap) (omega arith) (omega arith)))
-    (λ place from below. off place from (omega arith))
+    (λ index from below. off index from (omega arith))

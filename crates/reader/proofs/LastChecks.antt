@@ -1,64 +1,96 @@
--- Laws of the checks after the last line, place by place: the first undeclared recipient, the first domain
--- without a colour, and the masks of a plan that passes. Assumes nothing.
+-- Laws of the checks after the last line: the first undeclared recipient, the first domain without a colour, and what a
+-- draft that passes is known to satisfy. Assumes nothing.
 use Prim.Native.Nat.{ℕ, zero, suc, _+_, _-_, _≤_, _<_}
 use native.Mathlib.Nat.{sub-zero}
-use native.Mathlib.Numerals.{add-one}
 use native.Mathlib.Omega.{arith}
 use mathlib.Core.Bool.{Bool, true, false, cond}
-use mathlib.Core.List.{List}
+use mathlib.Core.List.{List, [], _∷_}
 use mathlib.Core.Path.{_≡_, refl, sym, ap, _∙_}
-use lib.Dec.{eqb, leb, ltb}
+use lib.Dec.{eqb, leb}
 use lib.ListN.{getD}
-use borrow.Author.Tests.{eq-eqb, eqb-false, eqb-true, le-ltb, lt-ltb, ltb-false, ne-eqb}
+use borrow.Author.Tests.{eq-eqb, eqb-false, le-leb, leb-false, leb-true, lt-leb, ltb-false, ne-eqb}
 use Rattle.plan.specs.declared.Plan.{Plan}
-use Rattle.plan.specs.Colours.{coloursAt, masksFrom, sharesTotal}
+use Rattle.plan.specs.Colours.{coloursAt, sharesTotal}
 use Rattle.plan.specs.Windows.{ticksTotal}
-use Rattle.refusal.specs.declared.Refusal.{Refusal}
+use Rattle.plan.specs.Limits.{mostDomains, mostRunTicks, mostShares}
+use Rattle.refusal.proofs.Passed.{both-passed, not-refused, when-passed}
+use Rattle.refusal.specs.declared.Refusal.the-variants.{WrongDomain}
 use Rattle.refusal.specs.declared.Verdict.{Verdict}
 use Rattle.refusal.specs.declared.Verdict.the-variants.{Accepted, Refused}
 use Rattle.syntax.proofs.Choices.{same-or-not}
 use Rattle.reader.specs.declared.Draft.{Draft}
-use Rattle.reader.specs.Final.{finalVerdict, firstColourless, firstOffset, firstUndeclared, lacking, planWithMasks}
+use Rattle.reader.specs.Final.{earlierKept, finalVerdict, firstColourless, firstOf, lacking, mayVerdict, mentionsFrom}
+use Rattle.reader.specs.Final.{undeclaredMentions}
 
 -- ---- the first undeclared recipient
 
-place-none : (a : ℕ) → firstOffset a 0 ≡ a
-place-none a = go (eqb a 0) refl
+-- the verdict where an offset was found before, kept plus one, and these mentions follow
+unfoldable pub mayAfter : ℕ → List ℕ → Verdict
+mayAfter zero mentions = mayVerdict mentions
+mayAfter (suc offset) mentions = Refused (WrongDomain (firstOf offset mentions))
+
+-- one mention more, kept plus one or 0 for none
+may-more : (found kept : ℕ) (rest : List ℕ)
+    → mayAfter (earlierKept found kept) rest
+    ≡ mayAfter found (elim kept as (λ _. List ℕ) [ zero ↦ rest | suc offset ↦ offset ∷ rest ])
+unfolding mayAfter firstOf
+may-more zero zero rest = refl
+may-more zero (suc offset) rest = refl
+may-more (suc found) zero rest = rw (ne-eqb (suc found) 0 (λ none. omega arith))
+may-more (suc found) (suc offset) rest =
+    rw (ne-eqb (suc found) 0 (λ none. omega arith), ne-eqb (suc offset) 0 (λ none. omega arith)) (go (leb found offset) refl)
   where
-    go : (test : Bool) → eqb a 0 ≡ test → cond test 0 a ≡ a
-    go true e = sym (eqb-true a 0 e)
-    go false e = refl
+    go : (b : Bool) → leb found offset ≡ b
+        → mayAfter (cond (leb (suc found) (suc offset)) (suc found) (suc offset)) rest
+        ≡ Refused (WrongDomain (firstOf (cond b found offset) rest))
+    go true e = rw (le-leb (suc found) (suc offset) (omega (arith, leb-true found offset e)))
+    go false e = rw (lt-leb (suc found) (suc offset) (omega (arith, leb-false found offset e)))
 
-module _ (named : List ℕ) (declared count found : ℕ) (so-far : found ≡ firstUndeclared named declared count) where
-  pub undeclared-next : declared ≤ count → firstOffset found (getD named count 0) ≡ firstUndeclared named declared (count + 1)
-  unfolding firstUndeclared
-  undeclared-next past = rw (add-one count, le-ltb count declared past, so-far)
+module _ (named : List ℕ) (declared found domain : ℕ)
+    (so-far : mayAfter found (undeclaredMentions named domain) ≡ mayVerdict (undeclaredMentions named declared)) where
+  pub may-next : domain < mostDomains
+      → mayAfter (earlierKept found (getD named domain 0)) (undeclaredMentions named (domain + 1))
+      ≡ mayVerdict (undeclaredMentions named declared)
+  unfolding mentionsFrom
+  may-next below =
+      let left : mostDomains - domain ≡ suc (mostDomains - (domain + 1)) = omega arith in
+      may-more found (getD named domain 0) (undeclaredMentions named (domain + 1)) ∙ (rw left at so-far)
 
-  pub undeclared-same : count < declared → found ≡ firstUndeclared named declared (count + 1)
-  unfolding firstUndeclared
-  undeclared-same below = so-far ∙ rw (add-one count, lt-ltb count declared below) (sym (place-none (firstUndeclared named declared count)))
+  pub may-end : mostDomains ≤ domain → mayAfter found [] ≡ mayVerdict (undeclaredMentions named declared)
+  unfolding mentionsFrom
+  may-end past = let none : mostDomains - domain ≡ 0 = omega arith in rw none at so-far
 
--- there is none: neither of two places is one
-place-both : (a b : ℕ) → firstOffset a b ≡ 0 → (a ≡ 0) × (b ≡ 0)
-place-both a b none = go (eqb a 0) (eqb b 0) (leb a b) refl refl none
+pub may-nothing : (found : ℕ) → found ≡ 0 → Accepted ≡ mayAfter found []
+unfolding mayAfter
+may-nothing found none = rw none
+
+pub may-found : (found : ℕ) → (found ≡ 0 → ⊥) → Refused (WrongDomain (found - 1)) ≡ mayAfter found []
+unfolding mayAfter firstOf
+may-found zero some = absurd (some refl)
+may-found (suc offset) some = let back : suc offset - 1 ≡ offset = omega arith in rw back
+
+may-none : (mentions : List ℕ) → mayVerdict mentions ≡ Accepted → mentions ≡ []
+may-none [] e = refl
+may-none (offset ∷ more) e = absurd (not-refused _ e)
+
+-- there is none: no domain of these is named
+pub mentions-none : (named : List ℕ) (left domain index : ℕ) → mentionsFrom named left domain ≡ [] → domain ≤ index
+    → index < domain + left → getD named index 0 ≡ 0
+unfolding mentionsFrom
+mentions-none named zero domain index none from below = absurd (omega arith)
+mentions-none named (suc left) domain index none from below =
+    go (getD named domain 0) refl none (mentions-none named left (domain + 1) index)
   where
-    go : (first second less : Bool) → eqb a 0 ≡ first → eqb b 0 ≡ second → cond first b (cond second a (cond less a b)) ≡ 0 → (a ≡ 0) × (b ≡ 0)
-    go true second less e f none = (eqb-true a 0 e, none)
-    go false true less e f none = absurd (eqb-false a 0 e none)
-    go false false true e f none = absurd (eqb-false a 0 e none)
-    go false false false e f none = absurd (eqb-false b 0 f none)
-
-pub undeclared-none : (named : List ℕ) (declared count place : ℕ) → firstUndeclared named declared count ≡ 0 → place < count → declared ≤ place
-    → getD named place 0 ≡ 0
-unfolding firstUndeclared
-undeclared-none named declared zero place none below past = absurd (omega arith)
-undeclared-none named declared (suc count) place none below past =
-    let both = place-both (firstUndeclared named declared count) (cond (ltb count declared) 0 (getD named count 0)) none in
-    same-or-not place count
-    (λ same.
-    let late : declared ≤ count = omega arith in
-    ap (λ (n : ℕ). getD named n 0) same ∙ (rw (le-ltb count declared late) at (both .1)))
-    (λ differ. undeclared-none named declared count place (both .0) (omega arith) past)
+    go : (kept : ℕ) → getD named domain 0 ≡ kept
+        → _≡_ {A = List ℕ} (elim kept [
+          | zero ↦ mentionsFrom named left (domain + 1)
+          | suc offset ↦ offset ∷ mentionsFrom named left (domain + 1)
+        ]) []
+        → (mentionsFrom named left (domain + 1) ≡ [] → domain + 1 ≤ index → index < domain + 1 + left → getD named index 0 ≡ 0)
+        → getD named index 0 ≡ 0
+    go zero is none again =
+        same-or-not index domain (λ same. ap (λ (n : ℕ). getD named n 0) same ∙ is) (λ differ. again none (omega arith) (omega arith))
+    go (suc offset) is none again = let z : _≡_ {A = ℕ} 0 1 = cc in absurd (omega arith)
 
 -- ---- the first domain without a colour
 
@@ -103,50 +135,26 @@ coloured-each plan (suc left) domain other all from below none =
         (λ same. eqb-false _ _ e (ap (coloursAt plan) (sym same) ∙ none))
         (λ differ. again (omega arith) (omega arith) (omega arith) none)
 
--- ---- the masks of an accepted plan
-
--- the plan with the masks that were worked out
-pub masked : (plan : Plan) (masks : List ℕ) → masks ≡ masksFrom plan 8 0
-    → record {
-      pad = plan .pad;
-      run = plan .run;
-      domains = plan .domains;
-      windows = plan .windows;
-      shares = plan .shares;
-      rights = plan .rights;
-      owners = plan .owners;
-      lengths = plan .lengths;
-      masks = masks;
-    }
-    ≡ planWithMasks plan
-unfolding planWithMasks
-masked plan masks given = rw given
-
 -- ---- what a draft that passes is known to satisfy
 
 pub record Passes (draft : Draft) : Type 0 where
   pub nothing-lacking : lacking (draft .plan) ≡ false
-  pub all-declared : firstUndeclared (draft .named) (draft .plan .domains) 8 ≡ 0
-  pub shares : sharesTotal (draft .plan) (draft .plan .domains) ≤ 1_000
+  pub all-declared : undeclaredMentions (draft .named) (draft .plan .domains) ≡ []
+  pub shares : sharesTotal (draft .plan) (draft .plan .domains) ≤ mostShares
   pub coloured : draft .plan .domains ≤ firstColourless (draft .plan) (draft .plan .domains) 0
-  pub ticks : ticksTotal (draft .plan) ≤ 4_294_967_295
-
-goes-on : (test : Bool) (why : Refusal) (rest : Verdict) → cond test (Refused why) rest ≡ Accepted → (test ≡ false) × (rest ≡ Accepted)
-goes-on true why rest e = let z : _≡_ {A = ℕ} 0 1 = cc in absurd (omega arith)
-goes-on false why rest e = (refl, e)
+  pub ticks : ticksTotal (draft .plan) ≤ mostRunTicks
 
 pub passes : (textLength : ℕ) (draft : Draft) → finalVerdict textLength draft ≡ Accepted → Passes draft
 unfolding finalVerdict
 passes textLength draft accepted =
-    let first = goes-on _ _ _ accepted in
-    let second = goes-on _ _ _ (first .1) in
-    let third = goes-on _ _ _ (second .1) in
-    let fourth = goes-on _ _ _ (third .1) in
-    let fifth = goes-on _ _ _ (fourth .1) in
-    let undeclared : firstUndeclared (draft .named) (draft .plan .domains) 8 ≤ 0 = ltb-false 0 _ (second .0) in
+    let first = when-passed _ _ _ accepted in
+    let second = both-passed _ _ (first .1) in
+    let third = when-passed _ _ _ (second .1) in
+    let fourth = when-passed _ _ _ (third .1) in
+    let fifth = when-passed _ _ _ (fourth .1) in
     record {
       nothing-lacking = first .0;
-      all-declared = omega arith;
+      all-declared = may-none _ (second .0);
       shares = ltb-false _ _ (third .0);
       coloured = ltb-false _ _ (fourth .0);
       ticks = ltb-false _ _ (fifth .0);

@@ -14,33 +14,99 @@ use Rattle.forms.specs.declared.DomainLine.{DomainLine}
 use Rattle.forms.specs.declared.OpLine.{OpLine}
 use Rattle.line.proofs.GoodLine.{GoodLine, line-good}
 use Rattle.line.specs.declared.Line.{Line}
+use Rattle.refusal.proofs.Passed.{not-refused}
 use Rattle.refusal.specs.declared.Refusal.{Refusal}
 use Rattle.refusal.specs.declared.Verdict.{Verdict}
 use Rattle.refusal.specs.declared.Verdict.the-variants.{Accepted, Refused}
-use Rattle.reader.proofs.GoodDraft.{GoodDraft, GoodOutcome, line-taken}
+use Rattle.plan.specs.Limits.{mostDomains}
+use Rattle.script.specs.Limits.{scriptsLength}
+use Rattle.reader.proofs.GoodDraft.{GoodDraft, GoodOutcome, draft-first, line-taken}
 use Rattle.reader.specs.declared.Draft.{Draft}
-use Rattle.reader.specs.Draft.{DraftOutcome, kept, outcomeWith, refused, takeForm, takeLine}
-use Rattle.reader.specs.Read.{draftLine, walkFrom}
+use Rattle.reader.specs.declared.DraftResult.{DraftResult}
+use Rattle.reader.specs.Draft.{DraftOutcome, noDraft, noOps, outcomeOf, takeForm, takeLine, taken}
+use Rattle.reader.specs.Read.{draftLine, linesOf, walkFrom}
 
 -- ---- a line that is taken up
 
 pub next-good : (text : List ℕ) (at : ℕ) (draft : Draft) → GoodDraft draft → at < length text
     → GoodLine text (draft .plan .domains) (draft .named) at (draftLine text at draft)
-next-good text at draft so-far below = line-good text (draft .plan .domains) (draft .named) at (so-far .domains .named-places) (omega arith)
+next-good text at draft so-far below =
+    line-good text (draft .plan .domains) (draft .named) at (so-far .domains .named-size) (omega arith)
 
 -- it reaches at least as far as it began
-kept-reaches : (form : Form) (declared bracket at end : ℕ) (named marked : List ℕ) (draft next : Draft) (store filled : List ℕ)
-    → GoodForm declared named marked at end form → takeForm form bracket marked draft store ≡ kept next filled → at ≤ end
-kept-reaches Blank declared bracket at end named marked draft next store filled h e = h
-kept-reaches (Pad ticks) declared bracket at end named marked draft next store filled h e = h .2
-kept-reaches (Run times) declared bracket at end named marked draft next store filled h e = h .2
-kept-reaches (Domain line) declared bracket at end named marked draft next store filled h e = h .4
-kept-reaches (Window line) declared bracket at end named marked draft next store filled h e = h .3
-kept-reaches (Script line) declared bracket at end named marked draft next store filled h e = h .1
-kept-reaches (RefusedForm refusal) declared bracket at end named marked draft next store filled h e =
-    let z : _≡_ {A = ℕ} 0 1 = cc in absurd (omega arith)
+taken-reaches : (form : Form) (declared bracket at end : ℕ) (named marked : List ℕ) (draft : Draft) (store : List ℕ)
+    → GoodForm declared named marked at end form → takeForm form bracket marked draft store .verdict ≡ Accepted → at ≤ end
+taken-reaches Blank declared bracket at end named marked draft store h e = h
+taken-reaches (Pad ticks) declared bracket at end named marked draft store h e = h .2
+taken-reaches (Run times) declared bracket at end named marked draft store h e = h .2
+taken-reaches (Domain line) declared bracket at end named marked draft store h e = h .4
+taken-reaches (Window line) declared bracket at end named marked draft store h e = h .3
+taken-reaches (Script line) declared bracket at end named marked draft store h e = h .1
+taken-reaches (RefusedForm refusal) declared bracket at end named marked draft store h e = absurd (not-refused refusal e)
 
 -- ---- the walk
+
+-- after a line: the walk goes on behind it, or ends with its refusal
+abbrev pub afterLine : List ℕ → ℕ → Line → DraftOutcome → DraftOutcome
+afterLine text lines line outcome =
+    elim (outcome .verdict) as (λ _. DraftOutcome) [
+      | Accepted ↦ walkFrom lines text (line .end + 1) (outcome .draft) (outcome .store)
+      | Refused refusal ↦ outcome
+    ]
+
+pub walk-line : (lines : ℕ) (text : List ℕ) (at : ℕ) (draft : Draft) (store : List ℕ) (line : Line) (outcome : DraftOutcome)
+    → at < length text → line ≡ draftLine text at draft → outcome ≡ takeLine line draft store
+    → walkFrom (suc lines) text at draft store ≡ afterLine text lines line outcome
+unfolding walkFrom
+walk-line lines text at draft store line outcome below is came =
+    rw (walkFrom, lt-ltb at (length text) below)
+    (ap (λ (l : Line). afterLine text lines l (takeLine l draft store)) (sym is) ∙ ap (afterLine text lines line) (sym came))
+
+module _ (text : List ℕ) (lines : ℕ) (line : Line) (draft : Draft) (store : List ℕ) where
+  pub after-accepted : (verdict : Verdict) → verdict ≡ Accepted
+      → walkFrom lines text (line .end + 1) draft store
+      ≡ afterLine text lines line (record { verdict = verdict; draft = draft; store = store })
+  after-accepted Accepted known = refl
+  after-accepted (Refused why) known = absurd (not-refused why known)
+
+  after-refused : (verdict : Verdict) (why : Refusal) → verdict ≡ Refused why
+      → record { verdict = verdict; draft = draft; store = store }
+      ≡ afterLine text lines line (record { verdict = verdict; draft = draft; store = store })
+  after-refused Accepted why known = absurd (not-refused why (sym known))
+  after-refused (Refused other) why known = refl
+
+-- what the whole walk comes to is good
+walk-good : (lines : ℕ) (text : List ℕ) (at : ℕ) (draft : Draft) (store : List ℕ) → GoodDraft draft
+    → GoodOutcome (length store) (walkFrom lines text at draft store)
+unfolding walkFrom
+walk-good zero text at draft store good = (good, refl)
+walk-good (suc lines) text at draft store good =
+    by-end (ltb at (length text)) refl (walk-good lines text (draftLine text at draft .end + 1))
+  where
+    Again : Type 0
+    Again = (next : Draft) (filled : List ℕ) → GoodDraft next
+        → GoodOutcome (length filled) (walkFrom lines text (draftLine text at draft .end + 1) next filled)
+
+    by-line : (verdict : Verdict) (next : Draft) (filled : List ℕ) → GoodDraft next × (length filled ≡ length store) → Again
+        → GoodOutcome (length store)
+        (afterLine text lines (draftLine text at draft) (record { verdict = verdict; draft = next; store = filled }))
+    by-line Accepted next filled here again = rw (← (here .1)) (again next filled (here .0))
+    by-line (Refused refusal) next filled here again = here
+
+    by-end : (test : Bool) → ltb at (length text) ≡ test → Again
+        → GoodOutcome (length store)
+        (elim test as (λ _. DraftOutcome) [
+          | true ↦ afterLine text lines (draftLine text at draft) (takeLine (draftLine text at draft) draft store)
+          | false ↦ outcomeOf (taken draft) store
+        ])
+    by-end true e again =
+        let here = line-taken draft store good text at (draftLine text at draft) (next-good text at draft good (ltb-true _ _ e)) in
+        by-line (takeLine (draftLine text at draft) draft store .verdict) _ _ here again
+    by-end false e again = (good, refl)
+
+pub lines-good : (text : List ℕ) → GoodOutcome scriptsLength (linesOf text)
+unfolding noOps
+lines-good text = walk-good (length text) text 0 noDraft noOps draft-first
 
 -- what is left of the lines gives the whole, and enough turns are left to end it
 pub record LinesLeft (text : List ℕ) (at : ℕ) (draft : Draft) (store : List ℕ) (whole : DraftOutcome) : Type 0 where
@@ -49,121 +115,69 @@ pub record LinesLeft (text : List ℕ) (at : ℕ) (draft : Draft) (store : List 
   pub same : walkFrom lines text at draft store ≡ whole
   pub good : GoodDraft draft
 
-pub lines-first : (text : List ℕ) (draft : Draft) (store : List ℕ) → GoodDraft draft → LinesLeft text 0 draft store (walkFrom (length text) text 0 draft store)
+pub lines-first : (text : List ℕ) (draft : Draft) (store : List ℕ) → GoodDraft draft
+    → LinesLeft text 0 draft store (walkFrom (length text) text 0 draft store)
 lines-first text draft store good = record { lines = length text; enough = omega arith; same = refl; good = good }
 
 module _ (text : List ℕ) (at : ℕ) (draft : Draft) (store : List ℕ) (whole : DraftOutcome) (left : LinesLeft text at draft store whole) where
-  pub lines-end : length text ≤ at → kept draft store ≡ whole
+  pub lines-end : length text ≤ at → outcomeOf (taken draft) store ≡ whole
   unfolding walkFrom
   lines-end past = go (left .lines) (left .same)
     where
-      go : (lines : ℕ) → walkFrom lines text at draft store ≡ whole → kept draft store ≡ whole
+      go : (lines : ℕ) → walkFrom lines text at draft store ≡ whole → outcomeOf (taken draft) store ≡ whole
       go zero same = same
       go (suc lines) same = rw (walkFrom, le-ltb at (length text) past) at same
 
-  pub lines-refused : (why : Refusal) → at < length text → takeLine (draftLine text at draft) draft store ≡ refused why → refused why ≡ whole
-  unfolding walkFrom
-  lines-refused why below taken = go (left .lines) (left .enough) (left .same)
-    where
-      go : (lines : ℕ) → length text ≤ at + lines → walkFrom lines text at draft store ≡ whole → refused why ≡ whole
-      go zero enough same = absurd (omega arith)
-      go (suc lines) enough same = rw (walkFrom, lt-ltb at (length text) below, taken) at same
+  -- ---- a turn, by what its line is known to be
 
-  -- in a turn
-  module _ (below : at < length text) where
-    fine : GoodLine text (draft .plan .domains) (draft .named) at (draftLine text at draft)
-    fine = next-good text at draft (left .good) below
+  module _ (below : at < length text) (line : Line) (is : line ≡ draftLine text at draft) where
+    good-line : GoodLine text (draft .plan .domains) (draft .named) at line
+    good-line = rw is (next-good text at draft (left .good) below)
 
-    pub lines-reach : (next : Draft) (filled : List ℕ) → takeLine (draftLine text at draft) draft store ≡ kept next filled → at ≤ draftLine text at draft .end
-    unfolding takeLine
-    lines-reach next filled taken =
-        let line = draftLine text at draft in
-        kept-reaches (line .form) _ (line .bracket) at (line .end) (draft .named) (line .named) draft next store filled (fine .form) taken
+    pub turn-within : line .end ≤ length text
+    turn-within = good-line .within
 
-    pub lines-next : (next : Draft) (filled : List ℕ) → takeLine (draftLine text at draft) draft store ≡ kept next filled
-        → LinesLeft text (draftLine text at draft .end + 1) next filled whole
-    unfolding walkFrom
-    lines-next next filled taken = go (left .lines) (left .enough) (left .same)
-      where
-        line : Line
-        line = draftLine text at draft
+    pub turn-domain : (domain : DomainLine) → line .form ≡ Domain domain → draft .plan .domains < mostDomains
+    turn-domain domain known =
+        let form = subst (GoodForm (draft .plan .domains) (draft .named) (line .named) at (line .end)) known (good-line .form) in
+        omega (arith, form .0)
 
-        after : GoodDraft next
-        after = subst (GoodOutcome (length store)) taken (line-taken draft store (left .good) text at line fine) .0
+    pub turn-op : (op : OpLine) → line .form ≡ Script op → op .domain < mostDomains
+    turn-op op known =
+        let form = subst (GoodForm (draft .plan .domains) (draft .named) (line .named) at (line .end)) known (good-line .form) in
+        omega (arith, form .0, left .good .domains .most)
 
-        go : (lines : ℕ) → length text ≤ at + lines → walkFrom lines text at draft store ≡ whole → LinesLeft text (line .end + 1) next filled whole
-        go zero enough same = absurd (omega arith)
-        go (suc lines) enough same =
-            record {
-              lines = lines;
-              enough = omega (arith, lines-reach next filled taken);
-              same = rw (walkFrom, lt-ltb at (length text) below, taken) at same;
-              good = after;
-            }
+    -- ---- and by what it came to
 
--- what the whole walk keeps is good
-pub walk-good : (lines : ℕ) (text : List ℕ) (at : ℕ) (draft : Draft) (store : List ℕ) → GoodDraft draft → GoodOutcome (length store) (walkFrom lines text at draft store)
-unfolding walkFrom
-walk-good zero text at draft store good = (good, refl)
-walk-good (suc lines) text at draft store good =
-    by-end (ltb at (length text)) refl (walk-good lines text (draftLine text at draft .end + 1))
-  where
-    Again : Type 0
-    Again = (next : Draft) (filled : List ℕ) → GoodDraft next → GoodOutcome (length filled) (walkFrom lines text (draftLine text at draft .end + 1) next filled)
+    module _ (result : DraftResult) (filled : List ℕ) (came : outcomeOf result filled ≡ takeLine line draft store) where
+      turned : (lines : ℕ) → walkFrom (suc lines) text at draft store ≡ afterLine text lines line (outcomeOf result filled)
+      turned lines = walk-line lines text at draft store line (outcomeOf result filled) below is came
 
-    by-line : (taken : DraftOutcome) → GoodOutcome (length store) taken → Again
-        → GoodOutcome (length store)
-        (elim taken [ refused refusal ↦ refused refusal | kept next filled ↦ walkFrom lines text (draftLine text at draft .end + 1) next filled ])
-    by-line (refused refusal) h again = tt
-    by-line (kept next filled) h again = rw (← h .1) (again next filled (h .0))
+      enough-left : (lines : ℕ) → length text ≤ at + lines → walkFrom lines text at draft store ≡ whole
+          → (fewer : ℕ) × (lines ≡ suc fewer) × (walkFrom (suc fewer) text at draft store ≡ whole)
+      enough-left zero enough same = absurd (omega arith)
+      enough-left (suc lines) enough same = (lines, refl, same)
 
-    by-end : (test : Bool) → ltb at (length text) ≡ test → Again
-        → GoodOutcome (length store)
-        (elim test [
-          | true ↦
-              elim (takeLine (draftLine text at draft) draft store) [
-                | refused refusal ↦ refused refusal
-                | kept next filled ↦ walkFrom lines text (draftLine text at draft .end + 1) next filled
-              ]
-          | false ↦ kept draft store
-        ])
-    by-end true e again =
-        by-line (takeLine (draftLine text at draft) draft store)
-        (line-taken draft store good text at (draftLine text at draft) (next-good text at draft good (ltb-true _ _ e))) again
-    by-end false e again = (good, refl)
+      pub turn-refused : (why : Refusal) → result .verdict ≡ Refused why → outcomeOf result filled ≡ whole
+      turn-refused why known =
+          let more = enough-left (left .lines) (left .enough) (left .same) in
+          after-refused text (more .0) line (result .draft) filled (result .verdict) why known ∙ sym (turned (more .0)) ∙ more .2
 
--- ---- a turn, by what its line and its verdict are known to be
+      pub turn-reach : result .verdict ≡ Accepted → at ≤ line .end
+      unfolding takeLine
+      turn-reach known =
+          taken-reaches (line .form) _ (line .bracket) at (line .end) (draft .named) (line .named) draft store (good-line .form)
+          (ap (λ (outcome : DraftOutcome). outcome .verdict) (sym came) ∙ known)
 
-module _ (text : List ℕ) (at : ℕ) (draft : Draft) (store : List ℕ) (whole : DraftOutcome) (left : LinesLeft text at draft store whole)
-    (below : at < length text) (line : Line) (is : line ≡ draftLine text at draft) where
-  good-line : GoodLine text (draft .plan .domains) (draft .named) at line
-  good-line = rw is (next-good text at draft (left .good) below)
-
-  pub turn-within : line .end ≤ length text
-  turn-within = good-line .within
-
-  pub turn-domain : (domain : DomainLine) → line .form ≡ Domain domain → draft .plan .domains < 8
-  turn-domain domain known =
-      let form = subst (GoodForm (draft .plan .domains) (draft .named) (line .named) at (line .end)) known (good-line .form) in
-      omega (arith, form .0)
-
-  pub turn-op : (op : OpLine) → line .form ≡ Script op → op .domain < 8
-  turn-op op known =
-      let form = subst (GoodForm (draft .plan .domains) (draft .named) (line .named) at (line .end)) known (good-line .form) in
-      omega (arith, form .0, left .good .domains .most)
-
-  module _ (verdict : Verdict) (next : Draft) (filled : List ℕ) (taken : outcomeWith verdict next filled ≡ takeLine line draft store) where
-    pub turn-refused : (why : Refusal) → verdict ≡ Refused why → outcomeWith verdict next filled ≡ whole
-    turn-refused why known =
-        let shown : outcomeWith verdict next filled ≡ refused why = ap (λ (v : Verdict). outcomeWith v next filled) known in
-        let here : takeLine (draftLine text at draft) draft store ≡ refused why = ap (λ (l : Line). takeLine l draft store) (sym is) ∙ sym taken ∙ shown in
-        shown ∙ lines-refused text at draft store whole left why below here
-
-    accepted : verdict ≡ Accepted → takeLine (draftLine text at draft) draft store ≡ kept next filled
-    accepted known = ap (λ (l : Line). takeLine l draft store) (sym is) ∙ sym taken ∙ ap (λ (v : Verdict). outcomeWith v next filled) known
-
-    pub turn-reach : verdict ≡ Accepted → at ≤ line .end
-    turn-reach known = rw is (lines-reach text at draft store whole left below next filled (accepted known))
-
-    pub turn-next : verdict ≡ Accepted → LinesLeft text (line .end + 1) next filled whole
-    turn-next known = rw is (lines-next text at draft store whole left below next filled (accepted known))
+      pub turn-next : result .verdict ≡ Accepted → LinesLeft text (line .end + 1) (result .draft) filled whole
+      turn-next known =
+          let more = enough-left (left .lines) (left .enough) (left .same) in
+          record {
+            lines = more .0;
+            enough = omega (arith, turn-reach known, left .enough, more .1);
+            same =
+                after-accepted text (more .0) line (result .draft) filled (result .verdict) known
+                ∙ sym (turned (more .0))
+                ∙ more .2;
+            good = subst (GoodOutcome (length store)) (sym came) (line-taken draft store (left .good) text at line good-line) .0;
+          }

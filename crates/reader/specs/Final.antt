@@ -1,14 +1,18 @@
--- Document 01, "The plan text": the checks of a whole text, once no line of it was refused, in their order. Assumes nothing.
+-- Document 01, "The plan text": the checks of a whole text, once no line of it was refused, in their order.
+-- Assumes nothing.
 use Prim.Native.Nat.{ℕ, zero, suc, _+_, _-_}
 use mathlib.Core.Bool.{Bool, true, false, cond, _||_}
-use mathlib.Core.List.{List}
+use mathlib.Core.List.{List, [], _∷_}
 use lib.Dec.{eqb, leb, ltb}
 use lib.ListN.{getD}
 use Rattle.plan.specs.declared.Plan.{Plan}
 use Rattle.plan.specs.Colours.{coloursAt, masksFrom, sharesTotal}
 use Rattle.plan.specs.Limits.{mostDomains, mostRunTicks, mostShares}
+use Rattle.plan.specs.Parts.{withMasks}
 use Rattle.plan.specs.Windows.{ticksTotal}
-use Rattle.refusal.specs.declared.Refusal.the-variants.{NoColour, RepeatedOrMissing, RunTooLong, SharesOverThousand, WrongDomain}
+use Rattle.refusal.specs.Checks.{andThen, when}
+use Rattle.refusal.specs.declared.Refusal.the-variants.{NoColour, RepeatedOrMissing, RunTooLong}
+use Rattle.refusal.specs.declared.Refusal.the-variants.{SharesOverThousand, WrongDomain}
 use Rattle.refusal.specs.declared.Verdict.{Verdict}
 use Rattle.refusal.specs.declared.Verdict.the-variants.{Accepted, Refused}
 use Rattle.reader.specs.declared.Draft.{Draft}
@@ -17,45 +21,56 @@ use Rattle.reader.specs.declared.Draft.{Draft}
 unfoldable pub lacking : Plan → Bool
 lacking plan = eqb (plan .pad) 0 || eqb (plan .domains) 0 || eqb (plan .windows) 0 || eqb (plan .run) 0
 
--- the lesser of two places, each an offset plus one, or 0 for none
-abbrev pub firstOffset : ℕ → ℕ → ℕ
-firstOffset a b = cond (eqb a 0) b (cond (eqb b 0) a (cond (leb a b) a b))
+-- the offsets at which the text first names, as recipients, the domains from `domain` on, `left` in number.
+-- A draft keeps each of them plus one, and 0 for a domain that no list names.
+unfoldable pub mentionsFrom : List ℕ → ℕ → ℕ → List ℕ
+mentionsFrom named zero domain = []
+mentionsFrom named (suc left) domain =
+    elim (getD named domain 0) [
+      | zero ↦ mentionsFrom named left (domain + 1)
+      | suc offset ↦ offset ∷ mentionsFrom named left (domain + 1)
+    ]
 
--- 4: where the text first names, as a recipient, one of the first `count` domains that is not declared; an offset plus one, or 0 for none
-unfoldable pub firstUndeclared : List ℕ → ℕ → ℕ → ℕ
-firstUndeclared named declared zero = 0
-firstUndeclared named declared (suc count) =
-    firstOffset (firstUndeclared named declared count) (cond (ltb count declared) 0 (getD named count 0))
+-- those of the domains that are not declared
+abbrev pub undeclaredMentions : List ℕ → ℕ → List ℕ
+undeclaredMentions named declared = mentionsFrom named (mostDomains - declared) declared
 
--- 6: the lowest of the domains from `domain` on, `left` in number, whose share gives no colour; past the last where each gives one
+-- the least of some offsets: the first in the text
+unfoldable pub firstOf : ℕ → List ℕ → ℕ
+firstOf offset [] = offset
+firstOf offset (other ∷ more) = firstOf (cond (leb offset other) offset other) more
+
+-- 4: an undeclared recipient, the first in the text
+abbrev pub mayVerdict : List ℕ → Verdict
+mayVerdict [] = Accepted
+mayVerdict (offset ∷ more) = Refused (WrongDomain (firstOf offset more))
+
+-- the earlier of two offsets as a draft keeps them, plus one or 0 for none
+abbrev pub earlierKept : ℕ → ℕ → ℕ
+earlierKept a b = cond (eqb a 0) b (cond (eqb b 0) a (cond (leb a b) a b))
+
+-- 6: the lowest of the domains from `domain` on, `left` in number, whose share gives no colour; past the
+-- last where each gives one
 unfoldable pub firstColourless : Plan → ℕ → ℕ → ℕ
 firstColourless plan zero domain = domain
 firstColourless plan (suc left) domain =
-    elim (eqb (coloursAt plan domain) 0) [ true ↦ domain | false ↦ firstColourless plan left (domain + 1) ]
+    elim (eqb (coloursAt plan domain) 0) [
+      | true ↦ domain
+      | false ↦ firstColourless plan left (domain + 1)
+    ]
 
--- the checks after the last line, in their order
+-- the checks after the last line, in their order: 5, 4, 7, 6, 9
 unfoldable pub finalVerdict : ℕ → Draft → Verdict
 finalVerdict textLength draft =
     let plan = draft .plan in
-    let undeclared = firstUndeclared (draft .named) (plan .domains) mostDomains in
+    let total = sharesTotal plan (plan .domains) in
     let colourless = firstColourless plan (plan .domains) 0 in
-    cond (lacking plan) (Refused (RepeatedOrMissing textLength))
-    (cond (ltb 0 undeclared) (Refused (WrongDomain (undeclared - 1)))
-    (cond (ltb mostShares (sharesTotal plan (plan .domains))) (Refused (SharesOverThousand (sharesTotal plan (plan .domains))))
-    (cond (ltb colourless (plan .domains)) (Refused (NoColour colourless))
-    (cond (ltb mostRunTicks (ticksTotal plan)) (Refused RunTooLong) Accepted))))
+    when (lacking plan) (RepeatedOrMissing textLength)
+    (andThen (mayVerdict (undeclaredMentions (draft .named) (plan .domains)))
+    (when (ltb mostShares total) (SharesOverThousand total)
+    (when (ltb colourless (plan .domains)) (NoColour colourless)
+    (when (ltb mostRunTicks (ticksTotal plan)) RunTooLong Accepted))))
 
 -- an accepted plan keeps its colour masks
 unfoldable pub planWithMasks : Plan → Plan
-planWithMasks plan =
-    record {
-      pad = plan .pad;
-      run = plan .run;
-      domains = plan .domains;
-      windows = plan .windows;
-      shares = plan .shares;
-      rights = plan .rights;
-      owners = plan .owners;
-      lengths = plan .lengths;
-      masks = masksFrom plan mostDomains 0;
-    }
+planWithMasks plan = withMasks plan (masksFrom plan mostDomains 0)

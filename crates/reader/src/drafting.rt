@@ -7,18 +7,21 @@ use forms::OpLine;
 use forms::WindowLine;
 use line::Line;
 use plan::Plan;
+use plan::limits::DOMAIN_ENTRIES;
 use plan::limits::MOST_WINDOWS;
 use plan::no_plan;
 use refusal::Refusal;
 use refusal::Verdict;
 use script::limits::MOST_OPS;
+use script::limits::SCRIPTS_LENGTH;
 use script::stored;
-ghost use mathlib.Core.List.{List};
 ghost use mathlib.Core.Path.{_≡_};
-ghost use Prim.Native.Nat.{ℕ, _<_};
+ghost use Prim.Native.Nat.{_<_};
 ghost use Rattle.forms.specs.declared.Form.the-variants.{Domain, Op};
-ghost use Rattle.reader.specs.Draft.{noDraft, outcomeWith, planWithDomain, planWithPad, planWithRun, planWithWindow};
-ghost use Rattle.reader.specs.Draft.{takeDomain, takeLine, takeOp, takePad, takeRun, takeWindow, withPlan};
+ghost use Rattle.plan.specs.Limits.{mostDomains, mostWindows};
+ghost use Rattle.plan.specs.Parts.{withDomain, withPad, withRun, withWindow};
+ghost use Rattle.reader.specs.Draft.{noDraft, outcomeOf, takeDomain, takeLine, takeOp};
+ghost use Rattle.reader.specs.Draft.{takePad, takeRun, takeWindow, withPlan};
 
 // Before the first line nothing is declared, named or stored.
 pub fn no_draft() -> Draft
@@ -27,8 +30,8 @@ pub fn no_draft() -> Draft
     let plan = no_plan();
     Draft {
         plan,
-        counts: [0; 8],
-        named: [0; 8],
+        counts: [0; DOMAIN_ENTRIES],
+        named: [0; DOMAIN_ENTRIES],
     }
 }
 
@@ -47,7 +50,7 @@ fn with_plan(draft: Draft, plan: Plan) -> Draft
 
 // A plan with a pad.
 fn plan_with_pad(mut plan: Plan, ticks: u32) -> Plan
-    ensures { λ r. ⌜ r ≡ planWithPad plan ticks ⌝ }
+    ensures { λ r. ⌜ r ≡ withPad plan ticks ⌝ }
 {
     plan.pad = ticks;
     plan
@@ -55,39 +58,39 @@ fn plan_with_pad(mut plan: Plan, ticks: u32) -> Plan
 
 // A plan with a run.
 fn plan_with_run(mut plan: Plan, times: u32) -> Plan
-    ensures { λ r. ⌜ r ≡ planWithRun plan times ⌝ }
+    ensures { λ r. ⌜ r ≡ withRun plan times ⌝ }
 {
     plan.run = times;
     plan
 }
 
-// A plan with one domain more, at the next place.
+// A plan with one domain more, at the next index.
 fn plan_with_domain(mut plan: Plan, line: DomainLine) -> Plan
-    requires { ⌜ plan .domains < 8 ⌝ }
-    ensures { λ r. ⌜ r ≡ planWithDomain plan line ⌝ }
+    requires { ⌜ plan .domains < mostDomains ⌝ }
+    ensures { λ r. ⌜ r ≡ withDomain plan (line .share) (line .rights) ⌝ }
 {
-    let place = plan.domains as usize;
-    plan.shares[place] = line.share;
-    plan.rights[place] = line.rights;
+    let next = plan.domains as usize;
+    plan.shares[next] = line.share;
+    plan.rights[next] = line.rights;
     plan.domains += 1;
     plan
 }
 
-// A plan with one window more, at the next place.
+// A plan with one window more, at the next index.
 fn plan_with_window(mut plan: Plan, line: WindowLine) -> Plan
-    requires { ⌜ plan .windows < 32 ⌝ }
-    ensures { λ r. ⌜ r ≡ planWithWindow plan line ⌝ }
+    requires { ⌜ plan .windows < mostWindows ⌝ }
+    ensures { λ r. ⌜ r ≡ withWindow plan (line .owner) (line .length) ⌝ }
 {
-    let place = plan.windows as usize;
-    plan.owners[place] = line.owner;
-    plan.lengths[place] = line.length;
+    let next = plan.windows as usize;
+    plan.owners[next] = line.owner;
+    plan.lengths[next] = line.length;
     plan.windows += 1;
     plan
 }
 
 // A second pad is refused.
 fn take_pad(ticks: u32, bracket: usize, draft: Draft) -> DraftResult
-    ensures { λ r. ⌜ ((store : List ℕ) → outcomeWith (r .verdict) (r .draft) store ≡ takePad ticks bracket draft store) ⌝ }
+    ensures { λ r. ⌜ r ≡ takePad ticks bracket draft ⌝ }
 {
     let plan = draft.plan;
     if plan.pad != 0 {
@@ -105,7 +108,7 @@ fn take_pad(ticks: u32, bracket: usize, draft: Draft) -> DraftResult
 
 // A second run is refused.
 fn take_run(times: u32, bracket: usize, draft: Draft) -> DraftResult
-    ensures { λ r. ⌜ ((store : List ℕ) → outcomeWith (r .verdict) (r .draft) store ≡ takeRun times bracket draft store) ⌝ }
+    ensures { λ r. ⌜ r ≡ takeRun times bracket draft ⌝ }
 {
     let plan = draft.plan;
     if plan.run != 0 {
@@ -122,9 +125,9 @@ fn take_run(times: u32, bracket: usize, draft: Draft) -> DraftResult
 }
 
 // A domain line always fits: its number was the next one.
-fn take_domain(line: DomainLine, named: [usize; 8], draft: Draft) -> DraftResult
-    requires { ⌜ draft .plan .domains < 8 ⌝ }
-    ensures { λ r. ⌜ ((store : List ℕ) → outcomeWith (r .verdict) (r .draft) store ≡ takeDomain line named draft store) ⌝ }
+fn take_domain(line: DomainLine, named: [usize; DOMAIN_ENTRIES], draft: Draft) -> DraftResult
+    requires { ⌜ draft .plan .domains < mostDomains ⌝ }
+    ensures { λ r. ⌜ r ≡ takeDomain line named draft ⌝ }
 {
     let plan = plan_with_domain(draft.plan, line);
     let counts = draft.counts;
@@ -140,7 +143,7 @@ fn take_domain(line: DomainLine, named: [usize; 8], draft: Draft) -> DraftResult
 
 // The 33rd window is refused.
 fn take_window(line: WindowLine, bracket: usize, draft: Draft) -> DraftResult
-    ensures { λ r. ⌜ ((store : List ℕ) → outcomeWith (r .verdict) (r .draft) store ≡ takeWindow line bracket draft store) ⌝ }
+    ensures { λ r. ⌜ r ≡ takeWindow line bracket draft ⌝ }
 {
     let plan = draft.plan;
     if MOST_WINDOWS <= plan.windows {
@@ -157,22 +160,27 @@ fn take_window(line: WindowLine, bracket: usize, draft: Draft) -> DraftResult
 }
 
 // A domain's 257th op is refused.
-fn take_op(line: OpLine, bracket: usize, draft: Draft, store: &mut [u32; 2048]) -> DraftResult
-    requires { ⌜ line .domain < 8 ⌝ }
-    ensures { λ r. ⌜ outcomeWith (r .verdict) (r .draft) (now (store .exit)) ≡ takeOp line bracket draft (now (store .entry)) ⌝ }
+fn take_op(
+    line: OpLine,
+    bracket: usize,
+    draft: Draft,
+    store: &mut [u32; SCRIPTS_LENGTH],
+) -> DraftResult
+    requires { ⌜ line .domain < mostDomains ⌝ }
+    ensures { λ r. ⌜ outcomeOf r (now (store .exit)) ≡ takeOp line bracket draft (now (store .entry)) ⌝ }
 {
     let domain = line.domain as usize;
     let op = line.op;
     let mut counts = draft.counts;
-    let place = counts[domain];
-    if MOST_OPS <= place {
+    let index = counts[domain];
+    if MOST_OPS <= index {
         return DraftResult {
             verdict: Verdict::Refused(Refusal::TooMany(bracket)),
             draft,
         };
     }
-    store[MOST_OPS * domain + place] = stored(op);
-    counts[domain] = place + 1;
+    store[MOST_OPS * domain + index] = stored(op);
+    counts[domain] = index + 1;
     let plan = draft.plan;
     let named = draft.named;
     DraftResult {
@@ -185,11 +193,11 @@ fn take_op(line: OpLine, bracket: usize, draft: Draft, store: &mut [u32; 2048]) 
     }
 }
 
-// A line is taken up: its form says what it adds. Beside a refusal the contract leaves draft and store free, and nobody reads them there.
-pub fn take_line(line: Line, draft: Draft, store: &mut [u32; 2048]) -> DraftResult
-    requires { ⌜ ((domain : DomainLine) → line .form ≡ Domain domain → draft .plan .domains < 8)
-        × ((op : OpLine) → line .form ≡ Op op → op .domain < 8) ⌝ }
-    ensures { λ r. ⌜ outcomeWith (r .verdict) (r .draft) (now (store .exit)) ≡ takeLine line draft (now (store .entry)) ⌝ }
+// A line is taken up: its form says what it adds. On refusal draft and store stay as they were.
+pub fn take_line(line: Line, draft: Draft, store: &mut [u32; SCRIPTS_LENGTH]) -> DraftResult
+    requires { ⌜ ((domain : DomainLine) → line .form ≡ Domain domain → draft .plan .domains < mostDomains)
+        × ((op : OpLine) → line .form ≡ Op op → op .domain < mostDomains) ⌝ }
+    ensures { λ r. ⌜ outcomeOf r (now (store .exit)) ≡ takeLine line draft (now (store .entry)) ⌝ }
 {
     let form = line.form;
     let bracket = line.bracket;

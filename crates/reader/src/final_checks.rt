@@ -1,6 +1,7 @@
 // The checks of a whole text, once no line of it was refused; and the masks of a plan that passes them.
 use crate::Draft;
 use plan::Plan;
+use plan::limits::DOMAIN_ENTRIES;
 use plan::limits::MOST_RUN_TICKS;
 use plan::limits::MOST_SHARES;
 use plan::sharing::colours_of;
@@ -10,10 +11,9 @@ use plan::timing::ticks_total;
 use refusal::Refusal;
 use refusal::Verdict;
 ghost use mathlib.Core.Path.{_≡_};
-ghost use Prim.Native.Nat.{ℕ, _<_, _≤_};
-ghost use lib.ListN.{getD};
-ghost use Rattle.plan.specs.Colours.{firstColour};
-ghost use Rattle.reader.specs.Final.{finalVerdict, firstColourless, firstOffset, firstUndeclared, lacking, planWithMasks};
+ghost use Rattle.plan.specs.Bounds.{ColoursBounded, SharesBounded, TicksBounded};
+ghost use Rattle.reader.specs.Final.{earlierKept, finalVerdict, firstColourless};
+ghost use Rattle.reader.specs.Final.{lacking, mayVerdict, planWithMasks, undeclaredMentions};
 
 // No pad, domain, window or run.
 fn is_lacking(plan: Plan) -> bool
@@ -22,9 +22,9 @@ fn is_lacking(plan: Plan) -> bool
     (plan.pad == 0) | (plan.domains == 0) | (plan.windows == 0) | (plan.run == 0)
 }
 
-// The lesser of two places, each an offset plus one, or 0 for none.
-fn first_offset(a: usize, b: usize) -> usize
-    ensures { λ r. ⌜ r ≡ firstOffset a b ⌝ }
+// The earlier of two offsets, each plus one, or 0 for none.
+fn earlier_kept(a: usize, b: usize) -> usize
+    ensures { λ r. ⌜ r ≡ earlierKept a b ⌝ }
 {
     if a == 0 {
         return b;
@@ -35,24 +35,25 @@ fn first_offset(a: usize, b: usize) -> usize
     if a <= b { a } else { b }
 }
 
-// Where the text first names an undeclared domain as a recipient: an offset plus one, or 0 for none.
-fn first_undeclared(named: [usize; 8], declared: u32) -> usize
-    ensures { λ r. ⌜ r ≡ firstUndeclared named declared 8 ⌝ }
+// Whether some list names a domain that is not declared: where the text does so first.
+fn may_verdict(named: [usize; DOMAIN_ENTRIES], declared: u32) -> Verdict
+    ensures { λ r. ⌜ r ≡ mayVerdict (undeclaredMentions named declared) ⌝ }
 {
     let mut found: usize = 0;
-    let mut domain: usize = 0;
-    while domain < 8 {
-        if declared as usize <= domain {
-            found = first_offset(found, named[domain]);
-        }
+    let mut domain = declared as usize;
+    while domain < DOMAIN_ENTRIES {
+        found = earlier_kept(found, named[domain]);
         domain += 1;
     }
-    found
+    if found == 0 {
+        return Verdict::Accepted;
+    }
+    Verdict::Refused(Refusal::WrongDomain(found - 1))
 }
 
 // The lowest domain whose share gives no colour, or the number of domains.
 fn first_colourless(plan: Plan) -> usize
-    requires { ⌜ (plan .domains ≤ 8) × ((i : ℕ) → i < 8 → getD (plan .shares) i 0 ≤ 1_000) ⌝ }
+    requires { ⌜ SharesBounded plan ⌝ }
     ensures { λ r. ⌜ r ≡ firstColourless plan (plan .domains) 0 ⌝ }
 {
     let shares = plan.shares;
@@ -69,12 +70,7 @@ fn first_colourless(plan: Plan) -> usize
 
 // The checks in their order.
 pub fn final_verdict(length: usize, draft: Draft) -> Verdict
-    requires { ⌜ (draft .plan .domains ≤ 8)
-        × ((i : ℕ) → i < 8 → getD (draft .plan .shares) i 0 ≤ 1_000)
-        × (draft .plan .run ≤ 1_000)
-        × (draft .plan .windows ≤ 32)
-        × (draft .plan .pad ≤ 1_000_000)
-        × ((i : ℕ) → i < 32 → getD (draft .plan .lengths) i 0 ≤ 1_000_000) ⌝ }
+    requires { ⌜ SharesBounded (draft .plan) × TicksBounded (draft .plan) ⌝ }
     ensures { λ r. ⌜ r ≡ finalVerdict length draft ⌝ }
 {
     let plan = draft.plan;
@@ -82,9 +78,9 @@ pub fn final_verdict(length: usize, draft: Draft) -> Verdict
         return Verdict::Refused(Refusal::RepeatedOrMissing(length));
     }
     let named = draft.named;
-    let undeclared = first_undeclared(named, plan.domains);
-    if 0 < undeclared {
-        return Verdict::Refused(Refusal::WrongDomain(undeclared - 1));
+    let recipients = may_verdict(named, plan.domains);
+    if let Verdict::Refused(refusal) = recipients {
+        return Verdict::Refused(refusal);
     }
     let total = shares_total(plan) as usize;
     if (MOST_SHARES as usize) < total {
@@ -102,7 +98,7 @@ pub fn final_verdict(length: usize, draft: Draft) -> Verdict
 
 // An accepted plan keeps its colour masks.
 pub fn plan_with_masks(plan: Plan) -> Plan
-    requires { ⌜ (plan .domains ≤ 8) × ((i : ℕ) → i < 8 → getD (plan .shares) i 0 ≤ 1_000) × (firstColour plan (plan .domains) ≤ 15) ⌝ }
+    requires { ⌜ ColoursBounded plan ⌝ }
     ensures { λ r. ⌜ r ≡ planWithMasks plan ⌝ }
 {
     let masks = masks_of(plan);

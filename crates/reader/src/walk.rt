@@ -4,15 +4,17 @@ use crate::drafting::no_draft;
 use crate::drafting::take_line;
 use line::line_at;
 use refusal::Verdict;
+use script::limits::SCRIPTS_LENGTH;
 ghost use mathlib.Core.Path.{_≡_};
 ghost use lib.ListN.{length};
-ghost use Rattle.reader.specs.Draft.{noDraft, outcomeWith};
+ghost use Rattle.script.specs.Limits.{scriptsLength};
+ghost use Rattle.reader.specs.Draft.{noDraft, outcomeOf};
 ghost use Rattle.reader.specs.Read.{walkFrom};
 
-// Every line is taken up in turn, or the first refusal is handed on; beside it draft and store are left free as at `take_line`: `read_plan` drops
-// both.
-pub fn walk(text: &[u8], store: &mut [u32; 2048]) -> DraftResult
-    ensures { λ r. ⌜ outcomeWith (r .verdict) (r .draft) (now (store .exit))
+// Every line is taken up in turn, or the first refusal is handed on, with draft and store as they were
+// before the refused line.
+pub fn walk(text: &[u8], store: &mut [u32; SCRIPTS_LENGTH]) -> DraftResult
+    ensures { λ r. ⌜ outcomeOf r (now (store .exit))
         ≡ walkFrom (length (now (text .entry))) (now (text .entry)) 0 noDraft (now (store .entry)) ⌝ }
 {
     let mut draft = no_draft();
@@ -37,13 +39,13 @@ pub fn walk(text: &[u8], store: &mut [u32; 2048]) -> DraftResult
 }
 
 // A store's numbers are handed over, all of them.
-pub fn hand_over(store: &[u32; 2048], scripts: &mut [u32])
-    requires { ⌜ (length (now store) ≡ 2_048) × (length (now scripts) ≡ 2_048) ⌝ }
+pub fn hand_over(store: &[u32; SCRIPTS_LENGTH], scripts: &mut [u32])
+    requires { ⌜ (length (now store) ≡ scriptsLength) × (length (now scripts) ≡ scriptsLength) ⌝ }
     ensures { λ _. ⌜ now (scripts .exit) ≡ now (store .entry) ⌝ }
 {
-    let mut place: usize = 0;
-    while place < 2_048 {
-        scripts[place] = store[place];
-        place += 1;
+    let mut index: usize = 0;
+    while index < SCRIPTS_LENGTH {
+        scripts[index] = store[index];
+        index += 1;
     }
 }

@@ -8,6 +8,7 @@ use lib.Dec.{ltb}
 use lib.Pow.{mod-pow-add, pow-mono, pow-pos}
 use borrow.Author.Tests.{eqb-false, eqb-true, ltb-false, ltb-true}
 use Rattle.plan.specs.Colours.{hasBit}
+use Rattle.plan.specs.Limits.{mostDomains}
 use Rattle.plan.proofs.Bits.{no-high-bit}
 
 pub bit-set : (rights domain : ℕ) → hasBit rights domain ≡ true → rights % 2 ^ (domain + 1) ≡ rights % 2 ^ domain + 2 ^ domain
@@ -25,10 +26,10 @@ bit-clear rights domain lacks =
     let turned : domain + 1 ≡ 1 + domain = omega arith in
     rw (turned, mod-pow-add rights 1 domain, none) (omega arith)
 
-not-bit : (mask place : ℕ) → (hasBit mask place ≡ true → ⊥) → hasBit mask place ≡ false
-not-bit mask place never = go (hasBit mask place) refl
+not-bit : (mask index : ℕ) → (hasBit mask index ≡ true → ⊥) → hasBit mask index ≡ false
+not-bit mask index never = go (hasBit mask index) refl
   where
-    go : (b : Bool) → hasBit mask place ≡ b → hasBit mask place ≡ false
+    go : (b : Bool) → hasBit mask index ≡ b → hasBit mask index ≡ false
     go true e = absurd (never e)
     go false e = e
 
@@ -37,8 +38,8 @@ pub bit-new : (rights domain : ℕ) → hasBit (rights % 2 ^ domain) domain ≡ 
 bit-new rights domain = not-bit _ domain (no-high-bit _ domain domain (mod-lt rights (pow-pos domain)) (omega arith))
 
 -- the rights of eight domains are all there are
-pub bits-all : (rights count : ℕ) → rights < 2 ^ count → count ≤ 8 → rights % 2 ^ 8 ≡ rights
-bits-all rights count small few = mod-eq-of-lt (lt-of-lt-of-le small (pow-mono {i = count} {j = 8} few))
+pub bits-all : (rights count : ℕ) → rights < 2 ^ count → count ≤ mostDomains → rights % 2 ^ mostDomains ≡ rights
+bits-all rights count small few = mod-eq-of-lt (lt-of-lt-of-le small (pow-mono {i = count} {j = mostDomains} few))
 
 -- a bit of rights below 2 ^ count is a domain below count
 pub bit-below : (rights count domain : ℕ) → rights < 2 ^ count → hasBit rights domain ≡ true → domain < count

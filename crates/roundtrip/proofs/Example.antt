@@ -1,4 +1,4 @@
--- The example plan is possible, and its text is the one written out; both by computing. Assumes nothing.
+-- The example plan is valid, and its text is the one written out; both by computing. Assumes nothing.
 use mathlib.Core.Bool.{true}
 use mathlib.Core.Path.{_≡_, refl}
 use Rattle.lists.specs.Ascii.{bytesOf}

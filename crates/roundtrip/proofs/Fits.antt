@@ -11,6 +11,7 @@ use Rattle.plan.specs.declared.Plan.{Plan}
 use Rattle.plan.specs.Colours.{hasBit, shareOf}
 use Rattle.plan.specs.Validity.{planValid}
 use Rattle.plan.specs.Rights.{rightsAt}
+use Rattle.plan.specs.Limits.{mostDomains, mostTextBytes}
 use Rattle.plan.proofs.ValidPlans.{counts}
 use Rattle.lexer.specs.Decimal.{decimalOf}
 use Rattle.lexer.proofs.Decimals.{decimal-most}
@@ -56,8 +57,8 @@ domain-most plan domain =
       arith,
       decimal-most domain,
       decimal-most (shareOf plan domain),
-      spaced-most (risingFrom rights 8 0),
-      rising-most rights 8 0,
+      spaced-most (risingFrom rights mostDomains 0),
+      rising-most rights mostDomains 0,
     ))
 
 -- ---- the text
@@ -65,27 +66,27 @@ domain-most plan domain =
 -- lines of at most so many bytes, each after its LF
 lines-most :
     (line : ℕ → List ℕ) (most : ℕ)
-    → ((place : ℕ) → length (line place) < most)
-    → (left place : ℕ) (more : List (List ℕ))
-    → length (followed (linesFrom line left place ++ more)) ≤ most * left + length (followed more)
+    → ((index : ℕ) → length (line index) < most)
+    → (left index : ℕ) (more : List (List ℕ))
+    → length (followed (linesFrom line left index ++ more)) ≤ most * left + length (followed more)
 unfolding linesFrom followed bytesOf
-lines-most line most each zero place more = omega arith
-lines-most line most each (suc left) place more =
+lines-most line most each zero index more = omega arith
+lines-most line most each (suc left) index more =
     rw mul-suc
     (omega (
       arith,
-      length-append (line place) (followed (linesFrom line left (place + 1) ++ more)),
-      each place,
-      lines-most line most each left (place + 1) more,
+      length-append (line index) (followed (linesFrom line left (index + 1) ++ more)),
+      each index,
+      lines-most line most each left (index + 1) more,
     ))
 
-pub text-fits : (plan : Plan) → planValid plan ≡ true → length (planText plan) ≤ 32_768
+pub text-fits : (plan : Plan) → planValid plan ≡ true → length (planText plan) ≤ mostTextBytes
 unfolding planText planLines joined followed bytesOf
-text-fits plan possible =
+text-fits plan valid =
     let domains = linesFrom (domainLine plan) (plan .domains) 0 in
     let windows = linesFrom (windowLine plan) (plan .windows) 0 in
     let order : domains ++ windows ++ (runLine plan ∷ []) ≡ domains ++ (windows ++ (runLine plan ∷ [])) = append-assoc domains windows (runLine plan ∷ []) in
-    let count = counts plan possible in
+    let count = counts plan valid in
     rw (order, length-append (padLine plan))
     (omega (
       arith,

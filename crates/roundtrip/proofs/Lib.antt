@@ -11,6 +11,7 @@ pub mod Walk
 pub mod Progress
 pub mod Final
 pub mod Fits
+pub mod Bytes
 pub mod ReadBack
 pub mod Meaning
 pub mod Example

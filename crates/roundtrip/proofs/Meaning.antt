@@ -1,30 +1,37 @@
--- What 12 means, in both directions: the plans that pass its check are those that the reader gives with 0, 0. One way is that a possible plan's
--- text is read back; the other is the reader's own law, that what it accepts is possible. Assumes nothing.
+-- Plan validity (12), both ways: the valid plans are those that the reader gives with 0, 0. One way is that a valid plan's text is
+-- read back; the other is the reader's own law, that what it accepts is valid. Assumes nothing.
 use Prim.Native.Nat.{ℕ}
 use mathlib.Core.Bool.{true}
-use mathlib.Core.Logic.{_↔_}
 use mathlib.Core.Path.{_≡_, ap, _∙_, sym}
 use lib.ListN.{length-replicate}
 use Rattle.plan.specs.declared.Plan.{Plan}
 use Rattle.plan.specs.Validity.{planValid}
+use Rattle.script.specs.Limits.{scriptsLength}
 use Rattle.reader.specs.Draft.{noOps}
 use Rattle.reader.specs.Read.{ReadOutcome}
 use Rattle.reader.proofs.Accepted.{accepted-valid}
+use Rattle.roundtrip.specs.Accepted.{Given, OneMeaning, Shaped}
 use Rattle.roundtrip.specs.Lines.{planText}
-use Rattle.roundtrip.specs.Shaped.{Given, Shaped}
+use Rattle.roundtrip.proofs.Bytes.{text-bytes}
 use Rattle.roundtrip.proofs.ReadBack.{read-back}
 
--- a possible plan is given by its own text
-pub valid-given : (plan : Plan) → Shaped plan → planValid plan ≡ true → Given plan
+-- a valid plan is given by its own text
+valid-given : (plan : Plan) → Shaped plan → planValid plan ≡ true → Given plan
 unfolding noOps
-valid-given plan shaped possible =
-    let read = read-back plan noOps shaped possible (length-replicate {A = ℕ} 2_048 0) in
-    record { text = planText plan; scripts = noOps; accepted = ap (λ (r : ReadOutcome). r .verdict) read; gives = ap (λ (r : ReadOutcome). r .plan) read }
+valid-given plan shaped valid =
+    let read = read-back plan noOps shaped valid (length-replicate {A = ℕ} scriptsLength 0) in
+    record {
+      text = planText plan;
+      bytes = text-bytes plan;
+      scripts = noOps;
+      accepted = ap (λ (r : ReadOutcome). r .verdict) read;
+      gives = ap (λ (r : ReadOutcome). r .plan) read;
+    }
 
--- a plan that some text gives is possible
+-- a plan that some text gives is valid
 pub given-valid : (plan : Plan) → Given plan → planValid plan ≡ true
 given-valid plan given = sym (ap planValid (given .gives)) ∙ accepted-valid (given .text) (given .scripts) (given .accepted)
 
 -- "accepted plan" has one meaning
-pub one-meaning : (plan : Plan) → Shaped plan → (planValid plan ≡ true) ↔ Given plan
+pub one-meaning : OneMeaning
 one-meaning plan shaped = (valid-given plan shaped, given-valid plan)

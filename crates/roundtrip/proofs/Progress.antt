@@ -1,5 +1,5 @@
--- ReadResult the lines of a written plan, one after the other: the plan so far has the lines' things and zeros elsewhere. Any lines may follow. Assumes
--- nothing.
+-- Reading the lines of a written plan, one after the other: the plan so far has the lines' things and zeros elsewhere. Any lines
+-- may follow. Assumes nothing.
 use Prim.Native.Nat.{ℕ, zero, suc, _+_, _<_}
 use native.Mathlib.Omega.{arith}
 use mathlib.Core.Bool.{true}
@@ -14,64 +14,59 @@ use Rattle.plan.specs.Colours.{shareOf}
 use Rattle.plan.specs.Validity.{planValid}
 use Rattle.plan.specs.Rights.{rightsAt}
 use Rattle.plan.proofs.ValidPlans.{counts, declared, declared-window}
-use Rattle.reader.specs.Draft.{DraftOutcome, kept, noOps, planWithDomain, planWithPad, planWithRun, planWithWindow, takeDomain, takeForm, takePad, takeRun, takeWindow}
+use Rattle.plan.specs.Parts.{planFrom, withDomain, withPad, withRun, withWindow}
+use Rattle.plan.specs.Limits.{mostDomains, mostWindows}
+use Rattle.reader.specs.Draft.{DraftOutcome, noOps, outcomeOf, takeDomain, takeForm, takePad, takeRun, takeWindow, taken}
 use Rattle.roundtrip.specs.Lines.{domainLine, linesFrom, padLine, planLines, runLine, windowLine}
 use Rattle.roundtrip.proofs.Domains.{domain-reads}
-use Rattle.roundtrip.proofs.Filled.{filled-more, firstPlaces}
+use Rattle.roundtrip.proofs.Filled.{filled-more, firstEntries}
 use Rattle.roundtrip.proofs.Forms.{pad-reads, run-reads, window-reads}
 use Rattle.roundtrip.proofs.Walk.{Stands, draftWith, next-line}
 
 -- a plan of which these things are read
 abbrev pub soFar : Plan → ℕ → ℕ → ℕ → ℕ → Plan
 soFar plan pad run domains windows =
-    record {
-      pad = pad;
-      run = run;
-      domains = domains;
-      windows = windows;
-      shares = firstPlaces domains (plan .shares);
-      rights = firstPlaces domains (plan .rights);
-      owners = firstPlaces windows (plan .owners);
-      lengths = firstPlaces windows (plan .lengths);
-      masks = replicate 8 0;
-    }
+    planFrom pad run
+    (record { count = domains; shares = firstEntries domains (plan .shares); rights = firstEntries domains (plan .rights) })
+    (record { count = windows; owners = firstEntries windows (plan .owners); lengths = firstEntries windows (plan .lengths) })
+    (replicate mostDomains 0)
 
 -- ---- what a form adds
 
 module _ (plan : Plan) (named : List ℕ) (bracket : ℕ) where
   pad-taken :
       takeForm (Pad (plan .pad)) bracket named (draftWith (soFar plan 0 0 0 0) named) noOps
-      ≡ kept (draftWith (soFar plan (plan .pad) 0 0 0) named) noOps
-  unfolding takePad planWithPad
+      ≡ outcomeOf (taken (draftWith (soFar plan (plan .pad) 0 0 0) named)) noOps
+  unfolding takePad withPad
   pad-taken = refl
 
   domain-taken :
       (pad domain : ℕ) (later : List ℕ)
       → takeForm (Domain (record { share = shareOf plan domain; rights = rightsAt plan domain })) bracket later
       (draftWith (soFar plan pad 0 domain 0) named) noOps
-      ≡ kept (draftWith (soFar plan pad 0 (domain + 1) 0) later) noOps
-  unfolding takeDomain planWithDomain
+      ≡ outcomeOf (taken (draftWith (soFar plan pad 0 (domain + 1) 0) later)) noOps
+  unfolding takeDomain withDomain
   domain-taken pad domain later = rw (filled-more domain (plan .shares), filled-more domain (plan .rights))
 
   window-taken :
       (pad domains slot : ℕ)
-      → slot < 32
+      → slot < mostWindows
       → takeForm (Window (record { owner = getD (plan .owners) slot 0; length = getD (plan .lengths) slot 0 })) bracket named
       (draftWith (soFar plan pad 0 domains slot) named) noOps
-      ≡ kept (draftWith (soFar plan pad 0 domains (slot + 1)) named) noOps
-  unfolding takeWindow planWithWindow
-  window-taken pad domains slot few = rw (lt-leb 32 slot few, filled-more slot (plan .owners), filled-more slot (plan .lengths))
+      ≡ outcomeOf (taken (draftWith (soFar plan pad 0 domains (slot + 1)) named)) noOps
+  unfolding takeWindow withWindow
+  window-taken pad domains slot few = rw (lt-leb mostWindows slot few, filled-more slot (plan .owners), filled-more slot (plan .lengths))
 
   run-taken :
       (pad domains windows : ℕ)
       → takeForm (Run (plan .run)) bracket named (draftWith (soFar plan pad 0 domains windows) named) noOps
-      ≡ kept (draftWith (soFar plan pad (plan .run) domains windows) named) noOps
-  unfolding takeRun planWithRun
+      ≡ outcomeOf (taken (draftWith (soFar plan pad (plan .run) domains windows) named)) noOps
+  unfolding takeRun withRun
   run-taken pad domains windows = refl
 
 -- ---- line by line
 
-module _ (text : List ℕ) (whole : DraftOutcome) (plan : Plan) (possible : planValid plan ≡ true) where
+module _ (text : List ℕ) (whole : DraftOutcome) (plan : Plan) (valid : planValid plan ≡ true) where
   -- these lines are left, and this much of the plan is read
   abbrev Left : List (List ℕ) → Plan → Type 0
   Left lines before = Stands text whole (plan .domains) lines before
@@ -79,7 +74,7 @@ module _ (text : List ℕ) (whole : DraftOutcome) (plan : Plan) (possible : plan
   pad-stands : (more : List (List ℕ)) → Left (padLine plan ∷ more) (soFar plan 0 0 0 0) → Left more (soFar plan (plan .pad) 0 0 0)
   unfolding padLine bytesOf
   pad-stands more stands =
-      let count = counts plan possible in
+      let count = counts plan valid in
       next-line text whole (plan .domains) (padLine plan) more _ _ (omega arith)
       (λ at named quiet left.
       record {
@@ -97,7 +92,7 @@ module _ (text : List ℕ) (whole : DraftOutcome) (plan : Plan) (possible : plan
       → Left more (soFar plan pad (plan .run) domains windows)
   unfolding runLine bytesOf
   run-stands pad domains windows more stands =
-      let count = counts plan possible in
+      let count = counts plan valid in
       next-line text whole (plan .domains) (runLine plan) more _ _ (omega arith)
       (λ at named quiet left.
       record {
@@ -116,8 +111,8 @@ module _ (text : List ℕ) (whole : DraftOutcome) (plan : Plan) (possible : plan
       → Left more (soFar plan pad 0 (domain + 1) 0)
   unfolding domainLine bytesOf
   domain-stands pad domain more below stands =
-      let count = counts plan possible in
-      let own = declared plan domain possible below in
+      let count = counts plan valid in
+      let own = declared plan domain valid below in
       next-line text whole (plan .domains) (domainLine plan domain) more _ _ (omega arith)
       (λ at named quiet left.
       let line =
@@ -139,8 +134,8 @@ module _ (text : List ℕ) (whole : DraftOutcome) (plan : Plan) (possible : plan
       → Left more (soFar plan pad 0 (plan .domains) (slot + 1))
   unfolding windowLine bytesOf
   window-stands pad slot more below stands =
-      let count = counts plan possible in
-      let own = declared-window plan slot possible below in
+      let count = counts plan valid in
+      let own = declared-window plan slot valid below in
       next-line text whole (plan .domains) (windowLine plan slot) more _ _ (omega arith)
       (λ at named quiet left.
       record {

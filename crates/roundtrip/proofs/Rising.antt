@@ -4,6 +4,7 @@ use native.Mathlib.Omega.{arith}
 use mathlib.Core.Bool.{Bool, true, false}
 use mathlib.Core.List.{List, [], _∷_}
 use Rattle.plan.specs.Colours.{hasBit}
+use Rattle.plan.specs.Limits.{mostDomains}
 use Rattle.roundtrip.specs.Lines.{recipientsOf, risingFrom}
 
 -- numbers that rise, from a least one on
@@ -27,4 +28,4 @@ rising-from rights (suc left) domain least within =
 
 pub recipients-rise : (rights : ℕ) → Rising 0 (recipientsOf rights)
 unfolding recipientsOf
-recipients-rise rights = rising-from rights 8 0 0 (omega arith)
+recipients-rise rights = rising-from rights mostDomains 0 0 (omega arith)

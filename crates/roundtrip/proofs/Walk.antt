@@ -4,14 +4,16 @@ use native.Mathlib.Omega.{arith}
 use mathlib.Core.List.{List, [], _∷_, _++_}
 use mathlib.Core.Path.{_≡_, refl, sym, ap, _∙_}
 use lib.ListN.{drop, length, replicate, drop-of-length-le, length-append, length-drop}
-use borrow.Author.Tests.{le-ltb, lt-ltb}
+use borrow.Author.Tests.{le-ltb}
 use Rattle.forms.specs.declared.Form.{Form}
 use Rattle.line.specs.Lines.{lineAt, lineWith}
 use Rattle.lists.specs.Ascii.{bytesOf}
 use Rattle.plan.specs.declared.Plan.{Plan}
+use Rattle.plan.specs.Limits.{mostDomains}
 use Rattle.reader.specs.declared.Draft.{Draft}
-use Rattle.reader.specs.Draft.{DraftOutcome, kept, noOps, takeForm, takeLine}
+use Rattle.reader.specs.Draft.{DraftOutcome, noOps, outcomeOf, takeForm, takeLine, taken}
 use Rattle.reader.specs.Read.{draftLine, walkFrom}
+use Rattle.reader.proofs.Walking.{walk-line}
 use Rattle.lexer.proofs.Scanned.{left-next, left-none}
 use Rattle.roundtrip.specs.Lines.{followed, joined}
 use Rattle.roundtrip.proofs.Lines.{Reads}
@@ -19,7 +21,7 @@ use Rattle.roundtrip.proofs.Recipients.{Quiet}
 
 -- a draft with no op so far
 abbrev pub draftWith : Plan → List ℕ → Draft
-draftWith plan named = record { plan = plan; counts = replicate 8 0; named = named }
+draftWith plan named = record { plan = plan; counts = replicate mostDomains 0; named = named }
 
 -- these lines are left, the plan so far is this, and reading on from here gives what the whole walk gives
 pub record Stands (text : List ℕ) (whole : DraftOutcome) (total : ℕ) (lines : List (List ℕ)) (plan : Plan) : Type 0 where
@@ -37,7 +39,7 @@ pub record Adds (text : List ℕ) (total at : ℕ) (named : List ℕ) (more : Li
   pub later : List ℕ
   pub reads : Reads text (followed more) form later (lineAt text (before .domains) named at)
   pub quiet : Quiet total later
-  pub adds : (bracket : ℕ) → takeForm form bracket later (draftWith before named) noOps ≡ kept (draftWith after later) noOps
+  pub adds : (bracket : ℕ) → takeForm form bracket later (draftWith before named) noOps ≡ outcomeOf (taken (draftWith after later)) noOps
 
 -- ---- one line
 
@@ -45,11 +47,11 @@ walk-next :
     (turns : ℕ) (text : List ℕ) (at : ℕ) (draft next : Draft) (store filled : List ℕ) (form : Form) (bracket end : ℕ) (later : List ℕ)
     → at < length text
     → draftLine text at draft ≡ lineWith bracket later form end
-    → takeForm form bracket later draft store ≡ kept next filled
+    → takeForm form bracket later draft store ≡ outcomeOf (taken next) filled
     → walkFrom (suc turns) text at draft store ≡ walkFrom turns text (end + 1) next filled
-unfolding walkFrom takeLine
-walk-next turns text at draft next store filled form bracket end later within line taken =
-    rw (lt-ltb at (length text) within, walkFrom, line, taken, line)
+unfolding takeLine
+walk-next turns text at draft next store filled form bracket end later within line adds =
+    walk-line turns text at draft store (lineWith bracket later form end) (outcomeOf (taken next) filled) within (sym line) (sym adds)
 
 -- past a line's end, or past the text's, the lines after it are left
 past-end : (text : List ℕ) (end : ℕ) (more : List (List ℕ)) → drop end text ≡ followed more → drop (end + 1) text ≡ joined more
@@ -104,7 +106,7 @@ next-line text whole total line more before after some taking stands =
 -- ---- the end
 
 walk-ends :
-    (turns : ℕ) (text : List ℕ) (at : ℕ) (draft : Draft) (store : List ℕ) → length text ≤ at → walkFrom turns text at draft store ≡ kept draft store
+    (turns : ℕ) (text : List ℕ) (at : ℕ) (draft : Draft) (store : List ℕ) → length text ≤ at → walkFrom turns text at draft store ≡ outcomeOf (taken draft) store
 unfolding walkFrom
 walk-ends zero text at draft store past = refl
 walk-ends (suc turns) text at draft store past = rw (le-ltb at (length text) past, walkFrom)
@@ -113,7 +115,7 @@ walk-ends (suc turns) text at draft store past = rw (le-ltb at (length text) pas
 pub record Ended (whole : DraftOutcome) (total : ℕ) (plan : Plan) : Type 0 where
   pub named : List ℕ
   pub quiet : Quiet total named
-  pub gave : whole ≡ kept (draftWith plan named) noOps
+  pub gave : whole ≡ outcomeOf (taken (draftWith plan named)) noOps
 
 pub no-line : (text : List ℕ) (whole : DraftOutcome) (total : ℕ) (plan : Plan) → Stands text whole total [] plan → Ended whole total plan
 unfolding joined

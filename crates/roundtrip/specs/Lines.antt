@@ -64,10 +64,10 @@ runLine plan = bytesOf "(run " ++ decimalOf (plan .run) ++ bytesOf ")"
 
 -- ---- the text
 
--- a line for each of the `left` places from `place` on
+-- a line for each of the `left` indices from `index` on
 unfoldable pub linesFrom : (ℕ → List ℕ) → ℕ → ℕ → List (List ℕ)
-linesFrom line zero place = []
-linesFrom line (suc left) place = line place ∷ linesFrom line left (place + 1)
+linesFrom line zero index = []
+linesFrom line (suc left) index = line index ∷ linesFrom line left (index + 1)
 
 -- the lines of a plan in their order
 unfoldable pub planLines : Plan → List (List ℕ)

@@ -10,15 +10,15 @@ use Rattle.script.specs.declared.Op.the-variants.{Read, Write, Send, Rec
 use Rattle.script.specs.declared.ScriptItem.{ScriptItem}
 use Rattle.script.specs.declared.ScriptItem.the-variants.{Op as Fetch, End}
 use Rattle.script.specs.Stored.{packed, storedOf}
-use Rattle.script.specs.Limits.{OpWithinLimits}
+use Rattle.script.specs.Limits.{OpWithinLimits, lastDomain, leastTicks, mostNumber, mostTicks}
 use Rattle.script.specs.Fetch.{decodeOf, kindPart, opOf, otherPart, valuePart}
 
 -- a compute's ticks fit a byte
-pub compute-fits : (other value : ℕ) → eqb other 0 && leb 1 value && leb value 200 ≡ true → value ≤ 200
-compute-fits other value tests = leb-true value 200 (and-eq-true-iff (eqb other 0 && leb 1 value) (leb value 200) .0 tests .1)
+pub compute-fits : (other value : ℕ) → eqb other 0 && leb leastTicks value && leb value mostTicks ≡ true → value ≤ mostTicks
+compute-fits other value tests = leb-true value mostTicks (and-eq-true-iff (eqb other 0 && leb leastTicks value) (leb value mostTicks) .0 tests .1)
 
 -- the three parts of a number made of three parts are those
-decode-packed : (kind other value : ℕ) → other < 16 → value ≤ 65_535 → decodeOf (packed kind other value) ≡ opOf kind other value
+decode-packed : (kind other value : ℕ) → other < 16 → value ≤ mostNumber → decodeOf (packed kind other value) ≡ opOf kind other value
 unfolding decodeOf
 decode-packed kind other value small fits =
     let kinds : kindPart (packed kind other value) ≡ kind = omega arith in
@@ -31,10 +31,10 @@ pub decode-stored : (op : Op) → OpWithinLimits op → decodeOf (storedOf op) �
 unfolding OpWithinLimits storedOf opOf
 decode-stored (Read line) within = rw (decode-packed 1 0 line (omega arith) within)
 decode-stored (Write line) within = rw (decode-packed 2 0 line (omega arith) within)
-decode-stored (Send recipient word) within = rw (decode-packed 3 recipient word (omega arith) (within .1), le-leb recipient 7 (within .0))
-decode-stored (Receive sender) within = rw (decode-packed 4 sender 0 (omega arith) (omega arith), le-leb sender 7 within)
+decode-stored (Send recipient word) within = rw (decode-packed 3 recipient word (omega arith) (within .1), le-leb recipient lastDomain (within .0))
+decode-stored (Receive sender) within = rw (decode-packed 4 sender 0 (omega arith) (omega arith), le-leb sender lastDomain within)
 decode-stored (Compute ticks) within =
-    rw (decode-packed 5 0 ticks (omega arith) (omega arith), le-leb 1 ticks (within .0), le-leb ticks 200 (within .1))
+    rw (decode-packed 5 0 ticks (omega arith) (omega arith), le-leb leastTicks ticks (within .0), le-leb ticks mostTicks (within .1))
 
 -- what is so of both outcomes of a test is so of the choice
 choice :
@@ -50,7 +50,7 @@ unfoldable Gives : ℕ → ScriptItem → Type 0
 Gives number (Fetch op) = (storedOf op ≡ number) × OpWithinLimits op
 Gives number End = Unit {0}
 
-module _ (kind other value : ℕ) (fits : value ≤ 65_535) where
+module _ (kind other value : ℕ) (fits : value ≤ mostNumber) where
   read-gives : eqb kind 1 && eqb other 0 ≡ true → Gives (packed kind other value) (Fetch (Read value))
   unfolding Gives storedOf OpWithinLimits
   read-gives tests =
@@ -63,28 +63,28 @@ module _ (kind other value : ℕ) (fits : value ≤ 65_535) where
       let parts = and-eq-true-iff (eqb kind 2) (eqb other 0) .0 tests in
       (omega (arith, eqb-true kind 2 (parts .0), eqb-true other 0 (parts .1)), fits)
 
-  send-gives : eqb kind 3 && leb other 7 ≡ true → Gives (packed kind other value) (Fetch (Send other value))
+  send-gives : eqb kind 3 && leb other lastDomain ≡ true → Gives (packed kind other value) (Fetch (Send other value))
   unfolding Gives storedOf OpWithinLimits
   send-gives tests =
-      let parts = and-eq-true-iff (eqb kind 3) (leb other 7) .0 tests in
-      (omega (arith, eqb-true kind 3 (parts .0)), (leb-true other 7 (parts .1), fits))
+      let parts = and-eq-true-iff (eqb kind 3) (leb other lastDomain) .0 tests in
+      (omega (arith, eqb-true kind 3 (parts .0)), (leb-true other lastDomain (parts .1), fits))
 
-  receive-gives : eqb kind 4 && leb other 7 && eqb value 0 ≡ true → Gives (packed kind other value) (Fetch (Receive other))
+  receive-gives : eqb kind 4 && leb other lastDomain && eqb value 0 ≡ true → Gives (packed kind other value) (Fetch (Receive other))
   unfolding Gives storedOf OpWithinLimits
   receive-gives tests =
-      let parts = and-eq-true-iff (eqb kind 4 && leb other 7) (eqb value 0) .0 tests in
-      let fronts = and-eq-true-iff (eqb kind 4) (leb other 7) .0 (parts .0) in
-      (omega (arith, eqb-true kind 4 (fronts .0), eqb-true value 0 (parts .1)), leb-true other 7 (fronts .1))
+      let parts = and-eq-true-iff (eqb kind 4 && leb other lastDomain) (eqb value 0) .0 tests in
+      let fronts = and-eq-true-iff (eqb kind 4) (leb other lastDomain) .0 (parts .0) in
+      (omega (arith, eqb-true kind 4 (fronts .0), eqb-true value 0 (parts .1)), leb-true other lastDomain (fronts .1))
 
   compute-gives :
-      eqb kind 5 && eqb other 0 && leb 1 value && leb value 200 ≡ true
+      eqb kind 5 && eqb other 0 && leb leastTicks value && leb value mostTicks ≡ true
       → Gives (packed kind other value) (Fetch (Compute value))
   unfolding Gives storedOf OpWithinLimits
   compute-gives tests =
-      let parts = and-eq-true-iff (eqb kind 5 && eqb other 0 && leb 1 value) (leb value 200) .0 tests in
-      let middles = and-eq-true-iff (eqb kind 5 && eqb other 0) (leb 1 value) .0 (parts .0) in
+      let parts = and-eq-true-iff (eqb kind 5 && eqb other 0 && leb leastTicks value) (leb value mostTicks) .0 tests in
+      let middles = and-eq-true-iff (eqb kind 5 && eqb other 0) (leb leastTicks value) .0 (parts .0) in
       let fronts = and-eq-true-iff (eqb kind 5) (eqb other 0) .0 (middles .0) in
-      (omega (arith, eqb-true kind 5 (fronts .0), eqb-true other 0 (fronts .1)), (leb-true 1 value (middles .1), leb-true value 200 (parts .1)))
+      (omega (arith, eqb-true kind 5 (fronts .0), eqb-true other 0 (fronts .1)), (leb-true leastTicks value (middles .1), leb-true value mostTicks (parts .1)))
 
   end-gives : Gives (packed kind other value) End
   unfolding Gives

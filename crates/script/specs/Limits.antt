@@ -1,6 +1,6 @@
--- Document 01, "What an op costs": the limits of an op's numbers; and of "The plan text", the domain numbers and how many ops a script has.
--- Each is said here alone. Assumes nothing.
-use Prim.Native.Nat.{ℕ, _≤_}
+-- Document 01, "What an op costs" and "The plan text": the limits of an op's numbers, the domain numbers,
+-- and how many ops a script has. Each is said here alone. Assumes nothing.
+use Prim.Native.Nat.{ℕ, _+_, _*_, _≤_}
 use Rattle.script.specs.declared.Op.{Op}
 use Rattle.script.specs.declared.Op.the-variants.{Read, Write, Send, Receive, Compute}
 
@@ -24,13 +24,13 @@ leastTicks = 1
 abbrev pub mostTicks : ℕ
 mostTicks = 200
 
--- the most ops of one domain's script, and so its places in the store
+-- the most ops of one domain's script, and so its entries in the store
 abbrev pub mostOps : ℕ
 mostOps = 256
 
--- how many numbers the script store has: one for each place of each of the eight domains
+-- how many numbers the script store has: an entry for each op of each domain that there can be
 abbrev pub scriptsLength : ℕ
-scriptsLength = 2_048
+scriptsLength = mostOps * (lastDomain + 1)
 
 -- an op's numbers are within their limits
 unfoldable pub OpWithinLimits : Op → Type 0

@@ -6,13 +6,14 @@ use limits::LEAST_TICKS;
 use limits::MOST_OPS;
 use limits::MOST_TICKS;
 ghost use mathlib.Core.Path.{_≡_};
-ghost use Prim.Native.Nat.{_<_, _≤_};
+ghost use Prim.Native.Nat.{_≤_};
 ghost use lib.ListN.{length};
+ghost use Rattle.script.specs.Limits.{lastDomain, scriptsLength};
 ghost use Rattle.script.specs.Stored.{packed, storedOf};
 ghost use Rattle.script.specs.Fetch.{decodeOf, fetchOf, opOf};
 
-// An operation with its numbers: the line of a read or a write; the recipient and the word of a send; the sender of a
-// receive; the ticks of a compute.
+// An operation with its numbers: the line of a read or a write; the recipient and the word of a send;
+// the sender of a receive; the ticks of a compute.
 pub enum Op {
     Read(u16),
     Write(u16),
@@ -27,6 +28,14 @@ pub enum ScriptItem {
     End,
 }
 
+// What a kind and another domain count for in a stored number, and how many numbers there is room for
+// in the second part.
+const KIND_UNIT: u32 = 1_048_576;
+
+const OTHER_UNIT: u32 = 65_536;
+
+const OTHER_VALUES: u32 = KIND_UNIT / OTHER_UNIT;
+
 // The limits, each as wide as the part of a stored number that it is held to.
 const LAST_OTHER: u8 = LAST_DOMAIN as u8;
 
@@ -39,7 +48,7 @@ fn pack(kind: u32, other: u8, value: u16) -> u32
     requires { ⌜ kind ≤ 5 ⌝ }
     ensures { λ r. ⌜ r ≡ packed kind other value ⌝ }
 {
-    kind * 1_048_576 + (other as u32) * 65_536 + value as u32
+    kind * KIND_UNIT + (other as u32) * OTHER_UNIT + value as u32
 }
 
 // The number that a script store holds for an operation.
@@ -55,7 +64,8 @@ pub fn stored(op: Op) -> u32
     }
 }
 
-// The operation that three parts give, or the end of the script where they are outside an operation's limits.
+// The operation that three parts give, or the end of the script where they are outside an operation's
+// limits.
 fn op_of(kind: u32, other: u8, value: u16) -> ScriptItem
     ensures { λ r. ⌜ r ≡ opOf kind other value ⌝ }
 {
@@ -96,19 +106,19 @@ fn op_of(kind: u32, other: u8, value: u16) -> ScriptItem
 fn decode(number: u32) -> ScriptItem
     ensures { λ r. ⌜ r ≡ decodeOf number ⌝ }
 {
-    let other = number / 65_536 % 16;
-    let value = number % 65_536;
-    op_of(number / 1_048_576, other as u8, value as u16)
+    let other = number / OTHER_UNIT % OTHER_VALUES;
+    let value = number % OTHER_UNIT;
+    op_of(number / KIND_UNIT, other as u8, value as u16)
 }
 
 // What stands at a position of a domain's script. A script ends at position 256 at the latest.
 pub fn fetch(scripts: &[u32], domain: u32, position: u64) -> ScriptItem
-    requires { ⌜ (length (now scripts) ≡ 2048) × (domain < 8) ⌝ }
+    requires { ⌜ (length (now scripts) ≡ scriptsLength) × (domain ≤ lastDomain) ⌝ }
     ensures { λ r. ⌜ r ≡ fetchOf (now (scripts .entry)) domain position ⌝ }
 {
     if position < MOST_OPS as u64 {
-        let place = MOST_OPS * (domain as usize) + position as usize;
-        decode(scripts[place])
+        let index = MOST_OPS * (domain as usize) + position as usize;
+        decode(scripts[index])
     } else {
         ScriptItem::End
     }

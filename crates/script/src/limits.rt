@@ -10,3 +10,5 @@ pub const LEAST_TICKS: u32 = 1;
 pub const MOST_TICKS: u32 = 200;
 
 pub const MOST_OPS: usize = 256;
+
+pub const SCRIPTS_LENGTH: usize = MOST_OPS * (LAST_DOMAIN as usize + 1);

@@ -1,13 +1,30 @@
 -- `reader::read_plan` meets its contract. Assumes nothing.
-use mathlib.Core.Path.{refl, sym, _∙_}
+use Prim.Native.Nat.{_≤_}
+use mathlib.Core.Path.{_≡_, refl, sym, _∙_}
+use lib.ListN.{length}
 use borrow.Author.Needs.{needs}
 use Rattle.plan.proofs.Shares.{colours-at-most}
+use Rattle.plan.specs.Bounds.{SharesBounded, TicksBounded}
+use Rattle.script.specs.Limits.{scriptsLength}
 use Rattle.reader.specs.Draft.{noOps}
-use Rattle.reader.proofs.GoodDraft.{lengths-most, shares-most}
+use Rattle.reader.proofs.GoodDraft.{GoodDraft, lengths-most, shares-most}
 use Rattle.reader.proofs.LastChecks.{passes}
-use Rattle.reader.proofs.WholeText.{kept-good, read-accepted, read-refused, read-too-long, read-unfit, read-wrong-length}
+use Rattle.reader.proofs.WholeText.{read-accepted, read-refused, read-too-long, read-unfit, read-wrong-length, walked-good}
 use Rattle.reader.proofs.read_plan.Statement.{statement}
 use Rattle.reader.proofs.read_plan.Tie as tie
+
+-- what is known once the lines are walked
+good : (c : tie.After-walk) → GoodDraft (c .walk .result .draft) × (length (c .walk .last .1 .0) ≡ scriptsLength)
+unfolding noOps
+good c = walked-good (c .before .before .before .before .before .before .args .text .now) (c .walk .result) _ (c .walk .ensures)
+
+shares-bounded : (c : tie.After-walk) → SharesBounded (c .walk .result .draft .plan)
+shares-bounded c = (good c .0 .domains .most, λ domain _. shares-most (good c .0) domain)
+
+ticks-bounded : (c : tie.After-walk) → TicksBounded (c .walk .result .draft .plan)
+ticks-bounded c =
+    let draft = good c .0 in
+    (draft .run-most, draft .windows .most, draft .pad-most, λ slot _. lengths-most draft slot)
 
 refused-reading-requires : tie.Need-refused-reading-requires
 refused-reading-requires c κs = tt
@@ -19,7 +36,9 @@ refused-reading-requires-2 : tie.Need-refused-reading-requires-2
 refused-reading-requires-2 c κs = tt
 
 returns-2 : tie.Need-returns-2
-returns-2 c = read-too-long _ _ (c .before .before .if1 .left) _ _ (c .before .if2 .taken) (c .refused-reading2 .ensures .0) (c .refused-reading2 .ensures .1)
+returns-2 c =
+    read-too-long _ _ (c .before .before .if1 .left) _ _ (c .before .if2 .taken)
+    (c .refused-reading2 .ensures .0) (c .refused-reading2 .ensures .1)
 
 walk-requires : tie.Need-walk-requires
 walk-requires c κs = tt
@@ -33,26 +52,17 @@ refused-reading-requires-3 c κs = tt
 returns-3 : tie.Need-returns-3
 unfolding noOps
 returns-3 c =
-    let args = c .before .before .before .before .before .before .before .before .before .before .args in
-    let walked = c .before .before .before .before .walk in
-    read-refused (args .text .now) (args .scripts .now) (c .before .before .before .before .before .before .before .if1 .left) (c .before .before .before .before .before .before .if2 .left) (walked .result .verdict) (walked .result .draft) (walked .last .1 .0) (walked .ensures) _ _ _ (c .before .before .verdict .given .1) (c .refused-reading3 .ensures .0) (c .refused-reading3 .ensures .1)
+    let walked = c .before .before .before .before in
+    let start = walked .before .before .before .before .before .before in
+    read-refused (start .args .text .now) (start .args .scripts .now) (walked .before .before .before .if1 .left) (walked .before .before .if2 .left)
+    (walked .walk .result) _ (walked .walk .ensures) _ _ _ (c .before .before .verdict .given .1)
+    (c .refused-reading3 .ensures .0) (c .refused-reading3 .ensures .1)
 
 enum-told : tie.Need-enum-told
 enum-told c = search needs
 
 final-verdict-requires : tie.Need-final-verdict-requires
-unfolding noOps
-final-verdict-requires c κs =
-    let args = c .before .before .before .before .before .before .before .before .before .args in
-    let walked = c .before .before .before .walk in
-    let good = kept-good (args .text .now) (args .scripts .now) (c .before .before .before .before .before .before .if1 .left) (c .before .before .before .before .before .if2 .left) (walked .result .verdict) (walked .result .draft) (walked .last .1 .0) (walked .ensures) (c .before .enum-told .given .1) .0 in (
-      good .domains .most,
-      (λ i _. shares-most _ good i),
-      good .run-most,
-      good .windows .most,
-      good .pad-most,
-      (λ i _. lengths-most _ good i),
-    )
+final-verdict-requires c κs = let walked = c .before .before .before in (shares-bounded walked, ticks-bounded walked)
 
 enum-known-judged : tie.Need-enum-known-judged
 enum-known-judged c = search needs
@@ -63,28 +73,28 @@ refused-reading-requires-4 c κs = tt
 returns-4 : tie.Need-returns-4
 unfolding noOps
 returns-4 c =
-    let args = c .before .before .before .before .before .before .before .before .before .before .before .before .before .before .args in
-    let walked = c .before .before .before .before .before .before .before .before .walk in
-    read-unfit (args .text .now) (args .scripts .now) (c .before .before .before .before .before .before .before .before .before .before .before .if1 .left) (c .before .before .before .before .before .before .before .before .before .before .if2 .left) (walked .result .verdict) (walked .result .draft) (walked .last .1 .0) (walked .ensures) (c .before .before .before .before .before .before .enum-told .given .1) _ (c .before .before .before .before .final-verdict .ensures) _ _ _ (c .before .before .judged .given .1) (c .refused-reading4 .ensures .0) (c .refused-reading4 .ensures .1)
+    let checked = c .before .before .before .before in
+    let walked = checked .before .before .before .before in
+    let start = walked .before .before .before .before .before .before in
+    read-unfit (start .args .text .now) (start .args .scripts .now) (walked .before .before .before .if1 .left) (walked .before .before .if2 .left)
+    (walked .walk .result) _ (walked .walk .ensures) (checked .before .before .enum-told .given .1)
+    _ (checked .final-verdict .ensures) _ _ _ (c .before .before .judged .given .1)
+    (c .refused-reading4 .ensures .0) (c .refused-reading4 .ensures .1)
 
 enum-told-2 : tie.Need-enum-told-2
 enum-told-2 c = search needs
 
 hand-over-requires : tie.Need-hand-over-requires
-unfolding noOps
 hand-over-requires c κs =
-    let args = c .before .before .before .before .before .before .before .before .before .before .before .before .before .before .args in
-    let walked = c .before .before .before .before .before .before .before .before .walk in
-    (kept-good (args .text .now) (args .scripts .now) (c .before .before .before .before .before .before .before .before .before .before .before .if1 .left) (c .before .before .before .before .before .before .before .before .before .before .if2 .left) (walked .result .verdict) (walked .result .draft) (walked .last .1 .0) (walked .ensures) (c .before .before .before .before .before .before .enum-told .given .1) .1, c .before .before .before .before .before .before .before .before .before .before .before .if1 .left)
+    let walked = c .before .before .before .before .before .before .before .before in
+    (good walked .1, walked .before .before .before .if1 .left)
 
 plan-with-masks-requires : tie.Need-plan-with-masks-requires
-unfolding noOps
 plan-with-masks-requires c κs =
-    let args = c .before .before .before .before .before .before .before .before .before .before .before .before .before .before .before .before .before .args in
-    let walked = c .before .before .before .before .before .before .before .before .before .before .before .walk in
-    let good = kept-good (args .text .now) (args .scripts .now) (c .before .before .before .before .before .before .before .before .before .before .before .before .before .before .if1 .left) (c .before .before .before .before .before .before .before .before .before .before .before .before .before .if2 .left) (walked .result .verdict) (walked .result .draft) (walked .last .1 .0) (walked .ensures) (c .before .before .before .before .before .before .before .before .before .enum-told .given .1) .0 in
-    let fine = passes _ (walked .result .draft) (sym (c .before .before .before .before .before .before .before .final-verdict .ensures) ∙ c .before .before .before .before .before .enum-told2 .given .1) in
-    (good .domains .most, (λ i _. shares-most _ good i), colours-at-most _ _ (fine .shares))
+    let checked = c .before .before .before .before .before .before .before in
+    let walked = checked .before .before .before .before in
+    let passed = sym (checked .final-verdict .ensures) ∙ c .before .before .before .before .before .enum-told2 .given .1 in
+    (shares-bounded walked, colours-at-most _ _ (passes _ (walked .walk .result .draft) passed .shares))
 
 same-length : tie.Need-same-length
 same-length c = search needs
@@ -92,9 +102,13 @@ same-length c = search needs
 returns-5 : tie.Need-returns-5
 unfolding noOps
 returns-5 c =
-    let args = c .before .before .before .before .before .before .before .before .before .before .before .before .before .before .before .before .before .before .args in
-    let walked = c .before .before .before .before .before .before .before .before .before .before .before .before .walk in
-    read-accepted (args .text .now) (args .scripts .now) (c .before .before .before .before .before .before .before .before .before .before .before .before .before .before .before .if1 .left) (c .before .before .before .before .before .before .before .before .before .before .before .before .before .before .if2 .left) (walked .result .verdict) (walked .result .draft) (walked .last .1 .0) (walked .ensures) (c .before .before .before .before .before .before .before .before .before .before .enum-told .given .1) _ (c .before .before .before .before .before .before .before .before .final-verdict .ensures) _ _ _ (c .before .before .before .before .before .before .enum-told2 .given .1) refl (c .plan-with-masks .ensures) (c .before .before .before .hand-over .ensures)
+    let checked = c .before .before .before .before .before .before .before .before in
+    let walked = checked .before .before .before .before in
+    let start = walked .before .before .before .before .before .before in
+    read-accepted (start .args .text .now) (start .args .scripts .now) (walked .before .before .before .if1 .left) (walked .before .before .if2 .left)
+    (walked .walk .result) _ (walked .walk .ensures) (checked .before .before .enum-told .given .1)
+    _ (checked .final-verdict .ensures) _ _ _ (c .before .before .before .before .before .before .enum-told2 .given .1)
+    refl (c .plan-with-masks .ensures) (c .before .before .before .hand-over .ensures)
 
 pub read-plan-spec : {M : Type 1} → statement M
 read-plan-spec =

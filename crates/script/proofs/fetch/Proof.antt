@@ -1,15 +1,15 @@
--- `fetch` meets its contract: the place is within the store below position 256. Assumes nothing.
+-- `fetch` meets its contract: the index is within the store below position 256. Assumes nothing.
 use borrow.Author.Needs.{needs}
 use borrow.Author.Tests.{lt-ltb, le-ltb}
 use Rattle.script.specs.Fetch.{fetchOf}
 use Rattle.script.proofs.fetch.Statement.{statement}
 use Rattle.script.proofs.fetch.Tie as tie
 
-mul-place : tie.Need-mul-place
-mul-place c = search needs
+mul-index : tie.Need-mul-index
+mul-index c = search needs
 
-add-place : tie.Need-add-place
-add-place c = search needs
+add-index : tie.Need-add-index
+add-index c = search needs
 
 mul-decode : tie.Need-mul-decode
 mul-decode c = search needs
@@ -32,8 +32,8 @@ pub fetch-spec : {M : Type 1} → statement M
 fetch-spec =
     tie.close
     (tie.spec
-    mul-place
-    add-place
+    mul-index
+    add-index
     mul-decode
     shared-slice-read-decode
     decode-requires

@@ -9,6 +9,7 @@ use lib.ListN.{getD, length, length-set}
 use borrow.Author.Needs.{needs}
 use Rattle.plan.specs.Colours.{coloursOf, firstColour, maskFrom, maskOf}
 use Rattle.plan.specs.Sums.{sumTo}
+use Rattle.plan.specs.Limits.{domainColours, mostDomains}
 use Rattle.plan.proofs.MaskLists.{masks-are}
 use Rattle.plan.proofs.Sums.{filled-more, filled-none, sum-mono, sum-more}
 use Rattle.plan.proofs.sharing.masks_of.Statement.{statement}
@@ -17,15 +18,15 @@ use Rattle.plan.proofs.sharing.masks_of.Tie as tie
 -- the mask of a domain, from the shares alone
 abbrev ruleOf : List ℕ → ℕ → ℕ
 ruleOf shares domain =
-    maskFrom (sumTo (λ (place : ℕ). coloursOf (getD shares place 0)) domain) (coloursOf (getD shares domain 0))
+    maskFrom (sumTo (λ (index : ℕ). coloursOf (getD shares index 0)) domain) (coloursOf (getD shares domain 0))
 
 abbrev Inv-loop : tie.InvT-loop
 Inv-loop shares domains masks₀ first₀ i₀ masks first i =
     (i ≤ domains)
-    × (domains ≤ 8)
-    × (first ≡ sumTo (λ (place : ℕ). coloursOf (getD shares place 0)) i)
-    × (length masks ≡ 8)
-    × ((place : ℕ) → place < 8 → getD masks place 0 ≡ cond (ltb place i) (ruleOf shares place) 0)
+    × (domains ≤ mostDomains)
+    × (first ≡ sumTo (λ (index : ℕ). coloursOf (getD shares index 0)) i)
+    × (length masks ≡ mostDomains)
+    × ((index : ℕ) → index < mostDomains → getD masks index 0 ≡ cond (ltb index i) (ruleOf shares index) 0)
 
 abbrev μ-loop : tie.MeasureT-loop
 μ-loop shares domains masks₀ first₀ i₀ masks first i = domains - i
@@ -35,7 +36,7 @@ cast-domains c = search needs
 
 loop-holds : tie.Need-loop-holds Inv-loop μ-loop
 unfolding sumTo
-loop-holds c = (omega arith, c .before .before .pre .0, refl, refl, filled-none _)
+loop-holds c = (omega arith, c .before .before .pre .0 .0, refl, refl, filled-none _)
 
 mul-colours-of : tie.Need-mul-colours-of Inv-loop μ-loop
 mul-colours-of c = omega arith
@@ -44,17 +45,17 @@ array-read-colours-of : tie.Need-array-read-colours-of Inv-loop μ-loop
 array-read-colours-of c = omega arith
 
 colours-of-requires : tie.Need-colours-of-requires Inv-loop μ-loop
-colours-of-requires c κs = c .before .before .before .before .pre .1 (c .before .loop .i) (omega arith)
+colours-of-requires c κs = c .before .before .before .before .pre .0 .1 (c .before .loop .i) (omega arith)
 
 mask-from-requires : tie.Need-mask-from-requires Inv-loop μ-loop
 unfolding firstColour
 mask-from-requires c κs =
     let loop = c .before .before .loop in
     let start = c .before .before .before .before .before in
-    let rule : ℕ → ℕ = λ place. coloursOf (getD (start .args .plan .shares) place 0) in
+    let rule : ℕ → ℕ = λ index. coloursOf (getD (start .args .plan .shares) index 0) in
     let next : loop .first + rule (loop .i) ≡ sumTo rule (loop .i + 1) = sum-more rule _ (loop .i) (loop .inv .2) in
     let more : sumTo rule (loop .i + 1) ≤ sumTo rule (start .args .plan .domains) = sum-mono rule _ _ (omega arith) in
-    let total : sumTo rule (start .args .plan .domains) ≤ 15 = start .pre .2 in
+    let total : sumTo rule (start .args .plan .domains) ≤ domainColours = start .pre .1 in
     omega (arith, c .colours-of .ensures)
 
 mul-masks : tie.Need-mul-masks Inv-loop μ-loop
@@ -93,7 +94,7 @@ returns c =
     let start = c .before .before .before .before in
     let ended : loop .i ≡ start .args .plan .domains = omega arith in
     masks-are (start .args .plan) (loop .masks) (loop .inv .3)
-    (λ place below. loop .inv .4 place below ∙ ap (λ (n : ℕ). cond (ltb place n) (ruleOf (start .args .plan .shares) place) 0) ended)
+    (λ index below. loop .inv .4 index below ∙ ap (λ (n : ℕ). cond (ltb index n) (ruleOf (start .args .plan .shares) index) 0) ended)
 
 pub masks-of-spec : {M : Type 1} → statement M
 masks-of-spec =

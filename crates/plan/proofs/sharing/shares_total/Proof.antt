@@ -6,12 +6,13 @@ use lib.ListN.{getD}
 use borrow.Author.Needs.{needs}
 use Rattle.plan.specs.Colours.{sharesTotal}
 use Rattle.plan.specs.Sums.{sumTo}
+use Rattle.plan.specs.Limits.{mostDomains, mostShare}
 use Rattle.plan.proofs.Sums.{sum-more, sum-most}
 use Rattle.plan.proofs.sharing.shares_total.Statement.{statement}
 use Rattle.plan.proofs.sharing.shares_total.Tie as tie
 
 abbrev Inv-loop : tie.InvT-loop
-Inv-loop shares domains total₀ i₀ total i = (i ≤ domains) × (total ≡ sumTo (λ (place : ℕ). getD shares place 0) i) × (domains ≤ 8)
+Inv-loop shares domains total₀ i₀ total i = (i ≤ domains) × (total ≡ sumTo (λ (index : ℕ). getD shares index 0) i) × (domains ≤ mostDomains)
 
 abbrev μ-loop : tie.MeasureT-loop
 μ-loop shares domains total₀ i₀ total i = domains - i
@@ -33,8 +34,8 @@ add-total : tie.Need-add-total Inv-loop μ-loop
 add-total c =
     let pre = c .before .before .before .before .pre in
     let loop = c .before .loop in
-    let most : sumTo (λ (place : ℕ). getD (c .before .before .before .before .args .plan .shares) place 0) (loop .i) ≤ 1_000 * loop .i =
-    sum-most _ 1_000 (loop .i) (λ place below. pre .1 place (omega arith)) in
+    let most : sumTo (λ (index : ℕ). getD (c .before .before .before .before .args .plan .shares) index 0) (loop .i) ≤ mostShare * loop .i =
+    sum-most _ mostShare (loop .i) (λ index below. pre .1 index (omega arith)) in
     omega (arith, pre .1 (loop .i) (omega arith))
 
 add-i : tie.Need-add-i Inv-loop μ-loop

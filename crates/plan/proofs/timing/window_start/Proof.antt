@@ -22,13 +22,13 @@ padded-lengths-requires c κs =
     let start = c .before .before in
     let slot = slot-below _ (start .args .window) (start .pre .0) in
     let count = counts _ (start .pre .0) in
-    (omega arith, count .pad-most, λ place below. declared-window _ place (start .pre .0) (omega arith) .length-most)
+    (omega arith, count .pad-most, λ index below. declared-window _ index (start .pre .0) (omega arith) .length-most)
 
 padded-lengths-requires-2 : tie.Need-padded-lengths-requires-2
 padded-lengths-requires-2 c κs =
     let start = c .before .before .before in
     let count = counts _ (start .pre .0) in
-    (count .windows-most, count .pad-most, λ place below. declared-window _ place (start .pre .0) below .length-most)
+    (count .windows-most, count .pad-most, λ index below. declared-window _ index (start .pre .0) below .length-most)
 
 div-repeats : tie.Need-div-repeats
 div-repeats c = counts _ (c .before .before .before .before .pre .0) .windows-least

@@ -5,6 +5,7 @@ use native.Mathlib.Nat.{mul-le-mul}
 use native.Mathlib.Omega.{arith}
 use borrow.Author.Needs.{needs}
 use Rattle.plan.specs.Windows.{windowsTotal}
+use Rattle.plan.specs.Limits.{mostRun, mostWindows}
 use Rattle.plan.proofs.timing.windows_total.Statement.{statement}
 use Rattle.plan.proofs.timing.windows_total.Tie as tie
 
@@ -17,7 +18,7 @@ cast-windows c = search needs
 mul-result : tie.Need-mul-result
 mul-result c =
     let pre = c .before .before .pre in
-    let most : c .before .before .args .plan .run * c .before .before .args .plan .windows ≤ 1_000 * 32 = mul-le-mul (pre .0) (pre .1) in
+    let most : c .before .before .args .plan .run * c .before .before .args .plan .windows ≤ mostRun * mostWindows = mul-le-mul (pre .0) (pre .1) in
     omega arith
 
 returns : tie.Need-returns

@@ -4,6 +4,7 @@ use native.Mathlib.Omega.{arith}
 use borrow.Author.Needs.{needs}
 use borrow.Author.Tests.{not-false, not-true}
 use Rattle.plan.specs.Validity.{declaredValid}
+use Rattle.plan.specs.Limits.{leastShare, mostShare}
 use Rattle.plan.proofs.Bits.{one-shifted}
 use Rattle.plan.proofs.ValidPlans.{limits}
 use Rattle.plan.proofs.validity.declared_valid.Statement.{statement}
@@ -29,7 +30,7 @@ unfolding declaredValid
 returns c = let outside = sym (c .before .is-within .ensures) ∙ not-true _ (c .if1 .taken) in rw outside refl
 
 colours-of-requires : tie.Need-colours-of-requires
-colours-of-requires c κs = limits 1 1_000 _ (sym (c .before .is-within .ensures) ∙ not-false _ (c .if1 .left)) .1
+colours-of-requires c κs = limits leastShare mostShare _ (sym (c .before .is-within .ensures) ∙ not-false _ (c .if1 .left)) .1
 
 cast-has-bit : tie.Need-cast-has-bit
 cast-has-bit c = search needs

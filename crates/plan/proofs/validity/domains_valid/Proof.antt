@@ -6,15 +6,16 @@ use native.Mathlib.Omega.{arith}
 use borrow.Author.Tests.{not-false, not-true}
 use Rattle.plan.specs.Validity.{domainValid}
 use Rattle.plan.specs.Sums.{allBelow}
+use Rattle.plan.specs.Limits.{mostDomains}
 use Rattle.plan.proofs.Sums.{all-below-fails, all-below-more}
 use Rattle.plan.proofs.validity.domains_valid.Statement.{statement}
 use Rattle.plan.proofs.validity.domains_valid.Tie as tie
 
 abbrev Inv-loop : tie.InvT-loop
-Inv-loop plan domain₀ domain = (domain ≤ 8) × (allBelow (domainValid plan) domain ≡ true)
+Inv-loop plan domain₀ domain = (domain ≤ mostDomains) × (allBelow (domainValid plan) domain ≡ true)
 
 abbrev μ-loop : tie.MeasureT-loop
-μ-loop plan domain₀ domain = 8 - domain
+μ-loop plan domain₀ domain = mostDomains - domain
 
 loop-holds : tie.Need-loop-holds Inv-loop μ-loop
 unfolding allBelow
@@ -24,7 +25,7 @@ domain-valid-requires : tie.Need-domain-valid-requires Inv-loop μ-loop
 domain-valid-requires c κs = (c .loop-test .taken, c .before .before .pre)
 
 returns : tie.Need-returns Inv-loop μ-loop
-returns c = all-below-fails _ 8 (c .before .before .before .loop .domain) (c .before .before .loop-test .taken) (sym (c .before .domain-valid .ensures) ∙ not-true _ (c .if1 .taken))
+returns c = all-below-fails _ mostDomains (c .before .before .before .loop .domain) (c .before .before .loop-test .taken) (sym (c .before .domain-valid .ensures) ∙ not-true _ (c .if1 .taken))
 
 add-domain : tie.Need-add-domain Inv-loop μ-loop
 add-domain c = omega arith
@@ -33,10 +34,14 @@ loop-less : tie.Need-loop-less Inv-loop μ-loop
 loop-less c = omega arith
 
 loop-again : tie.Need-loop-again Inv-loop μ-loop
-loop-again c = (omega (arith, c .before .before .loop-test), all-below-more _ (c .before .before .before .loop .domain) (c .before .before .before .loop .inv .1) (sym (c .before .domain-valid .ensures) ∙ not-false _ (c .if1 .left)))
+loop-again c =
+    let loop = c .before .before .before .loop in (
+      omega (arith, c .before .before .loop-test),
+      all-below-more _ (loop .domain) (loop .inv .1) (sym (c .before .domain-valid .ensures) ∙ not-false _ (c .if1 .left)),
+    )
 
 returns-2 : tie.Need-returns-2 Inv-loop μ-loop
-returns-2 c = let ended : c .before .loop .domain ≡ 8 = omega arith in sym (c .before .loop .inv .1) ∙ ap (allBelow _) ended
+returns-2 c = let ended : c .before .loop .domain ≡ mostDomains = omega arith in sym (c .before .loop .inv .1) ∙ ap (allBelow _) ended
 
 pub domains-valid-spec : {M : Type 1} → statement M
 domains-valid-spec =

@@ -7,6 +7,7 @@ use borrow.Author.Tests.{le-leb, lt-leb, not-false, not-true}
 use Rattle.plan.specs.Colours.{sharesTotal}
 use Rattle.plan.specs.Validity.{countsValid, domainValid, maskValid, planValid, windowValid}
 use Rattle.plan.specs.Sums.{allBelow}
+use Rattle.plan.specs.Limits.{mostDomains, mostShares, mostWindows}
 use Rattle.plan.proofs.ValidPlans.{counts-of, lengths-most, shares-most}
 use Rattle.plan.proofs.Shares.{colours-at-most}
 use Rattle.plan.proofs.validity.is_valid.Statement.{statement}
@@ -16,16 +17,16 @@ use Rattle.plan.proofs.validity.is_valid.Tie as tie
 counted : (c : tie.Else1) → countsValid (c .before .before .args .plan) ≡ true
 counted c = sym (c .before .counts-valid .ensures) ∙ not-false _ (c .if1 .left)
 
-placed : (c : tie.Else2) → allBelow (domainValid (c .before .before .before .before .args .plan)) 8 ≡ true
+placed : (c : tie.Else2) → allBelow (domainValid (c .before .before .before .before .args .plan)) mostDomains ≡ true
 placed c = sym (c .before .domains-valid .ensures) ∙ not-false _ (c .if2 .left)
 
-shared : (c : tie.Else3) → sharesTotal (c .before .before .before .before .before .before .args .plan) (c .before .before .before .before .before .before .args .plan .domains) ≤ 1_000
+shared : (c : tie.Else3) → sharesTotal (c .before .before .before .before .before .before .args .plan) (c .before .before .before .before .before .before .args .plan .domains) ≤ mostShares
 shared c = rw (c .before .shares-total .ensures) at (c .if3 .left)
 
-masked : (c : tie.Else4) → allBelow (maskValid (c .before .before .before .before .before .before .before .before .args .plan)) 8 ≡ true
+masked : (c : tie.Else4) → allBelow (maskValid (c .before .before .before .before .before .before .before .before .args .plan)) mostDomains ≡ true
 masked c = sym (c .before .masks-valid .ensures) ∙ not-false _ (c .if4 .left)
 
-windowed : (c : tie.Else5) → allBelow (windowValid (c .before .before .before .before .before .before .before .before .before .before .args .plan)) 32 ≡ true
+windowed : (c : tie.Else5) → allBelow (windowValid (c .before .before .before .before .before .before .before .before .before .before .args .plan)) mostWindows ≡ true
 windowed c = sym (c .before .windows-valid .ensures) ∙ not-false _ (c .if5 .left)
 
 counts-valid-requires : tie.Need-counts-valid-requires
@@ -53,15 +54,20 @@ returns-3 c =
 
 masks-valid-requires : tie.Need-masks-valid-requires
 masks-valid-requires c κs = (
-  counts-of _ (counted (c .before .before .before .before)) .domains-most,
-  shares-most _ (placed (c .before .before)),
+  (counts-of _ (counted (c .before .before .before .before)) .domains-most, shares-most _ (placed (c .before .before))),
   colours-at-most _ _ (shared c),
 )
 
 returns-4 : tie.Need-returns-4
 unfolding planValid
 returns-4 c =
-    rw (counted (c .before .before .before .before .before .before), placed (c .before .before .before .before), le-leb _ _ (shared (c .before .before)), sym (c .before .masks-valid .ensures) ∙ not-true _ (c .if4 .taken)) refl
+    rw (
+      counted (c .before .before .before .before .before .before),
+      placed (c .before .before .before .before),
+      le-leb _ _ (shared (c .before .before)),
+      sym (c .before .masks-valid .ensures) ∙ not-true _ (c .if4 .taken),
+    )
+    refl
 
 windows-valid-requires : tie.Need-windows-valid-requires
 windows-valid-requires c κs = search needs

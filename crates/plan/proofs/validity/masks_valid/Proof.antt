@@ -11,20 +11,21 @@ use Rattle.plan.specs.declared.Plan.{Plan}
 use Rattle.plan.specs.Colours.{maskFor, masksFrom}
 use Rattle.plan.specs.Validity.{maskValid}
 use Rattle.plan.specs.Sums.{allBelow}
+use Rattle.plan.specs.Limits.{mostDomains}
 use Rattle.plan.proofs.MaskLists.{mask-due}
 use Rattle.plan.proofs.Sums.{all-below, all-below-fails, all-below-more, below-all}
 use Rattle.plan.proofs.validity.masks_valid.Statement.{statement}
 use Rattle.plan.proofs.validity.masks_valid.Tie as tie
 
 -- the masks worked out are those due
-due : (masks : List ℕ) (plan : Plan) → masks ≡ masksFrom plan 8 0 → (domain : ℕ) → domain < 8 → getD masks domain 0 ≡ maskFor plan domain
+due : (masks : List ℕ) (plan : Plan) → masks ≡ masksFrom plan mostDomains 0 → (domain : ℕ) → domain < mostDomains → getD masks domain 0 ≡ maskFor plan domain
 due masks plan given domain below = ap (λ (those : List ℕ). getD those domain 0) given ∙ mask-due plan domain below
 
 abbrev Inv-loop : tie.InvT-loop
-Inv-loop kept given domain₀ domain = (domain ≤ 8) × (allBelow (λ (place : ℕ). eqb (getD kept place 0) (getD given place 0)) domain ≡ true)
+Inv-loop kept given domain₀ domain = (domain ≤ mostDomains) × (allBelow (λ (index : ℕ). eqb (getD kept index 0) (getD given index 0)) domain ≡ true)
 
 abbrev μ-loop : tie.MeasureT-loop
-μ-loop kept given domain₀ domain = 8 - domain
+μ-loop kept given domain₀ domain = mostDomains - domain
 
 masks-of-requires : tie.Need-masks-of-requires Inv-loop μ-loop
 masks-of-requires c κs = c .before .pre
@@ -51,7 +52,7 @@ returns c =
     let loop = c .before .before .loop in
     let start = c .before .before .before .before .before in
     let given = due _ (start .args .plan) (c .before .before .before .masks-of .ensures) (loop .domain) (c .before .loop-test .taken) in
-    all-below-fails _ 8 (loop .domain) (c .before .loop-test .taken) (ne-eqb _ _ (λ same. c .if1 .taken (same ∙ sym given)))
+    all-below-fails _ mostDomains (loop .domain) (c .before .loop-test .taken) (ne-eqb _ _ (λ same. c .if1 .taken (same ∙ sym given)))
 
 add-domain : tie.Need-add-domain Inv-loop μ-loop
 add-domain c = omega arith
@@ -67,11 +68,11 @@ unfolding maskValid
 returns-2 c =
     let loop = c .before .loop in
     let start = c .before .before .before .before in
-    let ended : loop .domain ≡ 8 = omega arith in
+    let ended : loop .domain ≡ mostDomains = omega arith in
     let given = due _ (start .args .plan) (c .before .before .masks-of .ensures) in
-    sym (below-all (maskValid (start .args .plan)) 8 λ place below.
-    let same = eqb-true _ _ (all-below _ (loop .domain) place (loop .inv .1) (omega arith)) in
-    eq-eqb _ _ (same ∙ given place below))
+    sym (below-all (maskValid (start .args .plan)) mostDomains λ index below.
+    let same = eqb-true _ _ (all-below _ (loop .domain) index (loop .inv .1) (omega arith)) in
+    eq-eqb _ _ (same ∙ given index below))
 
 pub masks-valid-spec : {M : Type 1} → statement M
 masks-valid-spec =

@@ -1,4 +1,4 @@
--- `plan::validity::windows_valid` meets its contract. The loop's invariant: what was found so far is the test over the places passed.
+-- `plan::validity::windows_valid` meets its contract. The loop's invariant: what was found so far is the test over the indices passed.
 -- Assumes nothing.
 use mathlib.Core.Path.{_∙_, _≡_, ap, refl}
 use Prim.Native.Nat.{_-_, _≤_}
@@ -6,15 +6,16 @@ use native.Mathlib.Omega.{arith}
 use borrow.Author.Needs.{needs}
 use Rattle.plan.specs.Validity.{windowValid}
 use Rattle.plan.specs.Sums.{allBelow}
+use Rattle.plan.specs.Limits.{mostWindows}
 use Rattle.plan.proofs.Sums.{all-below-next}
 use Rattle.plan.proofs.validity.windows_valid.Statement.{statement}
 use Rattle.plan.proofs.validity.windows_valid.Tie as tie
 
 abbrev Inv-loop : tie.InvT-loop
-Inv-loop plan windows possible₀ slot₀ possible slot = (slot ≤ 32) × (possible ≡ allBelow (windowValid plan) slot)
+Inv-loop plan windows possible₀ slot₀ valid slot = (slot ≤ mostWindows) × (valid ≡ allBelow (windowValid plan) slot)
 
 abbrev μ-loop : tie.MeasureT-loop
-μ-loop plan windows possible₀ slot₀ possible slot = 32 - slot
+μ-loop plan windows possible₀ slot₀ valid slot = mostWindows - slot
 
 cast-windows : tie.Need-cast-windows Inv-loop μ-loop
 cast-windows c = search needs
@@ -50,7 +51,7 @@ loop-again c =
     (omega (arith, c .before .before .before .loop-test), all-below-next (windowValid _) (l .slot) _ _ (l .inv .1) (c .window-valid .ensures _ (l .slot) refl refl refl refl))
 
 returns : tie.Need-returns Inv-loop μ-loop
-returns c = let ended : c .before .loop .slot ≡ 32 = omega arith in c .before .loop .inv .1 ∙ ap (allBelow _) ended
+returns c = let ended : c .before .loop .slot ≡ mostWindows = omega arith in c .before .loop .inv .1 ∙ ap (allBelow _) ended
 
 pub windows-valid-spec : {M : Type 1} → statement M
 windows-valid-spec =

@@ -1,12 +1,12 @@
 -- `reader::drafting::plan_with_domain` meets its contract. Assumes nothing.
 use mathlib.Core.Path.{refl}
 use borrow.Author.Needs.{needs}
-use Rattle.reader.specs.Draft.{planWithDomain}
+use Rattle.plan.specs.Parts.{withDomain}
 use Rattle.reader.proofs.drafting.plan_with_domain.Statement.{statement}
 use Rattle.reader.proofs.drafting.plan_with_domain.Tie as tie
 
-cast-place : tie.Need-cast-place
-cast-place c = search needs
+cast-next : tie.Need-cast-next
+cast-next c = search needs
 
 mul-plan : tie.Need-mul-plan
 mul-plan c = search needs
@@ -24,14 +24,14 @@ add-plan : tie.Need-add-plan
 add-plan c = search needs
 
 returns : tie.Need-returns
-unfolding planWithDomain
+unfolding withDomain
 returns c = refl
 
 pub plan-with-domain-spec : {M : Type 1} → statement M
 plan-with-domain-spec =
     tie.close
     (tie.spec
-    cast-place
+    cast-next
     mul-plan
     element-write-plan
     mul-plan-2

@@ -1,12 +1,12 @@
 -- `reader::drafting::plan_with_window` meets its contract. Assumes nothing.
 use mathlib.Core.Path.{refl}
 use borrow.Author.Needs.{needs}
-use Rattle.reader.specs.Draft.{planWithWindow}
+use Rattle.plan.specs.Parts.{withWindow}
 use Rattle.reader.proofs.drafting.plan_with_window.Statement.{statement}
 use Rattle.reader.proofs.drafting.plan_with_window.Tie as tie
 
-cast-place : tie.Need-cast-place
-cast-place c = search needs
+cast-next : tie.Need-cast-next
+cast-next c = search needs
 
 mul-plan : tie.Need-mul-plan
 mul-plan c = search needs
@@ -24,14 +24,14 @@ add-plan : tie.Need-add-plan
 add-plan c = search needs
 
 returns : tie.Need-returns
-unfolding planWithWindow
+unfolding withWindow
 returns c = refl
 
 pub plan-with-window-spec : {M : Type 1} → statement M
 plan-with-window-spec =
     tie.close
     (tie.spec
-    cast-place
+    cast-next
     mul-plan
     element-write-plan
     mul-plan-2

@@ -9,7 +9,7 @@ plan-with-domain-requires c κs = search needs
 
 returns : tie.Need-returns
 unfolding takeDomain
-returns c store = simp (← (c .before .plan-with-domain .ensures))
+returns c = simp (← (c .before .plan-with-domain .ensures))
 
 pub take-domain-spec : {M : Type 1} → statement M
 take-domain-spec = tie.close (tie.spec plan-with-domain-requires returns)

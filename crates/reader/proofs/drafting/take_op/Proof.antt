@@ -8,11 +8,11 @@ use Rattle.reader.proofs.drafting.take_op.Tie as tie
 cast-domain : tie.Need-cast-domain
 cast-domain c = search needs
 
-mul-place : tie.Need-mul-place
-mul-place c = search needs
+mul-index : tie.Need-mul-index
+mul-index c = search needs
 
-array-read-place : tie.Need-array-read-place
-array-read-place c = search needs
+array-read-index : tie.Need-array-read-index
+array-read-index c = search needs
 
 returns : tie.Need-returns
 unfolding takeOp
@@ -51,8 +51,8 @@ take-op-spec =
     tie.close
     (tie.spec
     cast-domain
-    mul-place
-    array-read-place
+    mul-index
+    array-read-index
     returns
     stored-requires
     mul-store

@@ -7,7 +7,7 @@ use Rattle.reader.proofs.drafting.take_window.Tie as tie
 
 returns : tie.Need-returns
 unfolding takeWindow
-returns c store = simp (le-leb _ _ (c .if1 .taken))
+returns c = simp (le-leb _ _ (c .if1 .taken))
 
 plan-with-window-requires : tie.Need-plan-with-window-requires
 plan-with-window-requires c κs = search needs
@@ -17,7 +17,7 @@ with-plan-requires c κs = tt
 
 returns-2 : tie.Need-returns-2
 unfolding takeWindow
-returns-2 c store = simp (lt-leb _ _ (c .before .before .if1 .left), ← (c .before .plan-with-window .ensures), ← (c .with-plan .ensures))
+returns-2 c = simp (lt-leb _ _ (c .before .before .if1 .left), ← (c .before .plan-with-window .ensures), ← (c .with-plan .ensures))
 
 pub take-window-spec : {M : Type 1} → statement M
 take-window-spec =

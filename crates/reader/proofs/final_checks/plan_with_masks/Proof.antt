@@ -1,6 +1,8 @@
 -- `reader::final_checks::plan_with_masks` meets its contract. Assumes nothing.
+use mathlib.Core.Path.{ap}
 use borrow.Author.Needs.{needs}
-use Rattle.reader.proofs.LastChecks.{masked}
+use Rattle.plan.specs.Parts.{withMasks}
+use Rattle.reader.specs.Final.{planWithMasks}
 use Rattle.reader.proofs.final_checks.plan_with_masks.Statement.{statement}
 use Rattle.reader.proofs.final_checks.plan_with_masks.Tie as tie
 
@@ -8,7 +10,8 @@ masks-of-requires : tie.Need-masks-of-requires
 masks-of-requires c κs = search needs
 
 returns : tie.Need-returns
-returns c = masked _ _ (c .masks-of .ensures)
+unfolding planWithMasks withMasks
+returns c = ap (withMasks (c .before .args .plan)) (c .masks-of .ensures)
 
 pub plan-with-masks-spec : {M : Type 1} → statement M
 plan-with-masks-spec = tie.close (tie.spec masks-of-requires returns)

@@ -26,31 +26,49 @@ line-at-requires : tie.Need-line-at-requires Inv-loop μ-loop
 line-at-requires c κs = tt
 
 take-line-requires : tie.Need-take-line-requires Inv-loop μ-loop
-take-line-requires c κs = (turn-domain _ _ _ _ _ (c .before .before .before .before .loop .inv) (c .before .before .before .loop-test .taken) _ (c .before .line-at .ensures), turn-op _ _ _ _ _ (c .before .before .before .before .loop .inv) (c .before .before .before .loop-test .taken) _ (c .before .line-at .ensures))
+take-line-requires c κs =
+    let turn = c .before .before .before in
+    let left = turn .before .loop .inv in (
+      turn-domain _ _ _ _ _ left (turn .loop-test .taken) _ (c .before .line-at .ensures),
+      turn-op _ _ _ _ _ left (turn .loop-test .taken) _ (c .before .line-at .ensures),
+    )
 
 enum-told : tie.Need-enum-told Inv-loop μ-loop
 enum-told c = search needs
 
 returns : tie.Need-returns Inv-loop μ-loop
 returns c =
-    let taken = c .before .before .take-line in
-    turn-refused _ _ _ _ _ (c .before .before .before .before .before .before .before .loop .inv) (c .before .before .before .before .before .before .loop-test .taken) _ (c .before .before .before .before .line-at .ensures) (taken .result .verdict) (taken .result .draft) (taken .last .1 .1 .0) (taken .ensures) _ (c .enum-told .given .1)
+    let taken = c .before .before in
+    let turn = taken .before .before .before .before in
+    turn-refused _ _ _ _ _ (turn .before .loop .inv) (turn .loop-test .taken) _ (taken .before .before .line-at .ensures)
+    (taken .take-line .result) _ (taken .take-line .ensures) _ (c .enum-told .given .1)
 
 enum-told-2 : tie.Need-enum-told-2 Inv-loop μ-loop
 enum-told-2 c = search needs
 
 add-at : tie.Need-add-at Inv-loop μ-loop
-add-at c = omega (arith, turn-within _ _ _ _ _ (c .before .before .before .before .before .before .before .before .before .loop .inv) (c .before .before .before .before .before .before .before .before .loop-test .taken) _ (c .before .before .before .before .before .before .line-at .ensures))
+add-at c =
+    let taken = c .before .before .before .before in
+    let turn = taken .before .before .before .before in
+    omega (arith, turn-within _ _ _ _ _ (turn .before .loop .inv) (turn .loop-test .taken) _ (taken .before .before .line-at .ensures))
 
 loop-less : tie.Need-loop-less Inv-loop μ-loop
 loop-less c =
-    let taken = c .before .before .before .before .take-line in
-    omega (arith, c .before .before .before .before .before .before .before .before .loop-test .taken, turn-reach _ _ _ _ _ (c .before .before .before .before .before .before .before .before .before .loop .inv) (c .before .before .before .before .before .before .before .before .loop-test .taken) _ (c .before .before .before .before .before .before .line-at .ensures) (taken .result .verdict) (taken .result .draft) (taken .last .1 .1 .0) (taken .ensures) (c .before .before .enum-told2 .given .1))
+    let taken = c .before .before .before .before in
+    let turn = taken .before .before .before .before in
+    omega (
+      arith,
+      turn .loop-test .taken,
+      turn-reach _ _ _ _ _ (turn .before .loop .inv) (turn .loop-test .taken) _ (taken .before .before .line-at .ensures)
+          (taken .take-line .result) _ (taken .take-line .ensures) (c .before .before .enum-told2 .given .1),
+    )
 
 loop-again : tie.Need-loop-again Inv-loop μ-loop
 loop-again c =
-    let taken = c .before .before .before .before .take-line in
-    turn-next _ _ _ _ _ (c .before .before .before .before .before .before .before .before .before .loop .inv) (c .before .before .before .before .before .before .before .before .loop-test .taken) _ (c .before .before .before .before .before .before .line-at .ensures) (taken .result .verdict) (taken .result .draft) (taken .last .1 .1 .0) (taken .ensures) (c .before .before .enum-told2 .given .1)
+    let taken = c .before .before .before .before in
+    let turn = taken .before .before .before .before in
+    turn-next _ _ _ _ _ (turn .before .loop .inv) (turn .loop-test .taken) _ (taken .before .before .line-at .ensures)
+    (taken .take-line .result) _ (taken .take-line .ensures) (c .before .before .enum-told2 .given .1)
 
 returns-2 : tie.Need-returns-2 Inv-loop μ-loop
 returns-2 c = lines-end _ _ _ _ _ (c .before .loop .inv) (c .loop-test .left)
