@@ -35,16 +35,9 @@ use Rattle.engine.specs.declared.Ending.the-variants.{Stopped}
 use Rattle.engine.specs.Running.{endingOf, ranFrom, runCallOf, runFrom}
 use Rattle.engine.specs.LogQuery.{logFrom, logOffsetOf, logQueryOf, offsetFrom}
 use Rattle.engine.specs.FreshStart.{freshFrom, freshStartOf}
-use Rattle.engine.specs.Checks.{freshVerdict, logVerdict, runVerdict, tablesFit, unless}
-
--- acceptance is no refusal
-pub not-refused : (refusal : Refusal) → Refused refusal ≡ Accepted → ⊥
-not-refused refusal same = let none : _≡_ {A = ℕ} 0 1 = cc in omega arith
-
--- a check that is passed was passed, and so was what comes after it
-pub unless-passed : (test : Bool) (refusal : Refusal) (rest : Verdict) → unless test refusal rest ≡ Accepted → (test ≡ true) × (rest ≡ Accepted)
-unless-passed true refusal rest passed = (refl, passed)
-unless-passed false refusal rest passed = absurd (not-refused refusal passed)
+use Rattle.engine.specs.Checks.{freshVerdict, logVerdict, runVerdict, tablesFit}
+use Rattle.refusal.specs.Checks.{unless}
+use Rattle.refusal.proofs.Passed.{unless-passed}
 
 -- what a fresh start took
 pub record FreshAccepted (plan : Plan) (cache boxes : List ℕ) : Type 0 where

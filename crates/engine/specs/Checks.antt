@@ -1,7 +1,8 @@
--- Document 01, "The plan text": the refusals of the entry points that work on a plan value: lengths (11), plan validity (12),
--- table validity (13), state validity (14), in this order, each where the call takes that thing. Assumes nothing.
+-- Document 01, "The plan text": the refusals of the entry points that work on a plan value: lengths
+-- (11), plan validity (12), table validity (13), state validity (14), in this order, each where the
+-- call takes that thing. Assumes nothing.
 use Prim.Native.Nat.{ℕ}
-use mathlib.Core.Bool.{Bool, true, false, _&&_}
+use mathlib.Core.Bool.{Bool, _&&_}
 use mathlib.Core.List.{List}
 use lib.Dec.{eqb, ltb}
 use lib.ListN.{length}
@@ -15,23 +16,21 @@ use Rattle.state.specs.declared.State.{State}
 use Rattle.state.specs.TableValidity.{tablesValid}
 use Rattle.state.specs.StateValidity.{stateValid}
 use Rattle.state.specs.World.{World}
-use Rattle.refusal.specs.declared.Refusal.{Refusal}
 use Rattle.refusal.specs.declared.Refusal.the-variants.{DamagedTable, ImpossiblePlan, ImpossibleState, WrongDomain, WrongLength}
 use Rattle.refusal.specs.declared.Verdict.{Verdict}
-use Rattle.refusal.specs.declared.Verdict.the-variants.{Accepted, Refused}
+use Rattle.refusal.specs.declared.Verdict.the-variants.{Accepted}
+use Rattle.refusal.specs.Checks.{unless}
 
 -- 11: the cache table and the boxes have their lengths
 abbrev pub tablesFit : List ℕ → List ℕ → Bool
 tablesFit cache boxes = eqb (length cache) tableLength && eqb (length boxes) boxesLength
 
--- one check, and what comes after it: an earlier refusal goes before a later one
-abbrev pub unless : Bool → Refusal → Verdict → Verdict
-unless true refusal rest = rest
-unless false refusal rest = Refused refusal
-
--- a fresh start: 11 and 12. What state, cache table and boxes hold is not looked at, since it is overwritten.
+-- a fresh start: 11 and 12. What state, cache table and boxes hold is not looked at, since it is
+-- overwritten.
 unfoldable pub freshVerdict : Plan → List ℕ → List ℕ → Verdict
-freshVerdict plan cache boxes = unless (tablesFit cache boxes) WrongLength (unless (planValid plan) ImpossiblePlan Accepted)
+freshVerdict plan cache boxes =
+    unless (tablesFit cache boxes) WrongLength
+    (unless (planValid plan) ImpossiblePlan Accepted)
 
 -- a step and a run take everything: 11, 12, 13, 14
 unfoldable pub runVerdict : Plan → List ℕ → World → Verdict

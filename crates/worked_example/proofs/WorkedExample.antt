@@ -23,7 +23,7 @@ use Rattle.engine.proofs.Computing.{computing}
 use Rattle.report.specs.Lines.{kindAndValue, seenLine, recordLines, domainLines, seenLines}
 use Rattle.report.specs.Lines.{pairLine, endLine, runLines, refusalLine}
 use Rattle.report.specs.Planrun.{ranLines, planrunOf}
-use Rattle.worked_example.specs.Example.{linesOf}
+use Rattle.worked_example.specs.Example.{textOf}
 use Rattle.worked_example.specs.WorkedExample.{WorkedExample, dirtyTable, firstWindowAt}
 use Rattle.worked_example.specs.WorkedExample.{foundBy, stepAt, tableAfter}
 
@@ -52,7 +52,7 @@ unfolding
 printing = 0
 
 pub worked-example : WorkedExample
-unfolding computing reading printing linesOf dirtyTable firstWindowAt foundBy stepAt tableAfter
+unfolding computing reading printing textOf dirtyTable firstWindowAt foundBy stepAt tableAfter
 worked-example =
     record {
       fullRun = refl;

@@ -21,7 +21,8 @@ use Rattle.refusal.specs.declared.Refusal.the-variants.{WrongLength, Impossible
 use Rattle.refusal.specs.declared.Verdict.{Verdict}
 use Rattle.refusal.specs.declared.Verdict.the-variants.{Accepted, Refused}
 use Rattle.engine.specs.LogQuery.{logStatusOf}
-use Rattle.engine.specs.Checks.{freshVerdict, logVerdict, runVerdict, tablesFit, unless}
+use Rattle.engine.specs.Checks.{freshVerdict, logVerdict, runVerdict, tablesFit}
+use Rattle.refusal.specs.Checks.{unless}
 use Rattle.machine.specs.Fresh.{freshWorld}
 use Rattle.engine.specs.FreshStart.{FreshOutcome, freshFrom, freshStartOf}
 use Rattle.engine.specs.Running.{ranFrom, runCallOf, runFrom}

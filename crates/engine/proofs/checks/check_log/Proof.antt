@@ -6,9 +6,6 @@ use Rattle.engine.specs.Checks.{logVerdict}
 use Rattle.engine.proofs.checks.check_log.Statement.{statement}
 use Rattle.engine.proofs.checks.check_log.Tie as tie
 
-is-valid-requires : tie.Need-is-valid-requires
-is-valid-requires c κs = search needs
-
 returns : tie.Need-returns
 unfolding logVerdict
 returns c = rw (sym (c .before .is-valid .ensures) ∙ not-true _ (c .if1 .taken), logVerdict) refl
@@ -51,4 +48,5 @@ returns-4 c =
 pub check-log-spec : {M : Type 1} → statement M
 check-log-spec =
     tie.close
-    (tie.spec is-valid-requires returns state-fits-requires returns-2 returns-3 returns-4)
+    (tie.spec
+    (λ c κs. search needs) returns state-fits-requires returns-2 returns-3 returns-4)

@@ -20,9 +20,6 @@ fit c = not-false _ (c .if1 .left)
 returns : tie.Need-returns
 returns c = run-wrong-length _ _ _ (not-true _ (c .if1 .taken))
 
-is-valid-requires : tie.Need-is-valid-requires
-is-valid-requires c κs = search needs
-
 returns-2 : tie.Need-returns-2
 returns-2 c =
     run-impossible _ _ _ (fit (c .before .before)) (sym (c .before .is-valid .ensures) ∙ not-true _ (c .if2 .taken))
@@ -76,11 +73,4 @@ pub check-run-spec : {M : Type 1} → statement M
 check-run-spec =
     tie.close
     (tie.spec
-    returns
-    is-valid-requires
-    returns-2
-    tables-valid-requires
-    returns-3
-    state-fits-requires
-    returns-4
-    returns-5)
+    returns (λ c κs. search needs) returns-2 tables-valid-requires returns-3 state-fits-requires returns-4 returns-5)

@@ -25,18 +25,6 @@ handed :
     ≤ length (now (c .before .before .before .before .before .args .log))
 handed c = rw (c .part-records .ensures (c .before .before .before .before .before .args .plan) refl) (log-within _ _ _ _ (lent (c .before)))
 
-check-log-requires : tie.Need-check-log-requires
-check-log-requires c κs = search needs
-
-enum-told : tie.Need-enum-told
-enum-told c = search needs
-
-slice-aggregate-result : tie.Need-slice-aggregate-result
-slice-aggregate-result c = search needs
-
-enum-told-2 : tie.Need-enum-told-2
-enum-told-2 c = search needs
-
 part-records-requires : tie.Need-part-records-requires
 part-records-requires c κs = let count = counts _ (lent c .possible) in (count .domains-least, count .domains-most)
 
@@ -46,9 +34,6 @@ mul-from c = omega (arith, handed c)
 mul-from-2 : tie.Need-mul-from-2
 mul-from-2 c = omega (arith, handed c)
 
-mul-to : tie.Need-mul-to
-mul-to c = search needs
-
 element-copy-out-to : tie.Need-element-copy-out-to
 element-copy-out-to c = omega (arith, lent (c .before) .declared, counts _ (lent (c .before) .possible) .domains-most)
 
@@ -57,12 +42,6 @@ mul-to-2 c = omega (arith, handed (c .before))
 
 add-to : tie.Need-add-to
 add-to c = omega (arith, handed (c .before))
-
-sub-result : tie.Need-sub-result
-sub-result c = search needs
-
-part-result-start : tie.Need-part-result-start
-part-result-start c = search needs
 
 part-result-end : tie.Need-part-result-end
 part-result-end c = omega (arith, handed (c .before))
@@ -82,19 +61,6 @@ pub log-of-spec : {M : Type 1} → statement M
 log-of-spec =
     tie.close
     (tie.spec
-    check-log-requires
-    enum-told
-    slice-aggregate-result
-    enum-told-2
-    part-records-requires
-    mul-from
-    mul-from-2
-    mul-to
-    element-copy-out-to
-    mul-to-2
-    add-to
-    sub-result
-    part-result-start
-    part-result-end
-    returns
-    returns-2)
+    (λ c κs. search needs) (λ c. search needs) (λ c. search needs) (λ c. search needs) part-records-requires
+    mul-from mul-from-2 (λ c. search needs) element-copy-out-to mul-to-2 add-to (λ c. search needs)
+    (λ c. search needs) part-result-end returns returns-2)

@@ -22,15 +22,6 @@ lent :
     (now (c .before .before .before .before .before .before .before .before .before .before .args .log)))
 lent c = run-accepted _ _ _ (sym (c .before .before .check-run .ensures) ∙ c .enum-told .given .1)
 
-check-run-requires : tie.Need-check-run-requires
-check-run-requires c κs = search needs
-
-enum-known-verdict : tie.Need-enum-known-verdict
-enum-known-verdict c = search needs
-
-enum-told : tie.Need-enum-told
-enum-told c = search needs
-
 part-records-requires : tie.Need-part-records-requires
 part-records-requires c κs = let count = counts _ (lent c .possible) in (count .domains-least, count .domains-most)
 
@@ -58,26 +49,8 @@ ending-of-requires c κs =
     (c .before .before .before .before .before .before .before .before .before .before .before .before) .possible) in
     (count .run-most, count .windows-most)
 
-same-length : tie.Need-same-length
-same-length c = search needs
-
-same-length-2 : tie.Need-same-length-2
-same-length-2 c = search needs
-
-same-length-3 : tie.Need-same-length-3
-same-length-3 c = search needs
-
 returns : tie.Need-returns
 returns c = run-refused _ _ _ _ _ (sym (c .before .verdict .given .1) ∙ c .before .before .before .check-run .ensures)
-
-same-length-4 : tie.Need-same-length-4
-same-length-4 c = search needs
-
-same-length-5 : tie.Need-same-length-5
-same-length-5 c = search needs
-
-same-length-6 : tie.Need-same-length-6
-same-length-6 c = search needs
 
 returns-2 : tie.Need-returns-2
 returns-2 c =
@@ -96,17 +69,6 @@ pub run-spec : {M : Type 1} → statement M
 run-spec =
     tie.close
     (tie.spec
-    check-run-requires
-    enum-known-verdict
-    enum-told
-    part-records-requires
-    run-steps-requires
-    ending-of-requires
-    same-length
-    same-length-2
-    same-length-3
-    returns
-    same-length-4
-    same-length-5
-    same-length-6
-    returns-2)
+    (λ c κs. search needs) (λ c. search needs) (λ c. search needs) part-records-requires run-steps-requires
+    ending-of-requires (λ c. search needs) (λ c. search needs) (λ c. search needs) returns (λ c. search needs)
+    (λ c. search needs) (λ c. search needs) returns-2)

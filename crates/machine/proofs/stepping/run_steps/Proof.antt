@@ -67,12 +67,6 @@ here c =
     (c .before .loop .inv .starts (more c .0))
     (kept .0 ∙ search (needs, good)) (kept .1 ∙ search (needs, good))
 
-cast-declared : tie.Need-cast-declared Inv-loop μ-loop
-cast-declared c = search needs
-
-cast-pad : tie.Need-cast-pad Inv-loop μ-loop
-cast-pad c = search needs
-
 windows-total-requires : tie.Need-windows-total-requires Inv-loop μ-loop
 windows-total-requires c κs =
     let count = counts _ (c .before .before .before .before .before .before .pre .0) in
@@ -226,15 +220,6 @@ loop-again c =
     (begins .end-is) (did .0) (did .1 _ _ begins refl)
     (turn .kept .1 .1 .1 .1 .1 .1 .0) (turn .kept .1 .1 .1 .1 .1 .1 .1 .0) (turn .kept .1 .1 .1 .1 .1 .1 .1 .1 .0)
 
-same-length : tie.Need-same-length Inv-loop μ-loop
-same-length c = c .before .loop .inv .cache-long
-
-same-length-2 : tie.Need-same-length-2 Inv-loop μ-loop
-same-length-2 c = c .before .loop .inv .boxes-long
-
-same-length-3 : tie.Need-same-length-3 Inv-loop μ-loop
-same-length-3 c = c .before .loop .inv .log-long
-
 returns : tie.Need-returns Inv-loop μ-loop
 returns c =
     going-done _ _ _ _ _ _ _ _ (c .before .loop .inv)
@@ -244,35 +229,9 @@ pub run-steps-spec : {M : Type 1} → statement M
 run-steps-spec =
     tie.close
     (tie.spec
-    Inv-loop
-    μ-loop
-    cast-declared
-    cast-pad
-    windows-total-requires
-    window-start-requires
-    loop-holds
-    rem-slot
-    mul-owner
-    element-copy-out-owner
-    cast-owner
-    mul-t31
-    element-copy-out-t34
-    cast-t30
-    add-t37
-    mul-t39
-    element-copy-out-t42
-    mul-t43
-    element-copy-out-t46
-    sub-run-turn
-    run-turn-requires
-    mul-present
-    element-write-present
-    mul-present-2
-    element-write-present-2
-    add-steps
-    loop-less
-    loop-again
-    same-length
-    same-length-2
-    same-length-3
-    returns)
+    Inv-loop μ-loop (λ c. search needs) (λ c. search needs) windows-total-requires window-start-requires loop-holds
+    rem-slot mul-owner element-copy-out-owner cast-owner mul-t31 element-copy-out-t34 cast-t30 add-t37 mul-t39
+    element-copy-out-t42 mul-t43 element-copy-out-t46 sub-run-turn run-turn-requires mul-present
+    element-write-present mul-present-2 element-write-present-2 add-steps loop-less loop-again
+    (λ c. c .before .loop .inv .cache-long) (λ c. c .before .loop .inv .boxes-long)
+    (λ c. c .before .loop .inv .log-long) returns)

@@ -7,18 +7,6 @@ use Rattle.machine.proofs.WholeTurns.{switch-runs, turn-stops, turn-swi
 use Rattle.machine.proofs.stepping.run_turn.Statement.{statement}
 use Rattle.machine.proofs.stepping.run_turn.Tie as tie
 
-run-window-requires : tie.Need-run-window-requires
-run-window-requires c κs = search needs
-
-same-length : tie.Need-same-length
-same-length c = search needs
-
-same-length-2 : tie.Need-same-length-2
-same-length-2 c = search needs
-
-same-length-3 : tie.Need-same-length-3
-same-length-3 c = search needs
-
 returns : tie.Need-returns
 returns c =
     let ran = c .before .before .before .before .before .before .before .before .run-window .ensures in (
@@ -56,15 +44,6 @@ add-t23 c =
           .before .before .before .before .before .before .before .before .before .pre .3,
     )
 
-same-length-4 : tie.Need-same-length-4
-same-length-4 c = search needs
-
-same-length-5 : tie.Need-same-length-5
-same-length-5 c = search needs
-
-same-length-6 : tie.Need-same-length-6
-same-length-6 c = search needs
-
 returns-2 : tie.Need-returns-2
 returns-2 c =
     let pre = c .before .before .before .before .before .before .before .before .before .before .before .before
@@ -83,15 +62,5 @@ pub run-turn-spec : {M : Type 1} → statement M
 run-turn-spec =
     tie.close
     (tie.spec
-    run-window-requires
-    same-length
-    same-length-2
-    same-length-3
-    returns
-    switch-requires
-    add-t22
-    add-t23
-    same-length-4
-    same-length-5
-    same-length-6
-    returns-2)
+    (λ c κs. search needs) (λ c. search needs) (λ c. search needs) (λ c. search needs) returns switch-requires
+    add-t22 add-t23 (λ c. search needs) (λ c. search needs) (λ c. search needs) returns-2)

@@ -26,12 +26,6 @@ next-step-requires c κs =
     let pre = c .before .before .before .before .before .before .pre in
     (omega (arith, ap (λ (t : Turn). t .owner) (c .before .loop .inv .moved), pre .0), pre .3)
 
-enum-known-next : tie.Need-enum-known-next Inv-loop μ-loop
-enum-known-next c = search needs
-
-enum-told : tie.Need-enum-told Inv-loop μ-loop
-enum-told c = search needs
-
 op-step-requires : tie.Need-op-step-requires Inv-loop μ-loop
 op-step-requires c κs =
     let pre = c .before .before .before .before .before .before .before .before .before .before .before .before
@@ -78,15 +72,6 @@ loop-again c =
     .before .before .before .loop-test .taken) chosen
     (did .ensures) (did .kept .1 .1 .1 .1 .0) (did .kept .1 .1 .1 .1 .1 .0) (did .kept .1 .1 .1 .1 .1 .1 .0)
 
-same-length : tie.Need-same-length Inv-loop μ-loop
-same-length c = c .before .loop .inv .cache-long
-
-same-length-2 : tie.Need-same-length-2 Inv-loop μ-loop
-same-length-2 c = c .before .loop .inv .boxes-long
-
-same-length-3 : tie.Need-same-length-3 Inv-loop μ-loop
-same-length-3 c = c .before .loop .inv .log-long
-
 returns : tie.Need-returns Inv-loop μ-loop
 returns c =
     let inv = c .before .loop .inv in (
@@ -99,15 +84,6 @@ returns c =
             (omega (arith, c .loop-test));
       },
     )
-
-same-length-4 : tie.Need-same-length-4 Inv-loop μ-loop
-same-length-4 c = c .before .before .before .before .loop .inv .cache-long
-
-same-length-5 : tie.Need-same-length-5 Inv-loop μ-loop
-same-length-5 c = c .before .before .before .before .loop .inv .boxes-long
-
-same-length-6 : tie.Need-same-length-6 Inv-loop μ-loop
-same-length-6 c = c .before .before .before .before .loop .inv .log-long
 
 returns-2 : tie.Need-returns-2 Inv-loop μ-loop
 returns-2 c =
@@ -128,21 +104,8 @@ pub run-window-spec : {M : Type 1} → statement M
 run-window-spec =
     tie.close
     (tie.spec
-    Inv-loop
-    μ-loop
-    loop-holds
-    next-step-requires
-    enum-known-next
-    enum-told
-    op-step-requires
-    add-steps
-    loop-less
-    loop-again
-    same-length
-    same-length-2
-    same-length-3
-    returns
-    same-length-4
-    same-length-5
-    same-length-6
-    returns-2)
+    Inv-loop μ-loop loop-holds next-step-requires (λ c. search needs) (λ c. search needs) op-step-requires add-steps
+    loop-less loop-again (λ c. c .before .loop .inv .cache-long) (λ c. c .before .loop .inv .boxes-long)
+    (λ c. c .before .loop .inv .log-long) returns (λ c. c .before .before .before .before .loop .inv .cache-long)
+    (λ c. c .before .before .before .before .loop .inv .boxes-long)
+    (λ c. c .before .before .before .before .loop .inv .log-long) returns-2)
