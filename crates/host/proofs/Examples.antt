@@ -178,7 +178,7 @@ unfolding computing
 comparable =
     record {
       plans = refl;
-      declared = omega arith;
+      declared = λ domain is. omega arith;
       scripts = scripts-agree (one .scripts) (other .scripts) refl;
       logs = refl;
       points = record { windows = refl; ops = λ within. refl };

@@ -3,31 +3,34 @@
 use Prim.Native.Nat.{ℕ, _+_, _<_, _≤_}
 use mathlib.Core.Bool.{true}
 use mathlib.Core.List.{List}
-use mathlib.Core.Path.{_≡_, sym, ap, subst, subst₂, _∙_}
+use mathlib.Core.Path.{_≡_, refl, sym, ap, subst, subst₂, _∙_}
 use native.Mathlib.Decide.{ℕ-discrete}
 use native.Mathlib.Omega.{arith}
 use lib.ListN.{getD, length}
+use borrow.Author.Tests.{eq-eqb, ne-eqb}
 use Rattle.plan.specs.Limits.{mostDomains}
 use Rattle.plan.specs.Validity.{planValid}
 use Rattle.plan.proofs.Windows.{domains-most}
 use Rattle.state.specs.World.{World, positionAt}
 use Rattle.machine.specs.Fresh.{freshWorld}
 use Rattle.reachable.proofs.Reached.{log-length}
+use Rattle.refusal.specs.declared.Code.{Code}
 use Rattle.refusal.specs.declared.Verdict.the-variants.{Accepted}
 use Rattle.engine.specs.LogQuery.{logQueryOf, logStatusOf}
-use Rattle.isolation.specs.Calls.{Admissible, leavesOf, pointOf, verdictAfter, verdictOf}
-use Rattle.isolation.specs.Points.{InWindowOf, opsOf, windowsAfter, worldAfter}
-use Rattle.isolation.specs.Statement.{BoxesAgree, Comparable, Correspond, Only, SameSeen, SameSets, StartedOnTime}
+use Rattle.isolation.specs.Calls.{Admissible, leavesOf, pointOf, refusedCode, verdictAfter, verdictOf}
+use Rattle.isolation.specs.Points.{InWindowOf, SameBoxesTo, opsOf, windowsAfter, worldAfter}
+use Rattle.isolation.specs.Statement.{BoxesAgree, ComparableFor, Correspond, EndsInWindowOf, Only, SameKernelSets}
+use Rattle.isolation.specs.Statement.{SameL1, SameSeen, SameSets, StartedOnTime}
 use Rattle.isolation.proofs.Isolation.{isolation}
 use Rattle.isolation.proofs.OneRun.{on-time, own-accepted, own-refused}
 use Rattle.isolation.proofs.OneRun.Leaves.{list-valid}
-use Rattle.pirkvezo.specs.Answers.{allFit, answerLength, verdictNumber}
-use Rattle.pirkvezo.specs.Numbers.{planOf, stateOf}
+use Rattle.pirkvezo.specs.Answers.{allFit, answerLength, verdictNumber, wrongLength}
+use Rattle.pirkvezo.specs.Numbers.{planOf, positionsOffset, stateOf}
 use Rattle.pirkvezo.proofs.Runs.{run-at}
 use Rattle.host.specs.Calls.{AllOwnArrays, Arrays, HostCall, HostList, IsHostList, answerHanded, arraysLeft}
-use Rattle.host.specs.Calls.{hostLogCall, hostPointOf, hostRunCall, hostStepCall, isRefusal, numberReturned}
-use Rattle.host.specs.Statement.{HostAdmissible, HostComparable, HostIsolation, HostSameSeen, HostWindowsOnTime}
-use Rattle.host.specs.Statement.{LogShown, runOfHost, shownAfter}
+use Rattle.host.specs.Calls.{hostLogCall, hostPointOf, hostRunCall, hostStepCall, numberReturned}
+use Rattle.host.specs.Statement.{HostAdmissible, HostComparableFor, HostEndsInWindowOf, HostIsolation}
+use Rattle.host.specs.Statement.{HostSameSeen, HostWindowsOnTime, LogShown, refusalNumber, runOfHost, shownAfter}
 use Rattle.host.proofs.Calls.{all-fit, as-own, asCall, meant, mirrors, refused-keeps, unfit-answer}
 use Rattle.host.proofs.Lists.{engine-is, engine-leaves, engine-point, engineList, host-leaves, plan-long}
 use Rattle.host.proofs.Lists.{state-long}
@@ -98,18 +101,38 @@ module _ (list : HostList) (is : IsHostList list) where
       returned-is call owned (admit .0)
       ∙ ap verdictNumber (own-accepted (engineList list) (engine-is list is) (asCall call) (as-own call) (admit .1))
 
+  -- the number of a refusal, where the answer's length is right and where it is not
+  refused-number :
+      (call : HostCall)
+      → length (answerHanded call) ≡ answerLength
+      → refusedCode (asCall call) .number ≡ refusalNumber call
+  refused-number (hostStepCall arrays) long = refl
+  refused-number (hostRunCall arrays limit) long = refl
+  refused-number (hostLogCall arrays domain) long = rw (eq-eqb (length (arrays .answer)) answerLength long) refl
+
+  unfit-number :
+      (call : HostCall)
+      → (length (answerHanded call) ≡ answerLength → ⊥)
+      → verdictNumber wrongLength ≡ refusalNumber call
+  unfit-number (hostStepCall arrays) differs = refl
+  unfit-number (hostRunCall arrays limit) differs = refl
+  unfit-number (hostLogCall arrays domain) differs = rw (ne-eqb (length (arrays .answer)) answerLength differs) refl
+
   host-refused :
-      (call : HostCall) → AllOwnArrays call → (HostAdmissible list call → ⊥) → isRefusal (returned call) ≡ true
+      (call : HostCall) → AllOwnArrays call → (HostAdmissible list call → ⊥) → returned call ≡ refusalNumber call
   host-refused call owned inadmissible = go (ℕ-discrete (length (answerHanded call)) answerLength)
     where
-      go : Dec (length (answerHanded call) ≡ answerLength) → isRefusal (returned call) ≡ true
+      go : Dec (length (answerHanded call) ≡ answerLength) → returned call ≡ refusalNumber call
       go (yes long) =
-          ap isRefusal (returned-is call owned long)
-          ∙ own-refused (engineList list) (engine-is list is) (asCall call) (as-own call)
-          (λ admissible. inadmissible (admitted call long admissible))
+          returned-is call owned long
+          ∙ ap (λ (code : Code). code .number)
+          (own-refused (engineList list) (engine-is list is) (asCall call) (as-own call)
+          (λ admissible. inadmissible (admitted call long admissible)))
+          ∙ refused-number call long
       go (no differs) =
           mirrors (list .plan) (list .scripts) held call owned .unfit
           (unfit-answer (list .plan) (held .state) (answerHanded call) differs)
+          ∙ unfit-number call differs
 
   -- ---- what is seen
 
@@ -128,15 +151,16 @@ module _ (list : HostList) (is : IsHostList list) where
   position-at :
       (domain : ℕ)
       → domain < planOf (list .plan) .domains
-      → positionAt (stateOf (held .state)) domain ≡ getD (held .state) (2 + domain) 0
+      → positionAt (stateOf (held .state)) domain ≡ getD (held .state) (positionsOffset + domain) 0
   unfolding stateOf
   position-at domain declared =
-      run-at (held .state) 2 mostDomains domain (omega (arith, domains-most (planOf (list .plan)) host-valid))
+      run-at (held .state) positionsOffset mostDomains domain
+      (omega (arith, domains-most (planOf (list .plan)) host-valid))
 
 -- ---- two lists
 
-module _ (observer : ℕ) (one other : HostList) (is : IsHostList one) (is′ : IsHostList other)
-    (c : HostComparable observer one other) where
+module _ (Named : ℕ → Type 0) (isNamed : (domain : ℕ) → Dec (Named domain)) (one other : HostList) (is : IsHostList one)
+    (is′ : IsHostList other) (c : HostComparableFor Named one other) (observer : ℕ) (named : Named observer) where
   -- a relation between points of the two runs, and one between worlds, from the engine's lists to the host's
   at-points :
       (Related : ℕ → ℕ → Type 0)
@@ -150,35 +174,30 @@ module _ (observer : ℕ) (one other : HostList) (is : IsHostList one) (is′ : 
       → Related (meant (arraysLeft one)) (meant (arraysLeft other))
   left Related = subst₂ Related (engine-leaves one is) (engine-leaves other is′)
 
-  comparable : Comparable observer (engineList one) (engineList other)
+  comparable : ComparableFor Named (engineList one) (engineList other)
   comparable =
       let point = sym (engine-point one is) in
       let point′ = sym (engine-point other is′) in
       record {
-        common =
-            record {
-              plans = ap planOf (c .plans);
-              declared = λ domain named. subst (λ (d : ℕ). d < planOf (one .plan) .domains) (sym named) (c .declared);
-              scripts = c .scripts;
-              logs = c .logs;
-              points =
-                  subst₂ (λ n n′. Correspond (Only observer) (runOfHost one) n (runOfHost other) n′) point point′
-                  (c .points);
-            };
-        boxes =
-            subst₂ (λ n n′. BoxesAgree (Only observer) (runOfHost one) n (runOfHost other) n′) point point′ (c .boxes);
+        common = record { plans = ap planOf (c .plans); declared = c .declared; scripts = c .scripts; logs = c .logs };
+        points = subst₂ (λ n n′. Correspond Named (runOfHost one) n (runOfHost other) n′) point point′ (c .points);
+        boxes = subst₂ (λ n n′. BoxesAgree Named (runOfHost one) n (runOfHost other) n′) point point′ (c .boxes);
       }
 
   seen : SameSeen observer (engineList one) (engineList other)
   seen =
-      isolation .isolated observer (engineList one) (engineList other) (engine-is one is) (engine-is other is′)
-      comparable
+      isolation .together Named isNamed (engineList one) (engineList other) (engine-is one is) (engine-is other is′)
+      comparable .each observer named
+
+  -- the observer's own window, from the host's list to the engine's
+  own-window : HostEndsInWindowOf (Only observer) one → EndsInWindowOf (Only observer) (engineList one)
+  own-window = subst (InWindowOf (Only observer) (runOfHost one)) (sym (engine-point one is))
 
   status : statusOn (one .plan) (arraysLeft one) observer ≡ Accepted
-  status = left (λ w w′. logStatusOf (planOf (one .plan)) (w .state) (w .log) observer ≡ Accepted) (seen .asked)
+  status = left (λ w w′. logStatusOf (planOf (one .plan)) (w .state) (w .log) observer ≡ Accepted) (seen .queried)
 
   status′ : statusOn (other .plan) (arraysLeft other) observer ≡ Accepted
-  status′ = left (λ w w′. logStatusOf (planOf (other .plan)) (w′ .state) (w′ .log) observer ≡ Accepted) (seen .asked′)
+  status′ = left (λ w w′. logStatusOf (planOf (other .plan)) (w′ .state) (w′ .log) observer ≡ Accepted) (seen .queried′)
 
   same-bytes : bytesOn (one .plan) (arraysLeft one) observer ≡ bytesOn (other .plan) (arraysLeft other) observer
   same-bytes =
@@ -188,8 +207,11 @@ module _ (observer : ℕ) (one other : HostList) (is : IsHostList one) (is′ : 
       ≡ logQueryOf (planOf (other .plan)) (w′ .state) (w′ .log) observer)
       (seen .log)
 
+  declared : observer < planOf (one .plan) .domains
+  declared = c .declared observer named
+
   declared′ : observer < planOf (other .plan) .domains
-  declared′ = subst (λ (plan : List ℕ). observer < planOf plan .domains) (c .plans) (c .declared)
+  declared′ = subst (λ (plan : List ℕ). observer < planOf plan .domains) (c .plans) declared
 
   host-isolated : HostSameSeen observer one other
   unfolding stateOf
@@ -205,7 +227,7 @@ module _ (observer : ℕ) (one other : HostList) (is : IsHostList one) (is′ : 
             ∙ (λ i. shownFrom (verdicts i) (planOf (c .plans i)) (c .logs i) (same-bytes i) observer)
             ∙ sym (shown-after other is′ observer answer′ long′);
         position =
-            sym (position-at one is observer (c .declared))
+            sym (position-at one is observer declared)
             ∙ left (λ w w′. positionAt (w .state) observer ≡ positionAt (w′ .state) observer) (seen .position)
             ∙ position-at other is′ observer declared′;
         sets = left (λ w w′. SameSets (planOf (one .plan)) observer (w .cache) (w′ .cache)) (seen .sets);
@@ -214,21 +236,31 @@ module _ (observer : ℕ) (one other : HostList) (is : IsHostList one) (is′ : 
             let before = subst (λ (w : World). window < w .state .windows) (sym (engine-leaves one is)) past in
             at-points (λ n n′. opsOf (runOfHost one) window n ≡ opsOf (runOfHost other) window n′)
             (seen .ops window before owner);
-        clock =
-            λ within.
-            left (λ w w′. w .state .clock ≡ w′ .state .clock)
-            (seen .clock (subst (InWindowOf (Only observer) (runOfHost one)) (sym (engine-point one is)) within));
+        clock = λ within. left (λ w w′. w .state .clock ≡ w′ .state .clock) (seen .clock (own-window within));
+        l1 = λ within. left (λ w w′. SameL1 (w .cache) (w′ .cache)) (seen .l1 (own-window within));
+        kernelSets =
+            λ within. left (λ w w′. SameKernelSets (w .cache) (w′ .cache)) (seen .kernelSets (own-window within));
+        boxes =
+            λ within sender known.
+            left (SameBoxesTo (Only observer)) (seen .boxes (own-window within)) sender observer known refl;
       }
 
 pub host-isolation : HostIsolation
 host-isolation =
     record {
       onTime = host-on-time;
-      isolated = host-isolated;
-      leaves = host-leaves;
-      accepted = host-accepted;
-      refused = host-refused;
-      unchanged = λ list is call. refused-keeps (list .plan) (list .scripts) call (arraysLeft list);
+      isolated =
+          λ observer one other is is′ c.
+          host-isolated (Only observer) (λ domain. ℕ-discrete domain observer) one other is is′ c observer refl;
+      together = host-isolated;
+      laws =
+          λ list is.
+          record {
+            leaves = host-leaves list is;
+            accepted = host-accepted list is;
+            refused = host-refused list is;
+            unchanged = λ call. refused-keeps (list .plan) (list .scripts) call (arraysLeft list);
+          };
       fromText = text-list;
       runOfText = text-run;
     }

@@ -1,5 +1,5 @@
 -- What a log query on arrays of the right lengths shows: the engine's answer in numbers, and the bytes of the log that
--- was asked for. Assumes nothing.
+-- was queried. Assumes nothing.
 use Prim.Native.Nat.{ℕ}
 use mathlib.Core.Bool.{true}
 use mathlib.Core.List.{List}
@@ -14,7 +14,7 @@ use Rattle.pirkvezo.specs.Answers.{allFit, answerLength, answerNumbers, answerO
 use Rattle.pirkvezo.specs.LogQuery.{hostLogWith, logAnswerOf, logDone, logOffset}
 use Rattle.pirkvezo.specs.Numbers.{planOf, stateOf}
 use Rattle.pirkvezo.proofs.Calls.{lengths}
-use Rattle.pirkvezo.proofs.LogQueries.{asked-bytes}
+use Rattle.pirkvezo.proofs.LogQueries.{query-bytes}
 use Rattle.host.specs.Calls.{Arrays}
 use Rattle.host.specs.Statement.{LogShown, logShown, shownBy}
 use Rattle.host.proofs.Calls.{query-is}
@@ -50,6 +50,6 @@ module _ (plan : List ℕ) (held : Arrays) (domain : ℕ) (answer : List ℕ)
   pub shown-is : logShown plan (held .state) (held .log) domain answer ≡ shown
   unfolding logShown logAnswerOf
   shown-is =
-      let bytes = asked-bytes (planOf plan) (stateOf (held .state)) (held .log) domain in
+      let bytes = query-bytes (planOf plan) (stateOf (held .state)) (held .log) domain in
       ap (shownBy (held .log)) (query-is plan held domain answer fit ∙ written)
       ∙ (λ i. record { number = shown .number; answer = shown .answer; bytes = bytes i })

@@ -3,21 +3,25 @@
 -- sees the same in the arrays, whatever its rivals' scripts hold, if each of its windows began with
 -- the same in the boxes addressed to it. Assumes nothing.
 use Prim.Native.Nat.{ℕ, _+_, _<_, _≤_}
-use mathlib.Core.Bool.{true}
+use mathlib.Core.Bool.{cond, true}
 use mathlib.Core.List.{List}
 use mathlib.Core.Path.{_≡_}
+use lib.Dec.{eqb}
 use lib.ListN.{getD, length}
 use Rattle.lists.specs.Part.{part}
+use Rattle.plan.specs.Limits.{mostDomains}
 use Rattle.plan.specs.Windows.{windowOwner}
 use Rattle.script.specs.Limits.{scriptsLength}
+use Rattle.ops.specs.Ops.{boxIndex}
 use Rattle.state.specs.World.{World}
 use Rattle.reader.specs.Read.{readOf}
 use Rattle.isolation.specs.Points.{FreshRun, InWindowOf, opsOf, windowsAfter, worldAfter}
-use Rattle.isolation.specs.Statement.{BoxesAgree, Correspond, Only, SameSets, ScriptsAgree}
-use Rattle.isolation.specs.Statement.{StartedOnTime}
+use Rattle.isolation.specs.Statement.{BoxesAgree, Correspond, Only, SameKernelSets, SameL1}
+use Rattle.isolation.specs.Statement.{SameSets, ScriptsAgree, StartedOnTime}
 use Rattle.pirkvezo.specs.Answers.{answerLength}
 use Rattle.pirkvezo.specs.LogQuery.{LogCall, hostLog}
-use Rattle.pirkvezo.specs.Numbers.{planOf, stateNumbers}
+use Rattle.pirkvezo.specs.Numbers.{clockOffset, completedOffset, planOf}
+use Rattle.pirkvezo.specs.Numbers.{positionsOffset, stateNumbers}
 use Rattle.host.specs.Calls.{AllOwnArrays, Arrays, HostCall, HostList, IsHostList, IsTextList}
 use Rattle.host.specs.Calls.{ReadArrays, afterHostCall, arraysLeft, hostLogCall, hostPointOf}
 use Rattle.host.specs.Calls.{hostRunCall, hostStepCall, isRefusal, numberReturned}
@@ -47,6 +51,13 @@ HostAdmissible list (hostRunCall arrays limit) =
 HostAdmissible list (hostLogCall arrays domain) =
     (length (arrays .answer) ≡ answerLength) × (domain < planOf (list .plan) .domains)
 
+-- the number with which any other is refused: 4 where it is only that the domain is not declared,
+-- and else 11
+abbrev pub refusalNumber : HostCall → ℕ
+refusalNumber (hostStepCall arrays) = 11
+refusalNumber (hostRunCall arrays limit) = 11
+refusalNumber (hostLogCall arrays domain) = cond (eqb (length (arrays .answer)) answerLength) 4 11
+
 -- ---- (A)
 
 -- each window so far started when the plan says
@@ -58,20 +69,22 @@ HostWindowsOnTime list =
 
 -- ---- (B): its premises
 
--- what two lists must have in common: the plan's numbers, the observer's script, the logs' length;
--- they end at corresponding points, and the boxes addressed to the observer were equal at the start
--- of each of its windows so far
-pub record HostComparable (observer : ℕ) (one other : HostList) : Type 0 where
+-- what two lists must have in common, over a predicate that names domains: the plan's numbers, the
+-- named domains' scripts, the logs' length; they end at corresponding points, and the boxes
+-- addressed to named domains were equal at the start of each of their windows so far
+pub record HostComparableFor (Named : ℕ → Type 0) (one other : HostList) : Type 0 where
   pub plans : one .plan ≡ other .plan
-  pub declared : observer < planOf (one .plan) .domains
-  pub scripts : ScriptsAgree (Only observer) (one .scripts) (other .scripts)
+  pub declared : (domain : ℕ) → Named domain → domain < planOf (one .plan) .domains
+  pub scripts : ScriptsAgree Named (one .scripts) (other .scripts)
   pub logs : length (one .log) ≡ length (other .log)
   pub points :
-      Correspond (Only observer) (runOfHost one) (hostPointOf one) (runOfHost other)
-      (hostPointOf other)
+      Correspond Named (runOfHost one) (hostPointOf one) (runOfHost other) (hostPointOf other)
   pub boxes :
-      BoxesAgree (Only observer) (runOfHost one) (hostPointOf one) (runOfHost other)
-      (hostPointOf other)
+      BoxesAgree Named (runOfHost one) (hostPointOf one) (runOfHost other) (hostPointOf other)
+
+-- the observer alone is named
+abbrev pub HostComparable : ℕ → HostList → HostList → Type 0
+HostComparable observer one other = HostComparableFor (Only observer) one other
 
 -- ---- (B): its conclusion
 
@@ -99,6 +112,10 @@ abbrev pub shownAfter : HostList → ℕ → List ℕ → LogShown
 shownAfter list domain answer =
     logShown (list .plan) (arraysLeft list .state) (arraysLeft list .log) domain answer
 
+-- a list ends in a window of a named domain
+abbrev pub HostEndsInWindowOf : (ℕ → Type 0) → HostList → Type 0
+HostEndsInWindowOf Named list = InWindowOf Named (runOfHost list) (hostPointOf list)
+
 -- what the observer sees is equal after two lists
 pub record HostSameSeen (observer : ℕ) (one other : HostList) : Type 0 where
   -- a query for its log, with any answer array of four numbers, returns 0 after both
@@ -117,29 +134,63 @@ pub record HostSameSeen (observer : ℕ) (one other : HostList) : Type 0 where
       → length answer ≡ answerLength
       → length answer′ ≡ answerLength
       → shownAfter one observer answer ≡ shownAfter other observer answer′
-  -- its script position: number 2 + its own of the state array
+  -- its script position
   pub position :
-      getD (arraysLeft one .state) (2 + observer) 0
-      ≡ getD (arraysLeft other .state) (2 + observer) 0
+      getD (arraysLeft one .state) (positionsOffset + observer) 0
+      ≡ getD (arraysLeft other .state) (positionsOffset + observer) 0
   -- its part of the partitioned cache, entry by entry
   pub sets :
       SameSets (planOf (one .plan)) observer (arraysLeft one .cache) (arraysLeft other .cache)
-  -- the number of ops in each window that it has completed: the state array begins with the windows
-  -- completed
+  -- the number of ops in each window that it has completed
   pub ops :
       (window : ℕ)
-      → window < getD (arraysLeft one .state) 0 0
+      → window < getD (arraysLeft one .state) completedOffset 0
       → windowOwner (planOf (one .plan)) window ≡ observer
       → opsOf (runOfHost one) window (hostPointOf one)
       ≡ opsOf (runOfHost other) window (hostPointOf other)
-  -- in its own window, the clocks: number 1 of the state array
+  -- in its own window: the clock, L1, the kernel's sets, and the boxes addressed to it
   pub clock :
-      InWindowOf (Only observer) (runOfHost one) (hostPointOf one)
-      → getD (arraysLeft one .state) 1 0 ≡ getD (arraysLeft other .state) 1 0
+      HostEndsInWindowOf (Only observer) one
+      → getD (arraysLeft one .state) clockOffset 0 ≡ getD (arraysLeft other .state) clockOffset 0
+  pub l1 :
+      HostEndsInWindowOf (Only observer) one
+      → SameL1 (arraysLeft one .cache) (arraysLeft other .cache)
+  pub kernelSets :
+      HostEndsInWindowOf (Only observer) one
+      → SameKernelSets (arraysLeft one .cache) (arraysLeft other .cache)
+  pub boxes :
+      HostEndsInWindowOf (Only observer) one
+      → (sender : ℕ)
+      → sender < mostDomains
+      → getD (arraysLeft one .boxes) (boxIndex sender observer) 0
+      ≡ getD (arraysLeft other .boxes) (boxIndex sender observer) 0
+
+-- ---- one list
+
+pub record HostListLaws (list : HostList) : Type 0 where
+  -- what it leaves in its arrays is what the machine's steps from a fresh start leave
+  pub leaves : arraysLeft list ≡ arraysOf (worldAfter (runOfHost list) (hostPointOf list))
+  -- one more call on its own arrays: if it is admissible it returns 0
+  pub accepted :
+      (call : HostCall)
+      → AllOwnArrays call
+      → HostAdmissible list call
+      → numberReturned (list .plan) (list .scripts) call (arraysLeft list) ≡ 0
+  -- and else it is refused, with 11 or with 4
+  pub refused :
+      (call : HostCall)
+      → AllOwnArrays call
+      → (HostAdmissible list call → ⊥)
+      → numberReturned (list .plan) (list .scripts) call (arraysLeft list) ≡ refusalNumber call
+  -- a refused call, whatever it was handed, leaves every array of the list's own as it was
+  pub unchanged :
+      (call : HostCall)
+      → isRefusal (numberReturned (list .plan) (list .scripts) call (arraysLeft list)) ≡ true
+      → afterHostCall (list .plan) (list .scripts) call (arraysLeft list) ≡ arraysLeft list
 
 -- ---- demand 3
 
-pub record HostIsolation : Type 0 where
+pub record HostIsolation : Type 1 where
   -- (A)
   pub onTime : (list : HostList) → IsHostList list → HostWindowsOnTime list
   -- (B)
@@ -149,34 +200,18 @@ pub record HostIsolation : Type 0 where
       → IsHostList other
       → HostComparable observer one other
       → HostSameSeen observer one other
-  -- what a list leaves in its arrays is what the machine's steps from a fresh start leave
-  pub leaves :
-      (list : HostList)
-      → IsHostList list
-      → arraysLeft list ≡ arraysOf (worldAfter (runOfHost list) (hostPointOf list))
-  -- one more call on the list's own arrays: if it is admissible it returns 0
-  pub accepted :
-      (list : HostList)
-      → IsHostList list
-      → (call : HostCall)
-      → AllOwnArrays call
-      → HostAdmissible list call
-      → numberReturned (list .plan) (list .scripts) call (arraysLeft list) ≡ 0
-  -- and else it is refused
-  pub refused :
-      (list : HostList)
-      → IsHostList list
-      → (call : HostCall)
-      → AllOwnArrays call
-      → (HostAdmissible list call → ⊥)
-      → isRefusal (numberReturned (list .plan) (list .scripts) call (arraysLeft list)) ≡ true
-  -- a refused call, whatever it was handed, leaves every array of the list's own as it was
-  pub unchanged :
-      (list : HostList)
-      → IsHostList list
-      → (call : HostCall)
-      → isRefusal (numberReturned (list .plan) (list .scripts) call (arraysLeft list)) ≡ true
-      → afterHostCall (list .plan) (list .scripts) call (arraysLeft list) ≡ arraysLeft list
+  -- (B) of any set of domains: each of its members sees the same
+  pub together :
+      (Named : ℕ → Type 0)
+      → ((domain : ℕ) → Dec (Named domain))
+      → (one other : HostList)
+      → IsHostList one
+      → IsHostList other
+      → HostComparableFor Named one other
+      → (member : ℕ)
+      → Named member
+      → HostSameSeen member one other
+  pub laws : (list : HostList) → IsHostList list → HostListLaws list
   -- a list from a text is such a list: its fresh start is never refused
   pub fromText : (arrays : ReadArrays) (list : HostList) → IsTextList arrays list → IsHostList list
   -- and its run is that of the plan and the script store that the text gives

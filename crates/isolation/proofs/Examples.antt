@@ -224,8 +224,8 @@ comparable =
             declared = λ domain is. omega arith;
             scripts = scripts-agree mine rivals rivals′ refl;
             logs = refl;
-            points = record { windows = refl; ops = λ within. refl };
           };
+      points = record { windows = refl; ops = λ within. refl };
       boxes = λ window at at′ room owner s soFar s′ soFar′. boxes-there window at at′ (observed window room owner) s s′;
     }
 
@@ -291,7 +291,12 @@ sends word =
     }
 
 pub boxes-needed :
-    ((observer : ℕ) (one other : CallList) → IsList one → IsList other → InCommon (Only observer) one other → SameSeen observer one other)
+    ((observer : ℕ) (one other : CallList)
+    → IsList one
+    → IsList other
+    → InCommon (Only observer) one other
+    → Correspond (Only observer) (runOfList one) (pointOf one) (runOfList other) (pointOf other)
+    → SameSeen observer one other)
     → ⊥
 unfolding computing
 boxes-needed claim =
@@ -304,8 +309,8 @@ boxes-needed claim =
       declared = λ domain is. omega arith;
       scripts = scripts-agree (script (Receive 1 ∷ [])) (rival (Send 0 77)) (rival (Send 0 78)) refl;
       logs = refl;
-      points = record { windows = refl; ops = λ within. refl };
     })
+    (record { windows = refl; ops = λ within. refl })
     in
     let word : _≡_ {A = ℕ} 77 78 = ap (λ (log : List ℕ). getD log 2 0) (same .log) in
     omega arith

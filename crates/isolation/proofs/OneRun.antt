@@ -9,5 +9,5 @@ pub mod Verdicts
 pub use Accepted.{queried, own-accepted, own-refused}
 pub use Calls.{refused-stays}
 pub use Leaves.{leaves}
-pub use OnTime.{on-time}
+pub use OnTime.{every-start, on-time}
 pub use Split.{split}

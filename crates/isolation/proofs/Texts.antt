@@ -31,13 +31,11 @@ accepted-list list is =
 narrower : {Narrow Kind : CallList → Type 0} → ((list : CallList) → Narrow list → Kind list) → IsolationOf Kind → IsolationOf Narrow
 narrower is i =
     record {
-      leaves = λ list n. i .leaves list (is list n);
-      accepted = λ list n. i .accepted list (is list n);
-      refused = λ list n. i .refused list (is list n);
-      unchanged = λ list n. i .unchanged list (is list n);
-      split = λ list n. i .split list (is list n);
       onTime = λ list n. i .onTime list (is list n);
       isolated = λ observer one other n n′. i .isolated observer one other (is one n) (is other n′);
+      together = λ Named isNamed one other n n′. i .together Named isNamed one other (is one n) (is other n′);
+      corresponding = λ Named isNamed one other n n′. i .corresponding Named isNamed one other (is one n) (is other n′);
+      lists = λ list n. i .lists list (is list n);
     }
 
 pub accepted-isolation : AcceptedIsolation

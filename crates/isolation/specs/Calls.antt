@@ -13,7 +13,8 @@ use Rattle.script.specs.Limits.{scriptsLength}
 use Rattle.state.specs.declared.State.{State}
 use Rattle.state.specs.World.{World}
 use Rattle.refusal.specs.declared.Verdict.{Verdict}
-use Rattle.refusal.specs.Code.{codeOf}
+use Rattle.refusal.specs.declared.Code.{Code}
+use Rattle.refusal.specs.Code.{codeOf, codeWith}
 use Rattle.engine.specs.LogQuery.{logStatusOf}
 use Rattle.engine.specs.FreshStart.{FreshOutcome, freshStartOf}
 use Rattle.engine.specs.Running.{RunOutcome, runCallOf, stepCallOf}
@@ -133,6 +134,14 @@ Admissible plan scripts (stepCall things) = length scripts ≡ scriptsLength
 Admissible plan scripts (runCall things limit) = length scripts ≡ scriptsLength
 Admissible plan scripts (logCall things domain) = domain < plan .domains
 Admissible plan scripts (logStatus things domain) = domain < plan .domains
+
+-- how a call on the list's own things is refused that is not admissible: the store's length is wrong,
+-- or the domain is not declared
+abbrev pub refusedCode : Call → Code
+refusedCode (stepCall things) = codeWith 11 0
+refusedCode (runCall things limit) = codeWith 11 0
+refusedCode (logCall things domain) = codeWith 4 0
+refusedCode (logStatus things domain) = codeWith 4 0
 
 module _ (plan : Plan) (scripts : List ℕ) where
   -- what the entry points answer, by their contracts' definitions: running, the single step, and

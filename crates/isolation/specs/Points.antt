@@ -7,8 +7,10 @@ use mathlib.Core.Path.{_≡_}
 use lib.Dec.{eqb, ltb}
 use lib.ListN.{getD}
 use Rattle.plan.specs.declared.Plan.{Plan}
-use Rattle.plan.specs.Limits.{mostDomains}
+use Rattle.plan.specs.Limits.{mostDomains, mostRunTicks}
+use Rattle.plan.specs.Sums.{sumTo}
 use Rattle.plan.specs.Windows.{windowOwner, windowsTotal}
+use Rattle.script.specs.Limits.{scriptsLength}
 use Rattle.ops.specs.Ops.{boxIndex}
 use Rattle.state.specs.World.{World}
 use Rattle.machine.specs.Fresh.{reachedWorld}
@@ -46,6 +48,19 @@ isOpOf run window count =
 unfoldable pub opsOf : FreshRun → ℕ → ℕ → ℕ
 opsOf run window zero = 0
 opsOf run window (suc count) = opsOf run window count + cond (isOpOf run window count) 1 0
+
+-- the ops of a domain's windows so far, all together
+abbrev pub opsFor : FreshRun → ℕ → ℕ → ℕ → ℕ
+opsFor run domain count window =
+    cond (eqb (windowOwner (run .plan) window) domain) (opsOf run window count) 0
+
+unfoldable pub opsOfDomain : FreshRun → ℕ → ℕ → ℕ
+opsOfDomain run domain count = sumTo (opsFor run domain count) (suc (windowsAfter run count))
+
+-- no run from a fresh start has more steps before its end: each is a window's switch, and a window
+-- takes a tick or more, or one of the ops of the script store
+abbrev pub mostSteps : ℕ
+mostSteps = mostRunTicks + scriptsLength
 
 -- after `count` steps a run is in a window of a domain that a predicate names
 pub record InWindowOf (Named : ℕ → Type 0) (run : FreshRun) (count : ℕ) : Type 0 where

@@ -16,5 +16,5 @@ pub record AcceptedList (list : CallList) : Type 0 where
   pub proper : Proper (list .plan) (list .scripts) (list .calls) (startWorld list)
 
 -- demand 3, whole, of accepted plans
-abbrev pub AcceptedIsolation : Type 0
+abbrev pub AcceptedIsolation : Type 1
 AcceptedIsolation = IsolationOf AcceptedList

@@ -12,6 +12,7 @@ use Rattle.records.specs.Records.{partRecords}
 use Rattle.state.specs.StateValidity.{stateValid}
 use Rattle.state.specs.World.{World}
 use Rattle.reachable.proofs.Reached.{log-length, state-valid}
+use Rattle.refusal.specs.Code.{codeOf}
 use Rattle.refusal.specs.declared.Refusal.the-variants.{WrongDomain}
 use Rattle.refusal.specs.declared.Verdict.the-variants.{Accepted, Refused}
 use Rattle.engine.specs.LogQuery.{logStatusOf}
@@ -21,7 +22,7 @@ use Rattle.engine.specs.Running.{stepCallOf}
 use Rattle.engine.proofs.FreshRuns.{reached-accepted}
 use Rattle.engine.proofs.Passing.{log-query-passes}
 use Rattle.isolation.specs.Calls.{Admissible, AllOwn, Call, CallList, IsList, LogThings, RunThings}
-use Rattle.isolation.specs.Calls.{isRefused, leavesOf, pointOf, verdictAfter, verdictOf}
+use Rattle.isolation.specs.Calls.{leavesOf, pointOf, refusedCode, verdictAfter, verdictOf}
 use Rattle.isolation.specs.Calls.{logAnswer, logCall, logStatus, runAnswer, runCall, stepAnswer, stepCall}
 use Rattle.isolation.specs.Points.{FreshRun, worldAfter}
 use Rattle.isolation.specs.Statement.{runOfList}
@@ -103,16 +104,19 @@ module _ (list : CallList) (is : IsList list) where
   own-accepted (logStatus things domain) owned declared =
       own-log-query (list .plan) (list .scripts) (leavesOf list) things domain owned ∙ queried domain declared
 
-  -- and any other is
-  pub own-refused : (call : Call) → AllOwn call → (Admissible (list .plan) (list .scripts) call → ⊥) → isRefused (verdictAfter list call) ≡ true
+  -- and any other is, with 11, 0 or with 4, 0
+  pub own-refused : (call : Call) → AllOwn call → (Admissible (list .plan) (list .scripts) call → ⊥)
+      → codeOf (verdictAfter list call) ≡ refusedCode call
   unfolding verdictOf
   own-refused (stepCall things) owned differs =
-      ap isRefused
-      (own-step (list .plan) (list .scripts) (leavesOf list) things owned ∙ wrong-store (list .plan) (list .scripts) (leavesOf list) differs)
+      ap codeOf
+      (own-step (list .plan) (list .scripts) (leavesOf list) things owned
+      ∙ wrong-store (list .plan) (list .scripts) (leavesOf list) differs)
   own-refused (runCall things limit) owned differs =
-      ap isRefused
-      (own-run (list .plan) (list .scripts) (leavesOf list) things limit owned ∙ wrong-store (list .plan) (list .scripts) (leavesOf list) differs)
+      ap codeOf
+      (own-run (list .plan) (list .scripts) (leavesOf list) things limit owned
+      ∙ wrong-store (list .plan) (list .scripts) (leavesOf list) differs)
   own-refused (logCall things domain) owned undeclared =
-      ap isRefused (own-log-query (list .plan) (list .scripts) (leavesOf list) things domain owned ∙ not-queried domain undeclared)
+      ap codeOf (own-log-query (list .plan) (list .scripts) (leavesOf list) things domain owned ∙ not-queried domain undeclared)
   own-refused (logStatus things domain) owned undeclared =
-      ap isRefused (own-log-query (list .plan) (list .scripts) (leavesOf list) things domain owned ∙ not-queried domain undeclared)
+      ap codeOf (own-log-query (list .plan) (list .scripts) (leavesOf list) things domain owned ∙ not-queried domain undeclared)

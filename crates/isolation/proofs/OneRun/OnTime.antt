@@ -9,16 +9,17 @@ use lib.Dec.{leb}
 use lib.ListN.{length}
 use borrow.Author.Tests.{leb-false, leb-true}
 use Rattle.plan.specs.Validity.{planValid}
-use Rattle.plan.specs.Windows.{windowStart}
+use Rattle.plan.specs.Windows.{windowStart, windowsTotal}
 use Rattle.plan.proofs.Sums.{last-or-earlier}
 use Rattle.records.specs.Records.{partRecords}
-use Rattle.state.specs.World.{freshState}
+use Rattle.state.specs.World.{endedOf, freshState}
 use Rattle.machine.specs.Steps.{runOf}
 use Rattle.machine.proofs.Runs.{steps-last}
 use Rattle.machine.proofs.Schedule.{NextStarts, NextWindow, Scheduled, scheduled, step-windows}
 use Rattle.machine.specs.Fresh.{freshWorld}
+use Rattle.reachable.proofs.Ending.{ends}
 use Rattle.isolation.specs.Calls.{CallList, IsList, pointOf}
-use Rattle.isolation.specs.Points.{FreshRun, windowsAfter, worldAfter}
+use Rattle.isolation.specs.Points.{FreshRun, mostSteps, windowsAfter, worldAfter}
 use Rattle.isolation.specs.Statement.{StartedOnTime, WindowsOnTime, runOfList}
 use Rattle.isolation.proofs.OneRun.Leaves.{list-valid}
 
@@ -27,6 +28,13 @@ module _ (run : FreshRun) (possible : planValid (run .plan) ≡ true) where
   pub scheduled-after : (count : ℕ) → Scheduled (run .plan) (worldAfter run count)
   unfolding worldAfter freshWorld
   scheduled-after count = scheduled (run .plan) (run .scripts) (partRecords (run .plan) (length (run .log))) count (run .log) possible
+
+  -- ended, the clock is where a next window would start
+  pub ended-clock : (count : ℕ) → windowsTotal (run .plan) ≤ windowsAfter run count
+      → worldAfter run count .state .clock ≡ windowStart (run .plan) (windowsAfter run count)
+  ended-clock count over =
+      let on-schedule = scheduled-after count in
+      on-schedule .ended (omega (arith, on-schedule .windows))
 
   -- a step stays in its window, or starts the next one
   pub next-window : (count : ℕ) → NextWindow (run .plan) (worldAfter run count) (worldAfter run (suc count))
@@ -85,7 +93,7 @@ module _ (run : FreshRun) (possible : planValid (run .plan) ≡ true) where
         onTime = next .exact ∙ ap (windowStart (run .plan)) (sym last);
       }
 
-  started : (count window : ℕ) → window ≤ windowsAfter run count → StartedOnTime run count window
+  pub started : (count window : ℕ) → window ≤ windowsAfter run count → StartedOnTime run count window
   started zero window soFar = first-starts window soFar
   started (suc count) window soFar = go (next-window count) (leb window (windowsAfter run count)) refl (started count window)
     where
@@ -99,6 +107,18 @@ module _ (run : FreshRun) (possible : planValid (run .plan) ≡ true) where
       go (inr next) false test earlier =
           let less = leb-false window (windowsAfter run count) test in
           next-starts count window next (omega (arith, next .windows))
+
+  -- every run ends
+  all-completed : windowsTotal (run .plan) ≤ windowsAfter run mostSteps
+  unfolding worldAfter endedOf
+  all-completed =
+      leb-true _ _
+      (ends (run .plan) (run .scripts) (partRecords (run .plan) (length (run .log))) possible mostSteps (run .log)
+      (omega arith))
+
+  -- so every window of the plan does start, and so does the end
+  pub every-start : (window : ℕ) → window ≤ windowsTotal (run .plan) → StartedOnTime run mostSteps window
+  every-start window below = started mostSteps window (le-trans below all-completed)
 
 -- (A): after a list, each window so far started on time
 pub on-time : (list : CallList) → IsList list → WindowsOnTime list

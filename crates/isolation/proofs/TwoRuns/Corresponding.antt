@@ -7,7 +7,8 @@ use native.Mathlib.Decide.{decLt}
 use native.Mathlib.Omega.{arith}
 use Rattle.plan.specs.declared.Plan.{Plan}
 use Rattle.plan.specs.Windows.{windowOwner, windowsTotal}
-use Rattle.isolation.specs.Points.{opsOf, windowsAfter, worldAfter}
+use Rattle.isolation.specs.Points.{InWindowOf, opsOf, windowsAfter, worldAfter}
+use Rattle.isolation.specs.Statement.{HasCorresponding, StartedOnTime}
 use Rattle.isolation.proofs.TwoRuns.Lockstep.{Comparing, LockedAt, lockstep, one, other}
 use Rattle.isolation.proofs.TwoRuns.OpCounts.{ops-in-all, ops-so-far}
 use Rattle.isolation.proofs.TwoRuns.Progress.{stays-ended}
@@ -94,3 +95,61 @@ module _ {plan : Plan} {Named Kept : ℕ → Type 0} {scripts scripts′ log log
     pub locked-here : windowsAfter (one c) count < windowsTotal plan → Named (windowOwner plan (windowsAfter (one c) count))
         → LockedAt c (windowOwner plan (windowsAfter (one c) count)) count count′
     locked-here = locked-now (windowsAfter (one c) count) refl (sym windows) from from′ ops
+
+-- every point of one run has a corresponding one in the other: in a named domain's window after as many of its ops, and in
+-- any other at the window's start
+module _ {plan : Plan} {Named Kept : ℕ → Type 0} {scripts scripts′ log log′ : List ℕ}
+    (c : Comparing plan Named Kept scripts scripts′ log log′) (count : ℕ) (given : (at : ℕ) → Given c count at)
+    {most : ℕ} (there : StartedOnTime (other c) most (windowsAfter (one c) count)) where
+  abbrev now : ℕ
+  now = windowsAfter (one c) count
+
+  abbrev start′ : ℕ
+  start′ = there .at
+
+  -- a named domain's own window, from its start in both runs
+  after-as-many : now < windowsTotal plan → Named (windowOwner plan now) → Began (one c) now count
+      → HasCorresponding Named (one c) count (other c)
+  after-as-many room named b =
+      let at = start′ + b .more in
+      let g = given at in
+      let soFar : b .at ≤ count = omega (arith, b .point) in
+      let soFar′ : start′ ≤ at = omega arith in
+      let within : windowsAfter (one c) (b .at + b .more) ≡ now = ap (windowsAfter (one c)) (sym (b .point)) in
+      let lock =
+      lockstep c now (b .at) start′ named (b .starts .reached)
+      (locked c now (b .at) start′ named (b .starts) (there .starts)
+      (ready c count at g now (b .at) start′ (b .starts) soFar (there .starts) soFar′)
+      (g .boxes now (b .at) start′ room named (b .starts) soFar (there .starts) soFar′))
+      (b .more) within
+      in
+      let windows = sym within ∙ lock .close .windows in
+      record {
+        at = at;
+        corresponds =
+            record {
+              windows = windows;
+              ops = λ w.
+                  ap (opsOf (one c) now) (b .point)
+                  ∙ ops-so-far (one c) (c .watched .possible) now (b .at) (b .starts) room (b .more) within
+                  ∙ sym (ops-so-far (other c) (c .watched .possible) now start′ (there .starts) room (b .more) (sym windows));
+            };
+      }
+
+  -- where no ops are counted, the window's start will do
+  at-start : (InWindowOf Named (one c) count → ⊥) → HasCorresponding Named (one c) count (other c)
+  at-start elsewhere =
+      record {
+        at = start′;
+        corresponds = record { windows = sym (there .starts .reached); ops = λ w. absurd (elsewhere w) };
+      }
+
+  pub reach : HasCorresponding Named (one c) count (other c)
+  reach = go (decLt now (windowsTotal plan)) (c .watched .isNamed (windowOwner plan now))
+    where
+      go : Dec (now < windowsTotal plan) → Dec (Named (windowOwner plan now)) → HasCorresponding Named (one c) count (other c)
+      go (yes room) (yes named) =
+          after-as-many room named
+          (began (one c) (c .watched .possible) count (given 0 .onTime) now count (omega arith) (omega arith))
+      go (yes room) (no unnamed) = at-start (λ w. unnamed (w .owner))
+      go (no over) d = at-start (λ w. over (w .notEnded))

@@ -5,7 +5,7 @@ use mathlib.Core.Path.{_≡_, refl, sym, ap, _∙_}
 use native.Mathlib.Nat.{add-sub-of-le, add-suc, add-zero}
 use native.Mathlib.Numerals.{add-one}
 use native.Mathlib.Omega.{arith}
-use borrow.Author.Tests.{eq-eqb, lt-ltb, ne-eqb}
+use borrow.Author.Tests.{eq-eqb, le-ltb, lt-ltb, ne-eqb}
 use lib.Dec.{eqb, ltb}
 use Rattle.plan.specs.Validity.{planValid}
 use Rattle.plan.specs.Windows.{windowsTotal}
@@ -22,12 +22,15 @@ not-still true true still e = rw e
 not-still true false still e = refl
 not-still false begun still e = refl
 
+not-room : (room begun still : Bool) → room ≡ false → _≡_ {A = ℕ} (cond (room && begun && still) 1 0) 0
+not-room room begun still e = rw e
+
 all-three : (room begun still : Bool) → room ≡ true → begun ≡ true → still ≡ true → _≡_ {A = ℕ} (cond (room && begun && still) 1 0) 1
 all-three room begun still e f g = rw (e, f, g)
 
 module _ (run : FreshRun) (possible : planValid (run .plan) ≡ true) (window : ℕ) where
   module _ (count : ℕ) where
-    before-or-after : (windowsAfter run count ≡ window → ⊥) → opsOf run window (suc count) ≡ opsOf run window count
+    pub before-or-after : (windowsAfter run count ≡ window → ⊥) → opsOf run window (suc count) ≡ opsOf run window count
     unfolding opsOf
     before-or-after other =
         ap (λ (n : ℕ). opsOf run window count + n)
@@ -35,7 +38,15 @@ module _ (run : FreshRun) (possible : planValid (run .plan) ≡ true) (window : 
         (ne-eqb (windowsAfter run count) window other))
         ∙ add-zero (opsOf run window count)
 
-    at-its-switch : (windowsAfter run (suc count) ≡ window → ⊥) → opsOf run window (suc count) ≡ opsOf run window count
+    pub past-the-last : windowsTotal (run .plan) ≤ window → opsOf run window (suc count) ≡ opsOf run window count
+    unfolding opsOf
+    past-the-last over =
+        ap (λ (n : ℕ). opsOf run window count + n)
+        (not-room (ltb window (windowsTotal (run .plan))) (eqb (windowsAfter run count) window) (eqb (windowsAfter run (suc count)) window)
+        (le-ltb window (windowsTotal (run .plan)) over))
+        ∙ add-zero (opsOf run window count)
+
+    pub at-its-switch : (windowsAfter run (suc count) ≡ window → ⊥) → opsOf run window (suc count) ≡ opsOf run window count
     unfolding opsOf
     at-its-switch other =
         ap (λ (n : ℕ). opsOf run window count + n)
@@ -43,7 +54,7 @@ module _ (run : FreshRun) (possible : planValid (run .plan) ≡ true) (window : 
         (ne-eqb (windowsAfter run (suc count)) window other))
         ∙ add-zero (opsOf run window count)
 
-    within-it : window < windowsTotal (run .plan) → windowsAfter run count ≡ window → windowsAfter run (suc count) ≡ window
+    pub within-it : window < windowsTotal (run .plan) → windowsAfter run count ≡ window → windowsAfter run (suc count) ≡ window
         → opsOf run window (suc count) ≡ suc (opsOf run window count)
     unfolding opsOf
     within-it inRun here there =
@@ -53,7 +64,7 @@ module _ (run : FreshRun) (possible : planValid (run .plan) ≡ true) (window : 
         (eq-eqb (windowsAfter run (suc count)) window there))
         ∙ add-one (opsOf run window count)
 
-  none-so-far : (count : ℕ) → ((earlier : ℕ) → earlier < count → windowsAfter run earlier < window) → opsOf run window count ≡ 0
+  pub none-so-far : (count : ℕ) → ((earlier : ℕ) → earlier < count → windowsAfter run earlier < window) → opsOf run window count ≡ 0
   unfolding opsOf
   none-so-far zero early = refl
   none-so-far (suc count) early =
