@@ -1,6 +1,7 @@
--- Examples that compute. Two lists of calls that may be compared and that have something to see: the rivals' ops differ, the observer gets a message in
--- each of its two windows, a running's limit ends inside the second, and a call that was handed some things of others is refused. And that demand 3 needs
--- what it assumes: without the premise on boxes it fails, and so it does with masks that overlap. Assumes nothing.
+-- Examples that compute. Two lists of calls that may be compared and that have something to see: the rivals' ops
+-- differ, the observer gets a message in each of its two windows, a running's limit ends inside the second, and a call
+-- that was handed some things of others is refused. And that demand 3 needs what it assumes: without the premise on
+-- boxes it fails, and so it does with masks that overlap. Assumes nothing.
 use Prim.Native.Nat.{ℕ, zero, suc, _+_, _-_, _*_, _≤_, _<_}
 use mathlib.Core.Bool.{Bool, true}
 use mathlib.Core.List.{List, [], _∷_, _++_, map}
@@ -23,7 +24,7 @@ use Rattle.plan.proofs.Sums.{all-below}
 use Rattle.cache.specs.Lines.{tableLength}
 use Rattle.ops.specs.Ops.{boxIndex, boxesLength}
 use Rattle.state.specs.declared.State.{State}
-use Rattle.state.specs.World.{World, positionAt}
+use Rattle.state.specs.World.{World, positionAt, recordsAt}
 use Rattle.engine.specs.LogQuery.{logQueryOf}
 use Rattle.engine.proofs.Computing as engine
 use Rattle.isolation.specs.Calls.{CallList, IsList, LogThings, Proper, RunThings, foreign, own}
@@ -31,7 +32,7 @@ use Rattle.isolation.specs.Calls.{logCall, logStatus, runCall, stepCall}
 use Rattle.isolation.specs.Calls.{afterCall, afterCalls, leavesOf, logAnswer, pointOf, runAnswer, startWorld, stepAnswer}
 use Rattle.isolation.specs.Calls.{isRefused, stepsCounted, stepsOfCalls, verdictOf}
 use Rattle.isolation.specs.Points.{FreshRun, InWindowOf, SameBoxesTo, Starts, opsOf, windowsAfter, worldAfter}
-use Rattle.isolation.specs.Statement.{BoxesAgree, Comparable, Correspond, InCommon, Only, SamePlan, SameSeen}
+use Rattle.isolation.specs.Statement.{BoxesAgree, Comparable, Correspond, InCommon, Only, SamePlan, SameSeen, StartedOnTime}
 use Rattle.isolation.specs.Statement.{ScriptsAgree, runOfList}
 use Rattle.isolation.proofs.Isolation.{isolation}
 use Rattle.isolation.proofs.TwoRuns.{Same}
@@ -40,7 +41,7 @@ use Rattle.isolation.proofs.TwoRuns.Progress.{no-fewer, one-start}
 -- ---- one plan and two script stores
 
 -- three domains; the observer is 0, and 1 may send to it; the windows 1, 0, 2 twice
-abbrev plan : Plan
+abbrev pub plan : Plan
 plan =
     record {
       pad = 276;
@@ -61,7 +62,8 @@ script ops = map storedOf ops ++ replicate (mostOps - length ops) 0
 abbrev mine : List ℕ
 mine = script (Receive 1 ∷ Read 3 ∷ Read 67 ∷ Receive 1 ∷ Read 3 ∷ Compute 7 ∷ Write 5 ∷ [])
 
--- in one run a rival sends two words; in the other it writes, and overwrites a word that it sent; and the third domain computes, or sends and reads
+-- in one run a rival sends two words; in the other it writes, and overwrites a word that it sent; and the third domain
+-- computes, or sends and reads
 abbrev rivals : List ℕ
 rivals =
     script (Send 0 77 ∷ Read 100 ∷ Send 0 88 ∷ [])
@@ -88,7 +90,7 @@ abbrev logThings : LogThings
 logThings = record { plan = own; state = own; log = own }
 
 -- the first list steps once, has a call on mixed things refused, runs on into the observer's second window, and asks
-abbrev one : CallList
+abbrev pub one : CallList
 one =
     record {
       plan = plan;
@@ -107,7 +109,7 @@ one =
     }
 
 -- the second asks between two runs; its run takes a step more to the same point
-abbrev other : CallList
+abbrev pub other : CallList
 other =
     record {
       plan = plan;
@@ -120,14 +122,14 @@ other =
     }
 
 -- every definition that the examples compute with, named once
-computing : ℕ
+unfoldable pub computing : ℕ
 unfolding
     engine.computing
     runAnswer stepAnswer logAnswer afterCall verdictOf stepsCounted afterCalls stepsOfCalls
     Proper startWorld worldAfter opsOf
 computing = 0
 
-one-is : IsList one
+pub one-is : IsList one
 unfolding computing
 one-is =
     record {
@@ -138,7 +140,7 @@ one-is =
       );
     }
 
-other-is : IsList other
+pub other-is : IsList other
 unfolding computing
 other-is =
     record { started = refl; proper = (inr (tt, tt, tt, tt, tt, tt), (inr (tt, tt, tt), (inr (tt, tt, tt, tt, tt, tt), tt))) }
@@ -247,13 +249,21 @@ pub mid-window :
 unfolding computing
 mid-window = (refl, refl, record { notEnded = omega arith; owner = refl }, refl)
 
+-- a host that stops both after 14 steps shows the observer five records of one run and four of the other: a limit on
+-- steps is no corresponding point
+pub fourteen-steps :
+    (recordsAt (worldAfter (runOfList one) 14 .state) 0 ≡ 5) × (recordsAt (worldAfter (runOfList other) 14 .state) 0 ≡ 4)
+unfolding computing
+fourteen-steps = (refl, refl)
+
 -- the call on mixed things was refused
 pub mixed-refused :
     isRefused (verdictOf plan (mine ++ rivals) (runCall mixedThings 9) (worldAfter (runOfList one) 1)) ≡ true
 unfolding computing
 mixed-refused = refl
 
--- the observer was sent 77 in its first window and 88 in its second: the kinds and values of its first and fourth records
+-- the observer was sent 77 in its first window and 88 in its second: the kinds and values of its first and fourth
+-- records
 pub received :
     (getD (handedBack one 0) 0 0 ≡ 5)
     × (getD (handedBack one 0) 2 0 ≡ 77)
@@ -376,4 +386,42 @@ masks-needed claim =
     ∙ sym (no-mail (reads (Compute 5)) refl at′ (boxIndex sender recipient) soFar′ (omega arith)))
     in
     let kind : _≡_ {A = ℕ} 2 3 = ap (λ (log : List ℕ). getD log 0 0) (same .log) in
+    omega arith
+
+-- ---- with a pad of 0 windows start late
+
+-- the plan above without its pad
+abbrev noPad : FreshRun
+noPad =
+    record {
+      plan =
+          record {
+            pad = 0;
+            run = plan .run;
+            domains = plan .domains;
+            windows = plan .windows;
+            shares = plan .shares;
+            rights = plan .rights;
+            owners = plan .owners;
+            lengths = plan .lengths;
+            masks = plan .masks;
+          };
+      scripts = replicate scriptsLength 0;
+      log = replicate 192 0;
+    }
+
+-- nobody has an op: the first step is the first window's switch
+first-switch : (earlier : ℕ) → earlier < 1 → windowsAfter noPad earlier < 1
+unfolding computing
+first-switch zero below = omega arith
+first-switch (suc earlier) below = absurd (omega arith)
+
+-- (A) fails: the two flushes take 8 ticks each, and the second window starts at 316 and not at 300
+pub pad-needed :
+    ((run : FreshRun) (count window : ℕ) → window ≤ windowsAfter run count → StartedOnTime run count window) → ⊥
+unfolding computing
+pad-needed claim =
+    let t = claim noPad 1 1 (omega arith) in
+    let at-first : t .at ≡ 1 = one-start noPad 1 (t .at) 1 (t .starts) (record { reached = refl; first = first-switch }) in
+    let late : _≡_ {A = ℕ} 316 300 = ap (λ (at : ℕ). worldAfter noPad at .state .clock) (sym at-first) ∙ t .onTime in
     omega arith

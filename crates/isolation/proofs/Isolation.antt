@@ -1,5 +1,5 @@
--- Demand 3, proved: what is said of one list of calls is put together, and (B) is brought from two runs of the machine to the two lists that they are
--- the runs of. Assumes nothing.
+-- Demand 3, proved: what is said of one list of calls is put together, and (B) is brought from two runs of the machine
+-- to the two lists that they are the runs of. Assumes nothing.
 use Prim.Native.Nat.{ℕ, _≤_, _<_}
 use mathlib.Core.List.{List}
 use mathlib.Core.Path.{_≡_, refl, sym, ap, subst, subst₂, _∙_}

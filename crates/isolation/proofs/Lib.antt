@@ -4,3 +4,4 @@ pub mod TwoRuns
 pub mod Isolation
 pub mod Examples
 pub mod Texts
+pub mod TextExample

@@ -1,5 +1,5 @@
--- One list of calls: what it leaves, which calls are refused after it, that a running after it may be split, and that its windows started on time.
--- Assumes nothing.
+-- One list of calls: what it leaves, which calls are refused after it, that a running after it may be split, and that
+-- its windows started on time. Assumes nothing.
 pub mod Accepted
 pub mod Calls
 pub mod Leaves

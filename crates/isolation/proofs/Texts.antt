@@ -1,5 +1,5 @@
--- Demand 3 of accepted plans, from demand 3 of plans that pass the check: a plan that some text gives passes it, so its fresh start is not refused.
--- Assumes nothing.
+-- Demand 3 of accepted plans, from demand 3 of plans that pass the check: a plan that some text gives passes it, so its
+-- fresh start is not refused. Assumes nothing.
 use mathlib.Core.Path.{_≡_, refl, ap}
 use mathlib.Core.Bool.{true}
 use borrow.Author.Tests.{eq-eqb}

@@ -1,8 +1,8 @@
--- Two runs at corresponding points, and domains that are named: what each of them sees is the same in both, whatever the
--- others' scripts hold, if their windows began with the same in the boxes addressed to them; and every point of one run has
--- a corresponding one in the other. Assumes nothing.
+-- Two runs at corresponding points, and domains that are named: what each of them sees is the same in both, whatever
+-- the others' scripts hold, if their windows began with the same in the boxes addressed to them; and every point of one
+-- run has a corresponding one in the other. Assumes nothing.
 pub mod Access
-pub mod Places
+pub mod Indices
 pub mod Relations
 pub mod Ops
 pub mod Flush
@@ -40,7 +40,7 @@ use Rattle.isolation.proofs.OneRun.OnTime.{ended-clock, every-start, sc
 use Corresponding.{locked-here, near-here, reach, same-ops}
 use Lockstep.{Comparing, LockedAt}
 use Log.{part-of-log}
-use Places.{kernel, l1, own-set}
+use Indices.{kernel, l1, own-set}
 use Ready.{BoxesKept, Given}
 use Relations.{same-position, same-records}
 use Windows.{runBy}

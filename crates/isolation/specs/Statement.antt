@@ -133,6 +133,10 @@ SameKernelSets one other =
 abbrev pub EndsInWindowOf : (ℕ → Type 0) → CallList → Type 0
 EndsInWindowOf Named list = InWindowOf Named (runOfList list) (pointOf list)
 
+-- two lists leave the clock at one tick
+abbrev pub SameClock : CallList → CallList → Type 0
+SameClock one other = leavesOf one .state .clock ≡ leavesOf other .state .clock
+
 -- what the observer sees is equal after two lists
 pub record SameSeen (observer : ℕ) (one other : CallList) : Type 0 where
   -- its log, every byte, as a log query hands it back; the query is refused after neither list
@@ -155,9 +159,7 @@ pub record SameSeen (observer : ℕ) (one other : CallList) : Type 0 where
       → windowOwner (one .plan) window ≡ observer
       → opsOf (runOfList one) window (pointOf one) ≡ opsOf (runOfList other) window (pointOf other)
   -- in its own window: the clock
-  pub clock :
-      EndsInWindowOf (Only observer) one
-      → leavesOf one .state .clock ≡ leavesOf other .state .clock
+  pub clock : EndsInWindowOf (Only observer) one → SameClock one other
   -- and, beyond the demand, all that its next op could meet: L1, the kernel's sets, and the boxes
   -- addressed to it
   pub l1 : EndsInWindowOf (Only observer) one → SameL1 (leavesOf one .cache) (leavesOf other .cache)
@@ -168,9 +170,7 @@ pub record SameSeen (observer : ℕ) (one other : CallList) : Type 0 where
       EndsInWindowOf (Only observer) one
       → SameBoxesTo (Only observer) (leavesOf one) (leavesOf other)
   -- of two ended runs: the clock
-  pub endedClock :
-      windowsTotal (one .plan) ≤ leavesOf one .state .windows
-      → leavesOf one .state .clock ≡ leavesOf other .state .clock
+  pub endedClock : windowsTotal (one .plan) ≤ leavesOf one .state .windows → SameClock one other
 
 -- what the domains of a set see is equal after two lists, also where they put it together: each sees
 -- the same, and in a window of one of them the boxes addressed to any of them are equal

@@ -1,5 +1,5 @@
--- Which calls on a list's own things are refused after it: a step or a run where the script store has not `scriptsLength`
--- numbers, a log query where the domain is not declared, and no other. Assumes nothing.
+-- Which calls on a list's own things are refused after it: a step or a run where the script store has not
+-- `scriptsLength` numbers, a log query where the domain is not declared, and no other. Assumes nothing.
 use Prim.Native.Nat.{ℕ, _<_}
 use mathlib.Core.Bool.{true}
 use mathlib.Core.List.{List}

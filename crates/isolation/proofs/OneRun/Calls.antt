@@ -1,4 +1,5 @@
--- One call on a list's own world: a refused call leaves it, and any other leaves as many steps as it asks for. Assumes nothing.
+-- One call on a list's own world: a refused call leaves it, and any other leaves as many steps as it asks for. Assumes
+-- nothing.
 use Prim.Native.Nat.{ℕ}
 use mathlib.Core.Bool.{Bool, true, false, cond, false≢true}
 use mathlib.Core.List.{List}

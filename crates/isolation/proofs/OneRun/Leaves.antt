@@ -1,4 +1,4 @@
--- What a list of calls leaves is so many steps of its fresh start, as many as its calls count. Assumes nothing.
+-- What a list of calls leaves is n steps of its fresh start, as many as its calls count. Assumes nothing.
 use Prim.Native.Nat.{ℕ, _+_}
 use mathlib.Core.Bool.{true}
 use mathlib.Core.List.{List, [], _∷_}

@@ -1,4 +1,5 @@
--- Running a + b steps after a list is running a steps, then b: the same answer, the same world, and the steps done add up. Assumes nothing.
+-- Running a + b steps after a list is running a steps, then b: the same answer, the same world, and the steps done add
+-- up. Assumes nothing.
 use Prim.Native.Nat.{ℕ, _+_}
 use mathlib.Core.Bool.{true}
 use mathlib.Core.List.{List}
@@ -66,7 +67,7 @@ module _ (plan : Plan) (scripts : List ℕ) where
         ∙ ap (ranFrom plan) (run-add plan scripts quota first second world)
         ∙ sym (ap (λ (r : RunOutcome). after (r .steps) (runCallOf plan scripts (r .world) second)) (ran first) ∙ ap (after (runOf plan scripts quota first world .done)) two)
 
--- ---- after so many steps of a run, and after a list
+-- ---- after n steps of a run, and after a list
 
 module _ (run : FreshRun) (possible : planValid (run .plan) ≡ true) (count first second : ℕ) where
   abbrev here : World

@@ -1,5 +1,6 @@
--- Two runs at corresponding points: the same number of windows is completed and, where a named domain has the current one, the same number of its ops is
--- done. There the worlds are the same for every named domain, and so are the op counts of their completed windows. Assumes nothing.
+-- Two runs at corresponding points: the same number of windows is completed and, where a named domain has the current
+-- one, the same number of its ops is done. There the worlds are the same for every named domain, and so are the op
+-- counts of their completed windows. Assumes nothing.
 use Prim.Native.Nat.{ℕ, suc, _+_, _≤_, _<_}
 use mathlib.Core.List.{List}
 use mathlib.Core.Path.{_≡_, refl, sym, ap, subst₂, _∙_}
@@ -96,8 +97,8 @@ module _ {plan : Plan} {Named Kept : ℕ → Type 0} {scripts scripts′ log log
         → LockedAt c (windowOwner plan (windowsAfter (one c) count)) count count′
     locked-here = locked-now (windowsAfter (one c) count) refl (sym windows) from from′ ops
 
--- every point of one run has a corresponding one in the other: in a named domain's window after as many of its ops, and in
--- any other at the window's start
+-- every point of one run has a corresponding one in the other: in a named domain's window after as many of its ops, and
+-- in any other at the window's start
 module _ {plan : Plan} {Named Kept : ℕ → Type 0} {scripts scripts′ log log′ : List ℕ}
     (c : Comparing plan Named Kept scripts scripts′ log log′) (count : ℕ) (given : (at : ℕ) → Given c count at)
     {most : ℕ} (there : StartedOnTime (other c) most (windowsAfter (one c) count)) where

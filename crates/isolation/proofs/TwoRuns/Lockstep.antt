@@ -1,5 +1,5 @@
--- A named domain's window in two runs goes in lockstep: after as many of its steps in both the worlds are the same for it, and it ends after as many.
--- Assumes nothing.
+-- A named domain's window in two runs goes in lockstep: after as many of its steps in both the worlds are the same for
+-- it, and it ends after as many. Assumes nothing.
 use Prim.Native.Nat.{ℕ, zero, suc, _+_, _<_}
 use mathlib.Core.List.{List}
 use mathlib.Core.Path.{_≡_, refl, sym, ap, _∙_}

@@ -1,5 +1,5 @@
--- A record stored in the log: in two logs that agree on a domain's records so far they then agree on one record more, and another domain's part
--- stays as it is. Assumes nothing.
+-- A record stored in the log: in two logs that agree on a domain's records so far they then agree on one record more,
+-- and another domain's part stays as it is. Assumes nothing.
 use Prim.Native.Nat.{ℕ, _+_, _*_, _≤_, _<_}
 use mathlib.Core.List.{List}
 use mathlib.Core.Path.{_≡_}
@@ -11,9 +11,9 @@ use lib.Seq.{getD-set-same, set-out}
 use Rattle.lists.proofs.Agree.{Agree, Beside, InRange, agree-fewer, part-alike, sets-alike, sets-away}
 use Rattle.records.specs.declared.Observation.{Observation}
 use Rattle.records.specs.Records.{logPart, recordBytes, recordIndex, recordSize, recordStored}
-use Rattle.isolation.proofs.TwoRuns.Relations.{LogPlace}
+use Rattle.isolation.proofs.TwoRuns.Relations.{LogIndex}
 
--- a count raised by one in a list is at most one more there: a place past the list's end keeps what it had
+-- a count raised by one in a list is at most one more there: a index past the list's end keeps what it had
 pub raised : (counts : List ℕ) (domain : ℕ) → getD (set counts domain (getD counts domain 0 + 1)) domain 0 ≤ getD counts domain 0 + 1
 raised counts domain = go (decLt domain (length counts))
   where
@@ -28,34 +28,34 @@ parts-follow quota lower higher h = omega (arith, mul-le-mul-left quota h)
 module _ (quota domain count : ℕ) where
   -- the same record stored behind the records so far
   pub stored-alike : (next : ℕ) (seen : Observation) (clock : ℕ) {one other : List ℕ} → next ≤ count + 1
-      → Agree (LogPlace quota domain count) one other
-      → Agree (LogPlace quota domain next) (recordStored quota domain count seen clock one) (recordStored quota domain count seen clock other)
+      → Agree (LogIndex quota domain count) one other
+      → Agree (LogIndex quota domain next) (recordStored quota domain count seen clock one) (recordStored quota domain count seen clock other)
   unfolding recordStored recordBytes
   stored-alike next seen clock {one} {other} few a =
       sets-alike (recordIndex quota domain count) (recordBytes seen clock) (agree-fewer before a)
     where
-      before : (place : ℕ) → Beside (LogPlace quota domain next) (recordIndex quota domain count) recordSize place
-          → LogPlace quota domain count place
-      before place p = go (decLt place (recordIndex quota domain count))
+      before : (index : ℕ) → Beside (LogIndex quota domain next) (recordIndex quota domain count) recordSize index
+          → LogIndex quota domain count index
+      before index p = go (decLt index (recordIndex quota domain count))
         where
-          go : Dec (place < recordIndex quota domain count) → LogPlace quota domain count place
+          go : Dec (index < recordIndex quota domain count) → LogIndex quota domain count index
           go (yes h) = record { from = p .named .from; recorded = h; inPart = p .named .inPart }
           go (no h) = absurd (p .outside (omega arith))
 
   -- a record of another domain, whose part is not full
   pub stored-away : (running number : ℕ) (seen : Observation) (clock : ℕ) (log : List ℕ) → number < quota → (domain ≡ running → ⊥)
-      → Agree (LogPlace quota domain count) log (recordStored quota running number seen clock log)
+      → Agree (LogIndex quota domain count) log (recordStored quota running number seen clock log)
   unfolding recordStored recordBytes
   stored-away running number seen clock log room other =
-      sets-away log (recordIndex quota running number) (recordBytes seen clock) (λ place h p. apart place h p (decLt domain running))
+      sets-away log (recordIndex quota running number) (recordBytes seen clock) (λ index h p. apart index h p (decLt domain running))
     where
-      apart : (place : ℕ) → InRange (recordIndex quota running number) recordSize place → LogPlace quota domain count place
+      apart : (index : ℕ) → InRange (recordIndex quota running number) recordSize index → LogIndex quota domain count index
           → Dec (domain < running) → ⊥
-      apart place h p (yes lower) = omega (arith, parts-follow quota domain running lower)
-      apart place h p (no higher) = omega (arith, parts-follow quota running domain (omega arith))
+      apart index h p (yes lower) = omega (arith, parts-follow quota domain running lower)
+      apart index h p (no higher) = omega (arith, parts-follow quota running domain (omega arith))
 
   -- the records so far, where the part holds them
-  pub part-of-log : {one other : List ℕ} → count ≤ quota → Agree (LogPlace quota domain count) one other
+  pub part-of-log : {one other : List ℕ} → count ≤ quota → Agree (LogIndex quota domain count) one other
       → logPart quota domain count one ≡ logPart quota domain count other
   unfolding logPart
-  part-of-log few a = part-alike (recordIndex quota domain 0) (recordSize * count) (λ place h. omega arith) a
+  part-of-log few a = part-alike (recordIndex quota domain 0) (recordSize * count) (λ index h. omega arith) a

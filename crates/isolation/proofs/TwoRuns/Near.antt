@@ -1,11 +1,12 @@
--- Two worlds, for every domain that a predicate names: the same outside its windows, and in a window of one of them also the same inside. What one step
--- leaves of that. Assumes nothing.
+-- Two worlds, for every domain that a predicate names: the same outside its windows, and in a window of one of them
+-- also the same inside. What one step leaves of that. Assumes nothing.
 use Prim.Native.Nat.{ℕ, _<_}
 use mathlib.Core.Bool.{true}
 use mathlib.Core.List.{List}
 use mathlib.Core.Path.{_≡_, sym, ap, subst, _∙_}
 use native.Mathlib.Decide.{ℕ-discrete}
 use Rattle.plan.specs.declared.Plan.{Plan}
+use Rattle.plan.specs.Limits.{mostDomains}
 use Rattle.plan.specs.Validity.{planValid}
 use Rattle.plan.specs.Windows.{windowOwner}
 use Rattle.ops.specs.Ops.{boxIndex}
@@ -57,7 +58,7 @@ module _ (plan : Plan) (quota : ℕ) (Named : ℕ → Type 0) where
 
     -- a step in the window of a named domain
     module _ (scripts scripts′ : List ℕ) (same : ScriptsAgree Named scripts scripts′) {Kept : ℕ → Type 0}
-        (to : (domain : ℕ) → Named domain → (sender : ℕ) → sender < 8 → Kept (boxIndex sender domain)) where
+        (to : (domain : ℕ) → Named domain → (sender : ℕ) → sender < mostDomains → Kept (boxIndex sender domain)) where
       pub locked-step : (running : ℕ) (one other : World) → Named running → runningOf plan (one .state) ≡ running → Whole one → Whole other
           → Locked Kept running one other → Paired Kept running one other (stepOf plan scripts quota one) (stepOf plan scripts′ quota other)
       locked-step running one other named runs whole whole′ lock =

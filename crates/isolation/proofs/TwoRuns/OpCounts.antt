@@ -1,4 +1,5 @@
--- How many ops a window held: none before its start, one more with each step while it lasts, no more after its switch. Assumes nothing.
+-- How many ops a window held: none before its start, one more with each step while it lasts, no more after its switch.
+-- Assumes nothing.
 use Prim.Native.Nat.{ℕ, zero, suc, _+_, _-_, _≤_, _<_}
 use mathlib.Core.Bool.{Bool, true, false, cond, _&&_}
 use mathlib.Core.Path.{_≡_, refl, sym, ap, _∙_}

@@ -20,8 +20,8 @@ use Rattle.isolation.specs.Statement.{Only}
 use Rattle.isolation.proofs.TwoRuns.Flush.{flush-alike, flush-away}
 use Rattle.isolation.proofs.TwoRuns.Log.{raised, stored-alike, stored-away}
 use Rattle.isolation.proofs.TwoRuns.Ops.{effect-alike, effect-away}
-use Rattle.isolation.proofs.TwoRuns.Places.{FlushedPlace, OwnPlace, WorkPlace, flushed, own, own-between}
-use Rattle.isolation.proofs.TwoRuns.Places.{own-untouched}
+use Rattle.isolation.proofs.TwoRuns.Indices.{FlushedIndex, OwnIndex, WorkIndex, flushed, own, own-between}
+use Rattle.isolation.proofs.TwoRuns.Indices.{own-untouched}
 use Rattle.isolation.proofs.TwoRuns.Relations.{Alike, Close, same-records}
 
 -- the cache table has all its numbers
@@ -29,12 +29,12 @@ abbrev pub Whole : World → Type 0
 Whole world = length (world .cache) ≡ tableLength
 
 -- tables that agree at a domain's own indices and at those that a switch empties agree wherever its ops touch
-both-indices : (plan : Plan) (domain : ℕ) {one other : List ℕ} → Agree (OwnPlace plan domain) one other
-    → Agree FlushedPlace one other
-    → Agree (WorkPlace plan domain) one other
+both-indices : (plan : Plan) (domain : ℕ) {one other : List ℕ} → Agree (OwnIndex plan domain) one other
+    → Agree FlushedIndex one other
+    → Agree (WorkIndex plan domain) one other
 both-indices plan domain {one} {other} a b = record { len = a .len; at = go }
   where
-    go : (index : ℕ) → WorkPlace plan domain index → getD one index 0 ≡ getD other index 0
+    go : (index : ℕ) → WorkIndex plan domain index → getD one index 0 ≡ getD other index 0
     go index (own p) = a .at index p
     go index (flushed p) = b .at index p
 
@@ -104,6 +104,6 @@ module _ (plan : Plan) (quota domain : ℕ) where
         }
 
 pub switch-flushed : (plan : Plan) (one other : World) → Whole one → Whole other
-    → Agree FlushedPlace (switchOf plan one .cache) (switchOf plan other .cache)
+    → Agree FlushedIndex (switchOf plan one .cache) (switchOf plan other .cache)
 unfolding switchOf
 switch-flushed plan one other = flush-alike (one .cache) (other .cache)

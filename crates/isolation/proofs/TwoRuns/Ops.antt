@@ -22,7 +22,7 @@ use Rattle.records.specs.declared.Observation.{Observation}
 use Rattle.ops.specs.Ops.{Effect, accessObservation, boxIndex, boxLine, boxObservation, computeOf, effectOf, fullBox}
 use Rattle.ops.specs.Ops.{kernelEntryLine, messageOf, messageTicks, ownsLine, receiveOf, touchOf}
 use Rattle.isolation.proofs.TwoRuns.Access.{AccessAlike, access-alike, access-away}
-use Rattle.isolation.proofs.TwoRuns.Places.{WorkPlace, box-line, entry-line, own-line}
+use Rattle.isolation.proofs.TwoRuns.Indices.{WorkIndex, box-line, entry-line, own-line}
 
 module _ (plan : Plan) (domain : ℕ) where
   -- ---- in two worlds
@@ -30,13 +30,13 @@ module _ (plan : Plan) (domain : ℕ) where
   pub record EffectAlike (Kept : ℕ → Type 0) (one other : Effect) : Type 0 where
     pub ticks : one .ticks ≡ other .ticks
     pub seen : one .seen ≡ other .seen
-    pub cache : Agree (WorkPlace plan domain) (one .cache) (other .cache)
+    pub cache : Agree (WorkIndex plan domain) (one .cache) (other .cache)
     pub boxes : Agree Kept (one .boxes) (other .boxes)
 
   module _ {one other : List ℕ} (whole : length one ≡ tableLength)
-      (tables : Agree (WorkPlace plan domain) one other) where
+      (tables : Agree (WorkIndex plan domain) one other) where
     entry-alike :
-        AccessAlike (WorkPlace plan domain) (accessOf false kernelEntryLine one) (accessOf false kernelEntryLine other)
+        AccessAlike (WorkIndex plan domain) (accessOf false kernelEntryLine one) (accessOf false kernelEntryLine other)
     entry-alike = access-alike false kernelEntryLine (entry-line plan domain) whole tables
 
     module _ {Kept : ℕ → Type 0} where
@@ -108,7 +108,7 @@ module _ (plan : Plan) (domain : ℕ) where
   -- ---- in one: the indices that the op does not touch
 
   module _ {Named : ℕ → Type 0} (table : List ℕ) (whole : length table ≡ tableLength)
-      (untouched : (index : ℕ) → Named index → WorkPlace plan domain index → ⊥) where
+      (untouched : (index : ℕ) → Named index → WorkIndex plan domain index → ⊥) where
     touch-away : (writes : Bool) (line : ℕ) (boxes : List ℕ)
         → Agree Named table (touchOf plan domain writes line table boxes .cache)
     unfolding touchOf

@@ -1,5 +1,5 @@
--- A domain's script position is the number of ops that its windows so far held. By steps: an op raises the position of the
--- window's owner, and nothing else does. Assumes nothing.
+-- A domain's script position is the number of ops that its windows so far held. By steps: an op raises the position of
+-- the window's owner, and nothing else does. Assumes nothing.
 use Prim.Native.Nat.{ℕ, zero, suc, _+_, _≤_, _<_}
 use mathlib.Core.Bool.{Bool, true, false, cond}
 use mathlib.Core.List.{List}
@@ -33,7 +33,8 @@ use Rattle.isolation.proofs.TwoRuns.Progress.{no-fewer, one-more}
 abbrev oneIf : Bool → ℕ
 oneIf own = cond own 1 0
 
--- what a step does to a domain's position: nothing at the run's end and at a switch; an op counts for its window's owner
+-- what a step does to a domain's position: nothing at the run's end and at a switch; an op counts for its window's
+-- owner
 data Moved (plan : Plan) (domain : ℕ) (world next : World) : Type 0 where
   rests : windowsTotal plan ≤ world .state .windows → next ≡ world → Moved plan domain world next
   turns : next .state .windows ≡ world .state .windows + 1

@@ -1,5 +1,5 @@
--- The windows of one run: how many are completed as steps go on, where a window starts, and that the step before its start was a switch.
--- Assumes nothing.
+-- The windows of one run: how many are completed as steps go on, where a window starts, and that the step before its
+-- start was a switch. Assumes nothing.
 use Prim.Native.Nat.{ℕ, zero, suc, _+_, _≤_, _<_}
 use mathlib.Core.Bool.{true}
 use mathlib.Core.Path.{_≡_, refl, _∙_}

@@ -1,5 +1,6 @@
--- Every window of two runs starts at worlds that are the same for the named domains: what they have outside their windows was kept, what a switch empties
--- is emptied in both, and the clock is the plan's. By induction over the windows. Assumes nothing.
+-- Every window of two runs starts at worlds that are the same for the named domains: what they have outside their
+-- windows was kept, what a switch empties is emptied in both, and the clock is the plan's. By induction over the
+-- windows. Assumes nothing.
 use Prim.Native.Nat.{ℕ, zero, suc, _+_, _≤_, _<_}
 use mathlib.Core.List.{List}
 use mathlib.Core.Path.{_≡_, refl, sym, _∙_}
@@ -17,7 +18,7 @@ use Rattle.isolation.specs.Points.{Starts, windowsAfter, worldAfter}
 use Rattle.isolation.proofs.TwoRuns.Lockstep.{Comparing, LockedAt, lockstep, one, other, quota, quota-other, same-end}
 use Rattle.isolation.proofs.TwoRuns.Near.{Near, near-both, near-switch}
 use Rattle.isolation.proofs.TwoRuns.OpStep.{switch-flushed}
-use Rattle.isolation.proofs.TwoRuns.Places.{FlushedPlace}
+use Rattle.isolation.proofs.TwoRuns.Indices.{FlushedIndex}
 use Rattle.isolation.proofs.TwoRuns.Progress.{first-start}
 use Rattle.isolation.proofs.TwoRuns.Relations.{Alike}
 use Rattle.isolation.proofs.TwoRuns.Windows.{Completed, OnTime, clock-at-start, completed, stays-near, whole}
@@ -26,7 +27,7 @@ use Rattle.isolation.proofs.TwoRuns.Windows.{Completed, OnTime, clock-a
 pub record Ready (plan : Plan) (quota : ℕ) (Named : ℕ → Type 0) (one other : World) : Type 0 where
   pub near : Near plan quota Named one other
   pub clock : one .state .clock ≡ other .state .clock
-  pub flushed : Agree FlushedPlace (one .cache) (other .cache)
+  pub flushed : Agree FlushedIndex (one .cache) (other .cache)
 
 -- ---- a fresh start
 
@@ -41,7 +42,7 @@ fresh-ready plan quota Named log log′ same = record { near = alike; clock = re
           positions = agree-refl _ _;
           records = agree-refl _ _;
           sets = agree-refl _ _;
-          log = record { len = same; at = λ place p. absurd (omega (arith, p .from, p .recorded, cell-zeros 8 domain)) };
+          log = record { len = same; at = λ index p. absurd (omega (arith, p .from, p .recorded, cell-zeros 8 domain)) };
         }
 
 -- ---- every window

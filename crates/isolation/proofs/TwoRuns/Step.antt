@@ -1,5 +1,5 @@
--- One step. In a domain's own window two worlds that are the same for it both do the same op or both switch; in another's window a step keeps what
--- the domain has outside its windows. Assumes nothing.
+-- One step. In a domain's own window two worlds that are the same for it both do the same op or both switch; in
+-- another's window a step keeps what the domain has outside its windows. Assumes nothing.
 use Prim.Native.Nat.{ℕ, _+_, _*_, _<_}
 use mathlib.Core.Bool.{Bool, true, false, cond, _||_}
 use mathlib.Core.List.{List}
@@ -8,11 +8,13 @@ use borrow.Author.Tests.{ltb-true}
 use lib.Dec.{leb, ltb}
 use lib.ListN.{getD}
 use Rattle.plan.specs.declared.Plan.{Plan}
+use Rattle.plan.specs.Limits.{mostDomains}
 use Rattle.plan.specs.Validity.{planValid}
 use Rattle.plan.proofs.Windows.{owner-declared}
 use Rattle.plan.specs.Windows.{windowEnd, windowOwner, windowsTotal}
 use Rattle.script.specs.declared.ScriptItem.{ScriptItem}
 use Rattle.script.specs.declared.ScriptItem.the-variants.{Op as Fetch, End}
+use Rattle.script.specs.Limits.{mostOps}
 use Rattle.script.specs.Fetch.{decodeOf, fetchOf}
 use Rattle.ops.specs.Ops.{boxIndex}
 use Rattle.state.specs.World.{World, endedOf, positionAt, recordsAt, runningOf}
@@ -28,13 +30,13 @@ use Rattle.isolation.proofs.TwoRuns.Relations.{Alike, Close, alike-refl
 
 -- what stands next, in stores that agree on the domain's numbers
 fetch-alike : (one other : List ℕ) (domain position : ℕ)
-    → ((place : ℕ) → place < 256 → getD one (256 * domain + place) 0 ≡ getD other (256 * domain + place) 0)
+    → ((index : ℕ) → index < mostOps → getD one (mostOps * domain + index) 0 ≡ getD other (mostOps * domain + index) 0)
     → fetchOf one domain position ≡ fetchOf other domain position
 unfolding fetchOf
-fetch-alike one other domain position same = go (ltb position 256) refl
+fetch-alike one other domain position same = go (ltb position mostOps) refl
   where
-    go : (within : Bool) → ltb position 256 ≡ within → fetchOf one domain position ≡ fetchOf other domain position
-    go true e = ap (λ (n : ℕ). cond (ltb position 256) (decodeOf n) End) (same position (ltb-true position 256 e))
+    go : (within : Bool) → ltb position mostOps ≡ within → fetchOf one domain position ≡ fetchOf other domain position
+    go true e = ap (λ (n : ℕ). cond (ltb position mostOps) (decodeOf n) End) (same position (ltb-true position mostOps e))
     go false e = rw e
 
 -- both did an op and are as before, or both switched
@@ -42,7 +44,7 @@ pub data Together (plan : Plan) (quota domain : ℕ) (Kept : ℕ → Type 0) (on
   still : Close plan quota domain Kept next next′ → Together plan quota domain Kept one other next next′
   both : next ≡ switchOf plan one → next′ ≡ switchOf plan other → Together plan quota domain Kept one other next next′
 
-module _ (plan : Plan) (quota domain : ℕ) {Kept : ℕ → Type 0} (to : (sender : ℕ) → sender < 8 → Kept (boxIndex sender domain))
+module _ (plan : Plan) (quota domain : ℕ) {Kept : ℕ → Type 0} (to : (sender : ℕ) → sender < mostDomains → Kept (boxIndex sender domain))
     {one other : World} (a : Close plan quota domain Kept one other) (running : runningOf plan (one .state) ≡ domain) where
   same-ended : endedOf plan (one .state) ≡ endedOf plan (other .state)
   unfolding endedOf
@@ -71,7 +73,7 @@ module _ (plan : Plan) (quota domain : ℕ) {Kept : ℕ → Type 0} (to : (sende
 
   -- the next step is the same
   same-next : (scripts scripts′ : List ℕ)
-      → ((place : ℕ) → place < 256 → getD scripts (256 * domain + place) 0 ≡ getD scripts′ (256 * domain + place) 0)
+      → ((index : ℕ) → index < mostOps → getD scripts (mostOps * domain + index) 0 ≡ getD scripts′ (mostOps * domain + index) 0)
       → nextStepOf scripts (turnOf plan quota (one .state)) ≡ nextStepOf scripts′ (turnOf plan quota (other .state))
   unfolding nextStepOf switchDue
   same-next scripts scripts′ same =
@@ -85,7 +87,7 @@ module _ (plan : Plan) (quota domain : ℕ) {Kept : ℕ → Type 0} (to : (sende
 
   -- two worlds that pass the same tests take the same way
   pub step-alike : (scripts scripts′ : List ℕ)
-      → ((place : ℕ) → place < 256 → getD scripts (256 * domain + place) 0 ≡ getD scripts′ (256 * domain + place) 0)
+      → ((index : ℕ) → index < mostOps → getD scripts (mostOps * domain + index) 0 ≡ getD scripts′ (mostOps * domain + index) 0)
       → Whole one
       → Together plan quota domain Kept one other (stepOf plan scripts quota one) (stepOf plan scripts′ quota other)
   unfolding activeStep

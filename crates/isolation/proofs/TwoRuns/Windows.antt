@@ -1,5 +1,5 @@
--- The windows of one run: where each began, the switch that completed it, and the clock at its start; and that the window of a domain which is not named
--- leaves what the named ones have. Assumes nothing.
+-- The windows of one run: where each began, the switch that completed it, and the clock at its start; and that the
+-- window of a domain which is not named leaves what the named ones have. Assumes nothing.
 use Prim.Native.Nat.{ℕ, zero, suc, _+_, _-_, _≤_, _<_}
 use mathlib.Core.Bool.{true}
 use mathlib.Core.List.{List}
@@ -9,6 +9,7 @@ use native.Mathlib.Nat.{add-sub-of-le, add-suc, add-zero}
 use native.Mathlib.Omega.{arith}
 use lib.ListN.{length}
 use Rattle.plan.specs.declared.Plan.{Plan}
+use Rattle.plan.specs.Limits.{mostDomains}
 use Rattle.plan.specs.Validity.{planValid}
 use Rattle.plan.specs.Windows.{windowOwner, windowStart, windowsTotal}
 use Rattle.records.specs.Records.{partRecords}
@@ -32,7 +33,7 @@ pub record Watched (plan : Plan) (Named Kept : ℕ → Type 0) : Type 0 where
   pub possible : planValid plan ≡ true
   pub isNamed : (domain : ℕ) → Dec (Named domain)
   pub declared : (domain : ℕ) → Named domain → domain < plan .domains
-  pub to : (domain : ℕ) → Named domain → (sender : ℕ) → sender < 8 → Kept (boxIndex sender domain)
+  pub to : (domain : ℕ) → Named domain → (sender : ℕ) → sender < mostDomains → Kept (boxIndex sender domain)
 
 -- ---- a window of one run
 
@@ -54,7 +55,7 @@ pub record Completed (run : FreshRun) (window next : ℕ) : Type 0 where
   pub room : window < windowsTotal (run .plan)
   pub switched : worldAfter run next ≡ switchOf (run .plan) (worldAfter run (at + more))
 
--- after so many steps every window so far started when the plan says
+-- after n steps every window so far started when the plan says
 abbrev pub OnTime : FreshRun → ℕ → Type 0
 OnTime run count = (window : ℕ) → window ≤ windowsAfter run count → StartedOnTime run count window
 
