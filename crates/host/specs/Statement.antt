@@ -20,7 +20,7 @@ use Rattle.isolation.specs.Statement.{BoxesAgree, Correspond, Only, SameKernelS
 use Rattle.isolation.specs.Statement.{SameSets, ScriptsAgree, StartedOnTime}
 use Rattle.pirkvezo.specs.Answers.{answerLength}
 use Rattle.pirkvezo.specs.LogQuery.{LogCall, hostLog}
-use Rattle.pirkvezo.specs.Numbers.{clockOffset, completedOffset, planOf}
+use Rattle.pirkvezo.specs.Numbers.{stateClockOffset, completedOffset, planOf}
 use Rattle.pirkvezo.specs.Numbers.{positionsOffset, stateNumbers}
 use Rattle.host.specs.Calls.{AllOwnArrays, Arrays, HostCall, HostList, IsHostList, IsTextList}
 use Rattle.host.specs.Calls.{ReadArrays, afterHostCall, arraysLeft, hostLogCall, hostPointOf}
@@ -151,7 +151,7 @@ pub record HostSameSeen (observer : ℕ) (one other : HostList) : Type 0 where
   -- in its own window: the clock, L1, the kernel's sets, and the boxes addressed to it
   pub clock :
       HostEndsInWindowOf (Only observer) one
-      → getD (arraysLeft one .state) clockOffset 0 ≡ getD (arraysLeft other .state) clockOffset 0
+      → getD (arraysLeft one .state) stateClockOffset 0 ≡ getD (arraysLeft other .state) stateClockOffset 0
   pub l1 :
       HostEndsInWindowOf (Only observer) one
       → SameL1 (arraysLeft one .cache) (arraysLeft other .cache)

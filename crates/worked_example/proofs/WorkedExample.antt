@@ -16,8 +16,8 @@ use Rattle.forms.specs.Forms.{padForm, runForm, declaredDomain, windowForm, opF
 use Rattle.forms.specs.Forms.{nextDomain, listedDomain, mayForm, domainForm}
 use Rattle.line.specs.Lines.{closedLine, notedLine, formKeywords, formLine, lineAt}
 use Rattle.reader.specs.Draft.{noDraft, noOps, takePad, takeRun, takeDomain, takeWindow, takeOp, takeLine}
-use Rattle.plan.specs.Parts.{withPad, withRun, withDomain, withWindow, withMasks}
-use Rattle.reader.specs.Final.{lacking, mentionsFrom, firstOf, firstColourless, finalVerdict, planWithMasks}
+use Rattle.plan.specs.Parts.{withMasks}
+use Rattle.reader.specs.Final.{mentionsFrom, firstOf, firstColourless, finalVerdict, planWithMasks}
 use Rattle.reader.specs.Read.{walkFrom, readVerdict, readOf}
 use Rattle.engine.proofs.Computing.{computing}
 use Rattle.report.specs.Lines.{kindAndValue, seenLine, recordLines, domainLines, seenLines}
@@ -39,8 +39,8 @@ unfolding
     padForm runForm declaredDomain windowForm opForm nextDomain listedDomain mayForm domainForm
     closedLine notedLine formKeywords formLine lineAt
     noDraft noOps takePad takeRun takeDomain takeWindow takeOp takeLine
-    withPad withRun withDomain withWindow withMasks
-    lacking mentionsFrom firstOf firstColourless finalVerdict planWithMasks
+    withMasks
+    mentionsFrom firstOf firstColourless finalVerdict planWithMasks
     walkFrom readVerdict readOf
 reading = 0
 
