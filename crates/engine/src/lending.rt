@@ -20,7 +20,8 @@ fn step_value(
     log: &mut [u8],
 ) -> Stepped
     ensures { λ r. ⌜ stepWith (r .answer) (r .state) (now (cache .exit)) (now (boxes .exit)) (now (log .exit))
-        ≡ stepCallOf plan (now (scripts .entry)) (worldWith state (now (cache .entry)) (now (boxes .entry)) (now (log .entry))) ⌝ }
+        ≡ stepCallOf plan (now (scripts .entry))
+        (worldWith state (now (cache .entry)) (now (boxes .entry)) (now (log .entry))) ⌝ }
 {
     let progress = run(plan, scripts, state, cache, boxes, log, 1);
     let left = progress.state;
@@ -46,7 +47,8 @@ pub fn step_lent(
     log: &mut [u8],
 ) -> Answer
     ensures { λ r. ⌜ stepWith r (now (state .exit)) (now (cache .exit)) (now (boxes .exit)) (now (log .exit))
-        ≡ stepCallOf plan (now (scripts .entry)) (worldWith (now (state .entry)) (now (cache .entry)) (now (boxes .entry)) (now (log .entry))) ⌝ }
+        ≡ stepCallOf plan (now (scripts .entry))
+        (worldWith (now (state .entry)) (now (cache .entry)) (now (boxes .entry)) (now (log .entry))) ⌝ }
 {
     let s = *state;
     let out = step_value(plan, scripts, s, cache, boxes, log);
@@ -64,7 +66,8 @@ pub fn step(
     log: &mut [u8],
 ) -> Progress
     ensures { λ r. ⌜ runWith r (now (cache .exit)) (now (boxes .exit)) (now (log .exit))
-        ≡ stepCallOf plan (now (scripts .entry)) (worldWith state (now (cache .entry)) (now (boxes .entry)) (now (log .entry))) ⌝ }
+        ≡ stepCallOf plan (now (scripts .entry))
+        (worldWith state (now (cache .entry)) (now (boxes .entry)) (now (log .entry))) ⌝ }
 {
     let mut lent = state;
     let answer = step_lent(&mut lent, plan, scripts, cache, boxes, log);

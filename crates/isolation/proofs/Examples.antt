@@ -33,7 +33,7 @@ use Rattle.state.specs.World.{World, endedOf, freshState, positionAt}
 use Rattle.machine.specs.Steps.{opStepOf, switchDue, nextStepOf, activeStep, stepOf, runOf}
 use Rattle.machine.specs.Switch.{flushedClock, paddedClock, switchOf}
 use Rattle.engine.specs.LogQuery.{logQueryOf, logStatusOf}
-use Rattle.engine.specs.Checks.{stateVerdict, freshVerdict, runVerdict, logVerdict}
+use Rattle.engine.specs.Checks.{freshVerdict, runVerdict, logVerdict}
 use Rattle.machine.specs.Fresh.{freshWorld}
 use Rattle.engine.specs.FreshStart.{freshStartOf}
 use Rattle.engine.specs.Running.{ranFrom, runCallOf, stepCallOf}
@@ -120,7 +120,7 @@ other =
 
 -- every definition that the examples compute with, named once
 computing : ℕ
-unfolding part splice opOf decodeOf fetchOf storedOf coloursOf sharesTotal firstColour maskFrom maskOf hasBit countsValid declaredValid undeclaredValid domainValid maskValid windowValid planValid sumTo allBelow windowOwner windowLength windowStart windowEnd windowsTotal ticksTotal lookupL1 lookupL2 lookupOf lookupAt accessOf countWhere dirtyLines validLines kernelFlushTicks l1FlushTicks kernelFlushed l1Flushed has behind used lineAllowed l1EntryValid allEmpty waysValid setValid boxValid tablesValid clockValid domainCountsValid stateValid ownsLine touchOf deniedOf passedOf sendOf boxObservation receiveOf computeOf effectOf recordBytes partRecords recordStored logPart opStepOf switchDue nextStepOf activeStep stepOf runOf flushedClock paddedClock switchOf endedOf freshState logQueryOf logStatusOf stateVerdict freshVerdict runVerdict logVerdict freshStartOf freshWorld ranFrom runCallOf stepCallOf runAnswer stepAnswer logAnswer afterCall verdictOf stepsCounted afterCalls stepsOfCalls Proper startWorld worldAfter opsOf
+unfolding part splice opOf decodeOf fetchOf storedOf coloursOf sharesTotal firstColour maskFrom maskOf hasBit countsValid declaredValid undeclaredValid domainValid maskValid windowValid planValid sumTo allBelow windowOwner windowLength windowStart windowEnd windowsTotal ticksTotal lookupL1 lookupL2 lookupOf lookupAt accessOf countWhere dirtyLines validLines kernelFlushTicks l1FlushTicks kernelFlushed l1Flushed has behind used lineAllowed l1EntryValid allEmpty waysValid setValid boxValid tablesValid clockValid domainCountsValid stateValid ownsLine touchOf deniedOf passedOf sendOf boxObservation receiveOf computeOf effectOf recordBytes partRecords recordStored logPart opStepOf switchDue nextStepOf activeStep stepOf runOf flushedClock paddedClock switchOf endedOf freshState logQueryOf logStatusOf freshVerdict runVerdict logVerdict freshStartOf freshWorld ranFrom runCallOf stepCallOf runAnswer stepAnswer logAnswer afterCall verdictOf stepsCounted afterCalls stepsOfCalls Proper startWorld worldAfter opsOf
 computing = 0
 
 one-is : IsList one

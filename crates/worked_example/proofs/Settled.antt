@@ -35,7 +35,7 @@ use Rattle.state.specs.World.{endedOf, freshState}
 use Rattle.machine.specs.Steps.{opStepOf, switchDue, nextStepOf, activeStep, stepOf, runOf}
 use Rattle.machine.specs.Switch.{flushedClock, paddedClock, switchOf}
 use Rattle.engine.specs.LogQuery.{logQueryOf, logStatusOf}
-use Rattle.engine.specs.Checks.{stateVerdict, freshVerdict, runVerdict, logVerdict}
+use Rattle.engine.specs.Checks.{freshVerdict, runVerdict, logVerdict}
 use Rattle.machine.specs.Fresh.{freshWorld}
 use Rattle.engine.specs.FreshStart.{freshStartOf}
 use Rattle.engine.specs.Running.{ranFrom, runCallOf, stepCallOf}
@@ -44,5 +44,5 @@ use Rattle.report.specs.Planrun.{ranLines, planrunOf}
 use Rattle.worked_example.specs.Table.{fullRun, shares, lineHundred, boxLines, leastPad, dirtyTo, flushes, tableAfter, allMiss, fiveReads, sixthRead, firstWindowAt, stepAt, beginsBeforeEnd, noneAtEnd, emptyText, entries, allHold}
 
 pub settled : allHold entries ≡ true
-unfolding bytesOf part splice opOf decodeOf fetchOf storedOf coloursOf sharesTotal firstColour maskFrom maskOf holdingOf hasBit countsValid declaredValid undeclaredValid domainValid maskValid windowValid planValid sumTo allBelow windowOwner windowLength windowStart windowEnd windowsTotal ticksTotal digitsOf decimalOf scanFrom scanOf allBytes valueAfter decimalValue digitsToken runToken longestRun tokenFrom tokenAt noPlan noDraft noOps withPad withRun withDomain withWindow takePad takeRun takeDomain takeWindow takeOp takeLine lacking mentionsFrom firstOf firstColourless finalVerdict masksFrom planWithMasks withMasks padBody runBody lengthBody windowBody opKeywordAt opNumbers scriptBody opBody recipientAt mention recipientsFrom recipientsAt listedBody mayBody shareBody domainBody formKeywordAt bodyOf closedLine bodyLine tokenLine lineAt walkFrom readVerdict readOf sameBytes isWord passOpen passClose passLineEnd passWord takeNumber lookupL1 lookupL2 lookupOf lookupAt accessOf countWhere dirtyLines validLines kernelFlushTicks l1FlushTicks kernelFlushed l1Flushed has behind used lineAllowed l1EntryValid allEmpty waysValid setValid boxValid tablesValid clockValid domainCountsValid stateValid ownsLine touchOf deniedOf passedOf sendOf boxObservation receiveOf computeOf effectOf recordBytes partRecords recordStored logPart opStepOf switchDue nextStepOf activeStep stepOf runOf flushedClock paddedClock switchOf endedOf freshState logQueryOf logStatusOf stateVerdict freshVerdict runVerdict logVerdict freshStartOf freshWorld ranFrom runCallOf stepCallOf seenLine domainLines seenLines endLine runLines refusalLine ranLines planrunOf fullRun shares lineHundred boxLines leastPad dirtyTo flushes tableAfter allMiss fiveReads sixthRead firstWindowAt stepAt beginsBeforeEnd noneAtEnd emptyText entries allHold
+unfolding bytesOf part splice opOf decodeOf fetchOf storedOf coloursOf sharesTotal firstColour maskFrom maskOf holdingOf hasBit countsValid declaredValid undeclaredValid domainValid maskValid windowValid planValid sumTo allBelow windowOwner windowLength windowStart windowEnd windowsTotal ticksTotal digitsOf decimalOf scanFrom scanOf allBytes valueAfter decimalValue digitsToken runToken longestRun tokenFrom tokenAt noPlan noDraft noOps withPad withRun withDomain withWindow takePad takeRun takeDomain takeWindow takeOp takeLine lacking mentionsFrom firstOf firstColourless finalVerdict masksFrom planWithMasks withMasks padBody runBody lengthBody windowBody opKeywordAt opNumbers scriptBody opBody recipientAt mention recipientsFrom recipientsAt listedBody mayBody shareBody domainBody formKeywordAt bodyOf closedLine bodyLine tokenLine lineAt walkFrom readVerdict readOf sameBytes isWord passOpen passClose passLineEnd passWord takeNumber lookupL1 lookupL2 lookupOf lookupAt accessOf countWhere dirtyLines validLines kernelFlushTicks l1FlushTicks kernelFlushed l1Flushed has behind used lineAllowed l1EntryValid allEmpty waysValid setValid boxValid tablesValid clockValid domainCountsValid stateValid ownsLine touchOf deniedOf passedOf sendOf boxObservation receiveOf computeOf effectOf recordBytes partRecords recordStored logPart opStepOf switchDue nextStepOf activeStep stepOf runOf flushedClock paddedClock switchOf endedOf freshState logQueryOf logStatusOf freshVerdict runVerdict logVerdict freshStartOf freshWorld ranFrom runCallOf stepCallOf seenLine domainLines seenLines endLine runLines refusalLine ranLines planrunOf fullRun shares lineHundred boxLines leastPad dirtyTo flushes tableAfter allMiss fiveReads sixthRead firstWindowAt stepAt beginsBeforeEnd noneAtEnd emptyText entries allHold
 settled = refl

@@ -19,8 +19,10 @@ use ghost.Atoms.{Atoms, sem}
 use contract.Lifetimes.{Lfts, Shares}
 use contract.Monad.{Fun, fact}
 use contract.Running.{givenOf, tables, tablesOf}
-use types.Kit.{Given, Item, ‵, raw, some, later, _⊛_, ⋆, _$_, _∵_, !, qed, by, move, keep, drop, use1, use2, split, join, pick, rewrite, fsplit, fsplit3, fjoin, fjoin3, feqL, feqI, suffices, frame, await, done}
-use types.Run.{look, look-raw, init, store-raw, forget, stop, hop, fld, from, load, addr, of-opd, and-then, no-more, assigns, land, returns, enter, alloc1, alloc0, params1, pass1, pass0, free1, free0}
+use types.Kit.{Given, Item, ‵, raw, some, later, _⊛_, ⋆, _$_, _∵_, !, qed, by, move, keep, drop}
+use types.Kit.{use1, use2, split, join, pick, rewrite, fsplit, fsplit3, fjoin, fjoin3, feqL, feqI, suffices, frame, await, done}
+use types.Run.{look, look-raw, init, store-raw, forget, stop, hop, fld, from, load, addr, of-opd}
+use types.Run.{and-then, no-more, assigns, land, returns, enter, alloc1, alloc0, params1, pass1, pass0, free1, free0}
 use types.Part.{agg, whole, sub, look-in}
 use types.SemTy.{Body}
 use sound.WpLaws.{FmC, fmOf, WpFn-mono}
@@ -39,7 +41,8 @@ use denote.Triple.Statement.{Contract, Triple}
 use denote.Triple.Call.{calls-at}
 use denote.Triple.Clauses.{Lasts, ensured, lasts}
 use denote.Triple.Table.{entered, cited}
-use denote.Triple.Walked.{says, Stays, stay-ref, stay-none, stay-none-slice, gave-slice, walkOf, goes-ref, goes-none, goes-none-slice, goes-gave-slice, Walks, ends-at, walked, walk-meets}
+use denote.Triple.Walked.{says, Stays, stay-ref, stay-none, stay-none-slice, gave-slice, walkOf}
+use denote.Triple.Walked.{goes-ref, goes-none, goes-none-slice, goes-gave-slice, Walks, ends-at, walked, walk-meets}
 use denote.Exit.{yes}
 use denote.Signature.{plain}
 use Rattle.state.specs.declared.State.{State}
@@ -203,7 +206,8 @@ module _ {M : Type 1} (𝓤 : URA M) (H : Heap 𝓤) (A : Atoms 𝓤) (W : Given
       qed W (Left stepped cache-end boxes-end log-end) ∵
       suffices ! _
       (ends-at 𝓤 H A own.ended stayed (own.clauses 𝓤 H A at-mem run) W
-      (((κ, κs), (q, qs), tt, args, vals), tt) (answer-val (stepped .answer)) (stepped .answer) (stepped .state, (tt, (tt, (cache-end, (boxes-end, (log-end, tt)))))) (tt, (tt, (tt, (cache-long, (boxes-long, (log-long, tt))))))) $
+      (((κ, κs), (q, qs), tt, args, vals), tt) (answer-val (stepped .answer)) (stepped .answer)
+      (stepped .state, (tt, (tt, (cache-end, (boxes-end, (log-end, tt)))))) (tt, (tt, (tt, (cache-long, (boxes-long, (log-long, tt))))))) $
       says ! equation $
       move ! (2 ∷ 3 ∷ []) $ join ! $ frame ! $ nothing ! $ move ! (5 ∷ 0 ∷ []) $ fjoin ! $ move ! (4 ∷ 0 ∷ []) $ fjoin ! $ move ! (3 ∷ 0 ∷ []) $ fjoin ! $
       move ! (3 ∷ 0 ∷ []) $ fjoin ! $ owned ! Plan.the-row (Is Plan.the-row) (LL.makes Plan.the-type Plan′.the-plain 𝓤 H A) plan _ is-plan $ fjoin ! $
@@ -215,7 +219,8 @@ module _ {M : Type 1} (𝓤 : URA M) (H : Heap 𝓤) (A : Atoms 𝓤) (W : Given
         (WpFn 𝓤 H C Λ code.function (vptr block place ∷ plan-val plan ∷ sliceVal (scripts .ptr) (length (scripts .now))
         ∷ sliceVal (cache .ptr) (length (cache .now)) ∷ sliceVal (boxes .ptr) (length (boxes .now)) ∷ sliceVal (log .ptr) (length (log .now)) ∷ []) Post)
     walk =
-        qed W ((‵ (flft κ q) ⊛ Tokens) ∷ ‵ (owns (MutRef (named 0) κ State.the-row ∷ Plan.the-row ∷ Scripts κs ∷ Cache κs ∷ Boxes κs ∷ Log κs ∷ []) args vals) ∷ []) ∵ enter ! C Λ code.function _ _ $
+        qed W ((‵ (flft κ q) ⊛ Tokens) ∷ ‵ (owns (MutRef (named 0) κ State.the-row ∷ Plan.the-row ∷ Scripts κs ∷ Cache κs ∷ Boxes κs ∷ Log κs ∷ []) args vals) ∷
+        []) ∵ enter ! C Λ code.function _ _ $
         -- room for the locals, and the arguments put into theirs
         alloc1 ! (λ l₀. alloc1 ! (λ l₁. alloc1 ! (λ l₂. alloc1 ! (λ l₃. alloc1 ! (λ l₄. alloc1 ! (λ l₅. alloc1 ! (λ l₆. alloc1 ! (λ l₇.
         alloc1 ! (λ l₈. alloc1 ! (λ l₉. alloc1 ! (λ l₁₀. alloc1 ! (λ l₁₁. alloc1 ! (λ l₁₂. alloc1 ! (λ l₁₃. alloc1 ! (λ l₁₄. alloc0 ! $
@@ -263,7 +268,8 @@ module _ {M : Type 1} (𝓤 : URA M) (H : Heap 𝓤) (A : Atoms 𝓤) (W : Given
         fsplit ! $ drop ! $ fsplit ! $ drop ! $ fsplit ! $ drop ! $ fsplit ! $ fsplit ! $ move ! (1 ∷ []) $ feqL ! (λ cache-long. move ! (1 ∷ []) $ fsplit ! $
         fsplit ! $ move ! (1 ∷ []) $ feqL ! (λ boxes-long. move ! (1 ∷ []) $ fsplit ! $ fsplit ! $ move ! (1 ∷ []) $ feqL ! (λ log-long. move ! (1 ∷ []) $ drop ! $
         move ! (3 ∷ []) $ split ! $ move ! (1 ∷ []) $ peeks ! Stepped.the-row (Is Stepped.the-row) (shows 𝓤 H A Stepped.the-row) stepped (value ∷ []) (λ is-stepped.
-        -- in hand: what the result owns; tokens; log's last list; boxes'; cache's; scripts' own; what the old state owns; the state's cell; the open borrow; the state's value; the right to change it; _14 to _0
+        -- in hand: what the result owns; tokens; log's last list; boxes'; cache's; scripts' own; what the old state owns;
+        -- the state's cell; the open borrow; the state's value; the right to change it; _14 to _0
         -- the result is put into its local; *state = out.state; out.answer
         land ! (from ! (stop !)) (init ! 23 refl (LL.lawful Stepped.the-type Stepped′.the-laws 𝓤 H A W .typed stepped _ is-stepped .0)) $
         rewrite ! 23 (λ (w : Val). ‵ (fat fullShare Stepped′.mir l₈ 0 w)) (ap only (LL.tells Stepped.the-type Stepped′.the-laws stepped (value ∷ []) is-stepped)) refl $
@@ -285,7 +291,8 @@ module _ {M : Type 1} (𝓤 : URA M) (H : Heap 𝓤) (A : Atoms 𝓤) (W : Given
         move ! (19 ∷ 20 ∷ []) $ free1 ! $ move ! (17 ∷ 18 ∷ []) $ free1 ! $ move ! (15 ∷ 16 ∷ []) $ free1 ! $ move ! (13 ∷ 14 ∷ []) $ free1 ! $ move ! (11 ∷ 12 ∷ []) $
         free1 ! $ move ! (9 ∷ 10 ∷ []) $ free1 ! $ free0 ! $
         keep ! (0 ∷ 1 ∷ 2 ∷ 4 ∷ 7 ∷ 6 ∷ 5 ∷ 8 ∷ []) $
-        by ! (exits stepped (ends .1 .1 .1 .0) (ends .1 .1 .1 .1 .0) (ends .1 .1 .1 .1 .1 .0) (answer-of stepped _ is-stepped) equation cache-long boxes-long log-long))))))))))))))))))))))))))
+        by ! (exits stepped (ends .1 .1 .1 .0) (ends .1 .1 .1 .1 .0) (ends .1 .1 .1 .1 .1 .0) (answer-of stepped _ is-stepped) equation cache-long boxes-long
+        log-long))))))))))))))))))))))))))
 
 -- the walk, for every choice of lifetimes and arguments
 module _ {M : Type 1} (𝓤 : URA M) (H : Heap 𝓤) (A : Atoms 𝓤) (W : Given 𝓤 H A) (mem : Memory → SProp 𝓤) (run : Routine → Fun 𝓤) where

@@ -5,19 +5,23 @@ use native.Mathlib.Omega.{arith}
 use lib.ListN.{getD, length}
 use borrow.Author.Needs.{needs}
 use Rattle.plan.proofs.ValidPlans.{counts}
-use Rattle.engine.proofs.Verdicts.{LogAccepted, log-accepted, log-handed, log-refused, log-within}
+use Rattle.engine.proofs.Verdicts.{LogAccepted, log-accepted, log-handed, log-refused, log-within, offset-handed, offset-refused}
 use Rattle.engine.proofs.log_query.log_of.Statement.{statement}
 use denote.Ref.{now}
 use Rattle.engine.proofs.log_query.log_of.Tie as tie
 
--- what an accepted asking was lent
-lent : (c : tie.After-enum-told2) → LogAccepted (c .before .before .before .before .args .plan) (c .before .before .before .before .args .t2) (now (c .before .before .before .before .args .log)) (c .before .before .before .before .args .domain)
+-- what an accepted log query was lent
+lent : (c : tie.After-enum-told2) → LogAccepted (c .before .before .before .before .args .plan)
+    (c .before .before .before .before .args .t2) (now (c .before .before .before .before .args .log))
+    (c .before .before .before .before .args .domain)
 lent c = log-accepted _ _ _ _ (sym (c .before .before .check-log .ensures) ∙ c .enum-told2 .given .1)
 
 -- the part that is handed back lies within the log
 handed :
     (c : tie.After-part-records)
-    → 8 * (c .part-records .result * c .before .before .before .before .before .args .domain) + 8 * getD (c .before .before .before .before .before .args .t2 .records) (c .before .before .before .before .before .args .domain) 0
+    → 8 * (c .part-records .result * c .before .before .before .before .before .args .domain) + 8 * getD
+    (c .before .before .before .before .before .args .t2 .records)
+    (c .before .before .before .before .before .args .domain) 0
     ≤ length (now (c .before .before .before .before .before .args .log))
 handed c = rw (c .part-records .ensures (c .before .before .before .before .before .args .plan) refl) (log-within _ _ _ _ (lent (c .before)))
 
@@ -64,11 +68,15 @@ part-result-end : tie.Need-part-result-end
 part-result-end c = omega (arith, handed (c .before))
 
 returns : tie.Need-returns
-returns c = log-refused _ _ _ _ _ (sym (c .before .enum-told .given .1) ∙ c .before .before .before .check-log .ensures)
+returns c =
+    let refused = sym (c .before .enum-told .given .1) ∙ c .before .before .before .check-log .ensures in
+    (log-refused _ _ _ _ _ refused, refl, offset-refused _ _ _ _ _ _ refused)
 
 returns-2 : tie.Need-returns-2
 returns-2 c =
-    log-handed _ _ _ _ _ (sym (c .before .before .before .enum-told2 .given .1) ∙ c .before .before .before .before .before .check-log .ensures) (c .before .before .part-records .ensures (c .before .before .before .before .before .before .before .args .plan) refl)
+    let accepted = sym (c .before .before .before .enum-told2 .given .1) ∙ c .before .before .before .before .before .check-log .ensures in
+    let quota = c .before .before .part-records .ensures (c .before .before .before .before .before .before .before .args .plan) refl in
+    (log-handed _ _ _ _ _ accepted quota, refl, offset-handed _ _ _ _ _ _ accepted quota)
 
 pub log-of-spec : {M : Type 1} → statement M
 log-of-spec =

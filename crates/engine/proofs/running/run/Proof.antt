@@ -14,8 +14,12 @@ use Rattle.engine.proofs.running.run.Tie as tie
 -- what an accepted run was lent
 lent :
     (c : tie.After-enum-told)
-    → RunAccepted (c .before .before .before .before .before .before .before .before .before .before .args .plan) (now (c .before .before .before .before .before .before .before .before .before .before .args .scripts))
-    (worldWith (c .before .before .before .before .before .before .before .before .before .before .args .state) (now (c .before .before .before .before .before .before .before .before .before .before .args .cache)) (now (c .before .before .before .before .before .before .before .before .before .before .args .boxes)) (now (c .before .before .before .before .before .before .before .before .before .before .args .log)))
+    → RunAccepted (c .before .before .before .before .before .before .before .before .before .before .args .plan)
+    (now (c .before .before .before .before .before .before .before .before .before .before .args .scripts))
+    (worldWith (c .before .before .before .before .before .before .before .before .before .before .args .state)
+    (now (c .before .before .before .before .before .before .before .before .before .before .args .cache))
+    (now (c .before .before .before .before .before .before .before .before .before .before .args .boxes))
+    (now (c .before .before .before .before .before .before .before .before .before .before .args .log)))
 lent c = run-accepted _ _ _ (sym (c .before .before .check-run .ensures) ∙ c .enum-told .given .1)
 
 check-run-requires : tie.Need-check-run-requires
@@ -33,9 +37,15 @@ part-records-requires c κs = let count = counts _ (lent c .possible) in (count 
 run-steps-requires : tie.Need-run-steps-requires
 run-steps-requires c κs =
     let ok = lent (c .before .before .before .before) in
-    let quota = c .before .before .before .part-records .ensures (c .before .before .before .before .before .before .before .before .before .before .before .before .before .before .args .plan) refl in (
+    let quota = c .before .before .before .part-records .ensures
+    (c .before .before .before .before .before .before .before .before .before .before .before .before .before .before
+    .args .plan) refl in (
       ok .possible,
-      ap (λ (n : ℕ). stateValid (c .before .before .before .before .before .before .before .before .before .before .before .before .before .before .args .plan) n (c .before .before .before .before .before .before .before .before .before .before .before .before .before .before .args .state)) quota ∙ ok .state-is,
+      ap (λ (n : ℕ). stateValid
+          (c .before .before .before .before .before .before .before .before .before .before .before .before .before
+          .before .args .plan) n
+          (c .before .before .before .before .before .before .before .before .before .before .before .before .before
+          .before .args .state)) quota ∙ ok .state-is,
       ok .scripts-long,
       ok .cache-long,
       ok .boxes-long,
@@ -43,7 +53,10 @@ run-steps-requires c κs =
     )
 
 ending-of-requires : tie.Need-ending-of-requires
-ending-of-requires c κs = let count = counts _ (lent (c .before .before .before .before .before .before .before .before .before .before .before .before) .possible) in (count .run-most, count .windows-most)
+ending-of-requires c κs =
+    let count = counts _ (lent
+    (c .before .before .before .before .before .before .before .before .before .before .before .before) .possible) in
+    (count .run-most, count .windows-most)
 
 same-length : tie.Need-same-length
 same-length c = search needs
@@ -68,8 +81,14 @@ same-length-6 c = search needs
 
 returns-2 : tie.Need-returns-2
 returns-2 c =
-    ran _ _ _ _ _ _ _ _ (sym (c .before .before .before .before .before .before .before .before .before .before .before .before .before .enum-told .given .1) ∙ c .before .before .before .before .before .before .before .before .before .before .before .before .before .before .before .check-run .ensures)
-    (c .before .before .before .before .before .before .before .before .before .before .before .before .part-records .ensures (c .before .before .before .before .before .before .before .before .before .before .before .before .before .before .before .before .before .before .before .before .before .before .before .args .plan) refl)
+    ran _ _ _ _ _ _ _ _ (sym
+    (c .before .before .before .before .before .before .before .before .before .before .before .before .before
+    .enum-told .given .1) ∙
+    c .before .before .before .before .before .before .before .before .before .before .before .before .before .before
+    .before .check-run .ensures)
+    (c .before .before .before .before .before .before .before .before .before .before .before .before .part-records
+    .ensures (c .before .before .before .before .before .before .before .before .before .before .before .before
+    .before .before .before .before .before .before .before .before .before .before .before .args .plan) refl)
     (c .before .before .before .before .before .before .before .before .run-steps .ensures)
     (c .ending-of .ensures)
 

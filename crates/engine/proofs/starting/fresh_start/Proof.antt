@@ -39,7 +39,12 @@ same-length-4 : tie.Need-same-length-4
 same-length-4 c = search needs
 
 returns-2 : tie.Need-returns-2
-returns-2 c = fresh-started _ _ _ _ _ _ _ (sym (c .before .before .before .before .before .before .before .before .before .enum-told .given .1) ∙ c .before .before .before .before .before .before .before .before .before .before .before .check-fresh .ensures) (c .fresh-state .ensures) (c .before .before .before .before .before .before .before .empty .ensures) (c .before .before .before .clear-boxes .ensures)
+returns-2 c =
+    fresh-started _ _ _ _ _ _ _
+    (sym (c .before .before .before .before .before .before .before .before .before .enum-told .given .1) ∙
+    c .before .before .before .before .before .before .before .before .before .before .before .check-fresh .ensures)
+    (c .fresh-state .ensures) (c .before .before .before .before .before .before .before .empty .ensures)
+    (c .before .before .before .clear-boxes .ensures)
 
 pub fresh-start-spec : {M : Type 1} → statement M
 fresh-start-spec =

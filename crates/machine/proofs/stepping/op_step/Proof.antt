@@ -11,7 +11,12 @@ operate-requires c κs = search needs
 add-clock : tie.Need-add-clock
 add-clock c =
     let pre = c .before .before .before .before .before .before .before .before .before .before .before .before .pre in
-    omega (arith, operated-ticks _ _ _ _ _ _ _ _ (pre .1) (c .before .before .before .before .before .before .operate .ensures), pre)
+    omega (
+      arith,
+      operated-ticks _ _ _ _ _ _ _ _ (pre .1)
+          (c .before .before .before .before .before .before .operate .ensures),
+      pre,
+    )
 
 store-record-requires : tie.Need-store-record-requires
 store-record-requires c κs = search needs
@@ -20,7 +25,9 @@ add-t19 : tie.Need-add-t19
 add-t19 c = search needs
 
 add-t20 : tie.Need-add-t20
-add-t20 c = let here = c .before .before .before .before .before .before .before .before .before .before .before .before .before .before .before .before .before .before in omega (arith, here .pre, here .good)
+add-t20 c =
+    let here = c .before .before .before .before .before .before .before .before .before .before .before .before
+    .before .before .before .before .before .before in omega (arith, here .pre, here .good)
 
 same-length : tie.Need-same-length
 same-length c = search needs
@@ -33,8 +40,11 @@ same-length-3 c = search needs
 
 returns : tie.Need-returns
 returns c =
-    let pre = c .before .before .before .before .before .before .before .before .before .before .before .before .before .before .before .before .before .before .pre in
-    op-ran _ _ _ _ _ _ _ _ _ _ (pre .1) (c .before .before .before .before .before .before .before .before .before .before .before .before .operate .ensures) (c .before .before .before .before .store-record .ensures)
+    let pre = c .before .before .before .before .before .before .before .before .before .before .before .before
+    .before .before .before .before .before .before .pre in
+    op-ran _ _ _ _ _ _ _ _ _ _ (pre .1)
+    (c .before .before .before .before .before .before .before .before .before .before .before .before .operate
+    .ensures) (c .before .before .before .before .store-record .ensures)
 
 pub op-step-spec : {M : Type 1} → statement M
 op-step-spec =

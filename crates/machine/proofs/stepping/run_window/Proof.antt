@@ -22,7 +22,9 @@ loop-holds : tie.Need-loop-holds Inv-loop μ-loop
 loop-holds c = turn-first _ _ _ _ _ _ _ _ (c .before .before .before .before .pre .1)
 
 next-step-requires : tie.Need-next-step-requires Inv-loop μ-loop
-next-step-requires c κs = let pre = c .before .before .before .before .before .before .pre in (omega (arith, ap (λ (t : Turn). t .owner) (c .before .loop .inv .moved), pre .0), pre .3)
+next-step-requires c κs =
+    let pre = c .before .before .before .before .before .before .pre in
+    (omega (arith, ap (λ (t : Turn). t .owner) (c .before .loop .inv .moved), pre .0), pre .3)
 
 enum-known-next : tie.Need-enum-known-next Inv-loop μ-loop
 enum-known-next c = search needs
@@ -32,9 +34,11 @@ enum-told c = search needs
 
 op-step-requires : tie.Need-op-step-requires Inv-loop μ-loop
 op-step-requires c κs =
-    let pre = c .before .before .before .before .before .before .before .before .before .before .before .before .before .pre in
+    let pre = c .before .before .before .before .before .before .before .before .before .before .before .before
+    .before .pre in
     let inv = c .before .before .before .before .before .before .before .before .loop .inv in
-    let begins = op-next _ _ _ (sym (c .before .before .before .before .before .before .next-step .ensures) ∙ c .before .before .before .before .next .given .1) in (
+    let begins = op-next _ _ _ (sym (c .before .before .before .before .before .before .next-step .ensures) ∙
+    c .before .before .before .before .next .given .1) in (
       omega (arith, ap (λ (t : Turn). t .owner) (inv .moved), pre .0),
       fetched-within _ _ _ _ (begins .next),
       fetched-below _ _ _ _ (begins .next),
@@ -45,16 +49,33 @@ op-step-requires c κs =
     )
 
 add-steps : tie.Need-add-steps Inv-loop μ-loop
-add-steps c = omega (arith, c .before .before .before .before .before .before .before .before .before .before .before .before .before .before .loop-test, c .before .before .before .before .before .before .before .before .before .before .before .before .before .before .before .before .before .before .before .before .fits)
+add-steps c =
+    omega (
+      arith,
+      c .before .before .before .before .before .before .before .before .before .before .before .before
+          .before .before .loop-test,
+      c .before .before .before .before .before .before .before .before .before .before .before .before .before .before
+          .before .before .before .before .before .before .fits,
+    )
 
 loop-less : tie.Need-loop-less Inv-loop μ-loop
-loop-less c = omega (arith, c .before .before .before .before .before .before .before .before .before .before .before .before .before .before .loop-test)
+loop-less c =
+    omega (
+      arith,
+      c .before .before .before .before .before .before .before .before .before .before .before .before
+          .before .before .loop-test,
+    )
 
 loop-again : tie.Need-loop-again Inv-loop μ-loop
 loop-again c =
-    let chosen = sym (c .before .before .before .before .before .before .before .before .before .before .before .next .given .1) ∙ c .before .before .before .before .before .before .before .before .before .before .before .before .before .next-step .ensures in
+    let chosen = sym (c .before .before .before .before .before .before .before .before .before .before .before .next
+    .given .1) ∙ c .before .before .before .before .before .before .before .before .before .before .before .before
+    .before .next-step .ensures in
     let did = c .before .before .before .before .before .before .op-step in
-    turn-more _ _ _ _ _ _ _ _ _ _ _ _ _ _ _ _ _ _ (c .before .before .before .before .before .before .before .before .before .before .before .before .before .before .before .loop .inv) (c .before .before .before .before .before .before .before .before .before .before .before .before .before .before .loop-test .taken) chosen
+    turn-more _ _ _ _ _ _ _ _ _ _ _ _ _ _ _ _ _ _
+    (c .before .before .before .before .before .before .before .before .before .before .before .before .before .before
+    .before .loop .inv) (c .before .before .before .before .before .before .before .before .before .before .before
+    .before .before .before .loop-test .taken) chosen
     (did .ensures) (did .kept .1 .1 .1 .1 .0) (did .kept .1 .1 .1 .1 .1 .0) (did .kept .1 .1 .1 .1 .1 .1 .0)
 
 same-length : tie.Need-same-length Inv-loop μ-loop
@@ -72,7 +93,11 @@ returns c =
       inv .within,
       inv .moved,
       inv .late,
-      λ plan state begins. record { ran = inv .done plan state begins .0; due = λ fewer. absurd (omega (arith, c .loop-test)) },
+      λ plan state begins. record {
+        ran = inv .done plan state begins .0;
+        due = λ fewer. absurd
+            (omega (arith, c .loop-test));
+      },
     )
 
 same-length-4 : tie.Need-same-length-4 Inv-loop μ-loop
@@ -92,7 +117,11 @@ returns-2 c =
       inv .moved,
       inv .late,
       λ plan state begins.
-      record { ran = inv .done plan state begins .0; due = λ fewer. turn-ends _ _ _ _ _ _ _ _ _ _ _ _ _ inv chosen plan state begins },
+          record {
+            ran = inv .done plan state begins .0;
+            due = λ fewer. turn-ends _ _ _ _ _ _ _ _ _ _ _ _ _ inv chosen
+                plan state begins;
+          },
     )
 
 pub run-window-spec : {M : Type 1} → statement M

@@ -17,10 +17,26 @@ flush-l1-requires : tie.Need-flush-l1-requires
 flush-l1-requires c κs = search needs
 
 add-later : tie.Need-add-later
-add-later c = omega (arith, flushes-most _ _ _ _ (c .before .before .before .before .before .before .flush-kernel .ensures .0) (c .before .before .before .before .before .before .flush-kernel .ensures .1) (c .before .before .flush-l1 .ensures .0), c .before .before .before .before .before .before .before .before .later .ensures, c .before .before .before .before .before .before .before .before .before .before .pre)
+add-later c =
+    omega (
+      arith,
+      flushes-most _ _ _ _ (c .before .before .before .before .before .before .flush-kernel .ensures .0)
+          (c .before .before .before .before .before .before .flush-kernel .ensures .1)
+          (c .before .before .flush-l1 .ensures .0),
+      c .before .before .before .before .before .before .before .before .later .ensures,
+      c .before .before .before .before .before .before .before .before .before .before .pre,
+    )
 
 add-later-2 : tie.Need-add-later-2
-add-later-2 c = omega (arith, flushes-most _ _ _ _ (c .before .before .before .before .before .before .flush-kernel .ensures .0) (c .before .before .before .before .before .before .flush-kernel .ensures .1) (c .before .before .flush-l1 .ensures .0), c .before .before .before .before .before .before .before .before .later .ensures, c .before .before .before .before .before .before .before .before .before .before .pre)
+add-later-2 c =
+    omega (
+      arith,
+      flushes-most _ _ _ _ (c .before .before .before .before .before .before .flush-kernel .ensures .0)
+          (c .before .before .before .before .before .before .flush-kernel .ensures .1)
+          (c .before .before .flush-l1 .ensures .0),
+      c .before .before .before .before .before .before .before .before .later .ensures,
+      c .before .before .before .before .before .before .before .before .before .before .pre,
+    )
 
 add-later-3 : tie.Need-add-later-3
 add-later-3 c = search needs
@@ -35,7 +51,9 @@ returns : tie.Need-returns
 returns c =
     let kernel = c .before .before .before .before .before .before .before .flush-kernel in
     let l1 = c .before .before .before .flush-l1 in (
-      switch-clocks _ _ _ _ (kernel .ensures .0) (kernel .ensures .1) (l1 .ensures .0) _ _ _ _ _ (c .before .before .before .before .before .before .before .before .before .later .ensures) (c .later2 .ensures),
+      switch-clocks _ _ _ _ (kernel .ensures .0) (kernel .ensures .1) (l1 .ensures .0) _ _ _ _ _
+          (c .before .before .before .before .before .before .before .before .before .later .ensures)
+          (c .later2 .ensures),
       l1 .ensures .1 ∙ ap l1Flushed (kernel .ensures .1),
     )
 

@@ -55,7 +55,7 @@ returns c = asked-refused _ _ _ _ _ (sym (c .before .verdict .given .1) ∙ c .b
 
 returns-2 : tie.Need-returns-2
 returns-2 c =
-    asked-granted _ _ _ _ _ _ (granted (c .before .before)) (c .before .part-records .ensures (c .before .before .before .before .before .before .args .plan) refl) (c .log-of .ensures)
+    asked-granted _ _ _ _ _ _ (granted (c .before .before)) (c .before .part-records .ensures (c .before .before .before .before .before .before .args .plan) refl) (c .log-of .ensures .0)
 
 pub ask-spec : {M : Type 1} → statement M
 ask-spec =
