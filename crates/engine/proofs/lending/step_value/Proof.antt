@@ -18,7 +18,7 @@ same-length-3 c = search needs
 
 returns : tie.Need-returns
 unfolding stepCallOf
-returns c = c .before .before .before .before .before .before .before .run .ensures
+returns c = c .before .before .before .before .before .before .run .ensures
 
 pub step-value-spec : {M : Type 1} → statement M
 step-value-spec = tie.close (tie.spec run-requires same-length same-length-2 same-length-3 returns)
