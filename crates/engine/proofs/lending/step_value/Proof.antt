@@ -6,7 +6,7 @@ use Rattle.engine.proofs.lending.step_value.Tie as tie
 
 returns : tie.Need-returns
 unfolding stepCallOf
-returns c = c .before .before .before .before .before .before .before .run .ensures
+returns c = c .before .before .before .before .before .before .run .ensures
 
 pub step-value-spec : {M : Type 1} → statement M
 step-value-spec =

@@ -22,7 +22,7 @@ switch-requires c κs =
     .before .before .before .before .before .before .pre in
     let ran = c .before .before .before .before .before .before .before .before .before .before .run-window in
     let end = ap (λ (t : Turn). t .end) (ran .ensures .1) in
-    (ran .kept .1 .1 .1 .1 .1 .0 ∙ pre .8, omega (arith, end, ran .ensures .2), omega (arith, end, pre .6), pre .1)
+    (ran .kept .1 .1 .1 .1 .1 .0 ∙ pre .8, omega (arith, end, ran .ensures .2), omega (arith, end, pre .6), omega (arith, pre .1))
 
 add-t22 : tie.Need-add-t22
 add-t22 c =
