@@ -18,7 +18,7 @@ use Rattle.state.specs.World.{endedOf, freshState}
 use Rattle.machine.specs.Fresh.{freshWorld}
 use Rattle.machine.specs.Steps.{opStepOf, switchDue, nextStepOf, activeStep, stepOf, runOf}
 use Rattle.machine.specs.Switch.{flushedClock, paddedClock, switchOf}
-use Rattle.engine.specs.Checks.{stateVerdict, freshVerdict, runVerdict, logVerdict}
+use Rattle.engine.specs.Checks.{freshVerdict, runVerdict, logVerdict}
 use Rattle.engine.specs.FreshStart.{freshStartOf}
 use Rattle.engine.specs.LogQuery.{logQueryOf, logStatusOf}
 use Rattle.engine.specs.Running.{ranFrom, runCallOf, stepCallOf}
@@ -38,6 +38,6 @@ unfolding
     lineAllowed l1EntryValid allEmpty waysValid setValid boxValid tablesValid
     endedOf freshState freshWorld opStepOf switchDue nextStepOf activeStep stepOf runOf
     flushedClock paddedClock switchOf
-    stateVerdict freshVerdict runVerdict logVerdict freshStartOf logQueryOf logStatusOf
+    freshVerdict runVerdict logVerdict freshStartOf logQueryOf logStatusOf
     ranFrom runCallOf stepCallOf
 computing = 0

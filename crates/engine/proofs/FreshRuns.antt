@@ -1,26 +1,29 @@
--- A run right after a fresh start: where it begins, that what it leaves passes the checks again, and that it ends. Assumes nothing.
+-- A run right after a fresh start: where it begins, that what it leaves is not refused again, and that it ends. Assumes nothing.
 use mathlib.Core.Path.{_≡_, refl, sym, ap, subst, _∙_}
 use mathlib.Core.Bool.{true}
 use mathlib.Core.List.{List}
-use Prim.Native.Nat.{ℕ, _≤_}
-use lib.ListN.{length, replicate}
+use Prim.Native.Nat.{ℕ, _+_, _≤_}
+use lib.ListN.{length}
 use Rattle.plan.specs.declared.Plan.{Plan}
+use Rattle.plan.specs.Limits.{mostRunTicks}
 use Rattle.plan.specs.Validity.{planValid}
 use Rattle.script.specs.Limits.{scriptsLength}
+use Rattle.cache.specs.Lines.{emptyTable}
 use Rattle.records.specs.Records.{partRecords}
+use Rattle.ops.specs.Ops.{emptyBoxes}
 use Rattle.state.specs.declared.State.{State}
 use Rattle.state.specs.StateValidity.{stateValid}
 use Rattle.state.specs.World.{World, endedOf}
 use Rattle.machine.specs.Steps.{runOf, steps}
 use Rattle.machine.specs.View.{worldWith}
 use Rattle.reachable.proofs.Ending.{ends}
-use Rattle.reachable.proofs.Reached.{boxes-length, cache-length, log-length, reachedWorld, state-valid, tables-valid}
+use Rattle.reachable.proofs.Reached.{boxes-length, cache-length, log-length, state-valid, tables-valid}
 use Rattle.refusal.specs.declared.Verdict.{Verdict}
 use Rattle.refusal.specs.declared.Verdict.the-variants.{Accepted, Refused}
 use Rattle.engine.specs.Answers.{freshWith}
 use Rattle.engine.specs.declared.Ending.the-variants.{Ended}
 use Rattle.engine.specs.Checks.{freshVerdict, runVerdict}
-use Rattle.machine.specs.Fresh.{freshWorld}
+use Rattle.machine.specs.Fresh.{freshWorld, reachedWorld}
 use Rattle.engine.specs.FreshStart.{FreshOutcome, freshFrom, freshStartOf}
 use Rattle.engine.specs.Running.{endingOf, ranFrom, runCallOf, runFrom}
 use Rattle.engine.proofs.Passing.{run-passes}
@@ -29,15 +32,15 @@ use Rattle.engine.proofs.Passing.{run-passes}
 pub started-fresh :
     (plan : Plan) (old fresh : State) (verdict : Verdict) (cache boxes log : List ℕ)
     → planValid plan ≡ true
-    → freshWith verdict fresh cache boxes ≡ freshStartOf plan old (replicate 272 0) (replicate 64 0)
+    → freshWith verdict fresh cache boxes ≡ freshStartOf plan old emptyTable emptyBoxes
     → worldWith fresh cache boxes log ≡ freshWorld log
 unfolding freshStartOf freshWorld freshVerdict
 started-fresh plan old fresh verdict cache boxes log possible did =
-    let accepted : freshVerdict plan (replicate 272 0) (replicate 64 0) ≡ Accepted = rw possible refl in
-    let started = did ∙ ap (λ (v : Verdict). freshFrom v old (replicate 272 0) (replicate 64 0)) accepted in
+    let accepted : freshVerdict plan emptyTable emptyBoxes ≡ Accepted = rw possible refl in
+    let started = did ∙ ap (λ (v : Verdict). freshFrom v old emptyTable emptyBoxes) accepted in
     ap (λ (f : FreshOutcome). worldWith (f .state) (f .cache) (f .boxes) log) started
 
--- what a run from a fresh start leaves is as long as its log was, and passes the check for 14
+-- what a run from a fresh start leaves is as long as its log was, and its state is valid (14)
 pub record Left (plan : Plan) (log : List ℕ) (world : World) : Type 0 where
   pub possible : stateValid plan (partRecords plan (length log)) (world .state) ≡ true
   pub long : length (world .log) ≡ length log
@@ -54,7 +57,7 @@ run-left plan scripts log limit possible = go (runVerdict plan scripts (freshWor
     go Accepted = reached limit
     go (Refused refusal) = reached 0
 
--- a run that goes on from any world which so many steps reach, beside a script store of the right length, is not refused
+-- a run that goes on from any world which steps from a fresh start reach, beside a script store of the right length, is not refused
 pub reached-accepted : (plan : Plan) (scripts log : List ℕ) (count : ℕ)
     → planValid plan ≡ true
     → length scripts ≡ scriptsLength
@@ -81,7 +84,7 @@ fresh-run-accepted plan scripts log possible store = reached-accepted plan scrip
 pub fresh-run-ends : (plan : Plan) (scripts log : List ℕ) (limit : ℕ)
     → planValid plan ≡ true
     → length scripts ≡ scriptsLength
-    → 4_294_969_343 ≤ limit
+    → mostRunTicks + scriptsLength ≤ limit
     → runCallOf plan scripts (freshWorld log) limit .ending ≡ Ended
 unfolding runCallOf ranFrom freshWorld
 fresh-run-ends plan scripts log limit possible store large =

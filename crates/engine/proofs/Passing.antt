@@ -17,14 +17,7 @@ use Rattle.state.specs.StateValidity.{stateValid}
 use Rattle.state.specs.World.{World}
 use Rattle.refusal.specs.declared.Verdict.the-variants.{Accepted}
 use Rattle.engine.specs.LogQuery.{logStatusOf}
-use Rattle.engine.specs.Checks.{logVerdict, runVerdict, stateVerdict}
-
--- a state
-pub state-passes : (plan : Plan) (state : State) (logLength : ℕ)
-    → stateValid plan (partRecords plan logLength) state ≡ true
-    → stateVerdict plan state logLength ≡ Accepted
-unfolding stateVerdict
-state-passes plan state logLength passes = rw passes
+use Rattle.engine.specs.Checks.{logVerdict, runVerdict}
 
 -- what a step or a run takes
 pub run-passes : (plan : Plan) (scripts : List ℕ) (world : World)
@@ -43,11 +36,11 @@ run-passes plan scripts world store cache boxes possible sound passes =
       eq-eqb (length (world .boxes)) boxesLength boxes,
       possible,
       sound,
+      passes,
       runVerdict,
     )
-    (state-passes plan (world .state) (length (world .log)) passes)
 
--- what an asking for a declared domain's log takes
+-- what a query for a declared domain's log takes
 pub log-query-passes : (plan : Plan) (state : State) (log : List ℕ) (domain : ℕ)
     → planValid plan ≡ true
     → stateValid plan (partRecords plan (length log)) state ≡ true
@@ -55,4 +48,4 @@ pub log-query-passes : (plan : Plan) (state : State) (log : List ℕ) (domain : 
     → logStatusOf plan state log domain ≡ Accepted
 unfolding logStatusOf logVerdict
 log-query-passes plan state log domain possible passes declared =
-    rw (possible, state-passes plan state (length log) passes, lt-ltb domain (plan .domains) declared, logVerdict)
+    rw (possible, passes, lt-ltb domain (plan .domains) declared, logVerdict)

@@ -1,5 +1,5 @@
--- Document 01, "Window, switch, run": what the code of an entry point answers, with the lent things at exit, as one record of the definitions.
--- Assumes nothing.
+-- Document 01, "Window, switch, run": what the code of an entry point answers, with the buffers after the call, as one
+-- record of the definitions. Assumes nothing.
 use Prim.Native.Nat.{ℕ}
 use mathlib.Core.List.{List}
 use Rattle.state.specs.World.{World}

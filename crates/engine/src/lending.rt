@@ -1,7 +1,6 @@
 // A single step: the state is lent to it and rewritten there.
 use crate::Answer;
 use crate::Progress;
-use crate::Stepped;
 use crate::running::run;
 use plan::Plan;
 use state::State;
@@ -18,22 +17,12 @@ fn step_value(
     cache: &mut [u16],
     boxes: &mut [u32],
     log: &mut [u8],
-) -> Stepped
-    ensures { λ r. ⌜ stepWith (r .answer) (r .state) (now (cache .exit)) (now (boxes .exit)) (now (log .exit))
-        ≡ stepCallOf plan (now (scripts .entry)) (worldWith state (now (cache .entry)) (now (boxes .entry)) (now (log .entry))) ⌝ }
+) -> Progress
+    ensures { λ ran. ⌜ runWith ran (now (cache .exit)) (now (boxes .exit)) (now (log .exit))
+        ≡ stepCallOf plan (now (scripts .entry))
+        (worldWith state (now (cache .entry)) (now (boxes .entry)) (now (log .entry))) ⌝ }
 {
-    let progress = run(plan, scripts, state, cache, boxes, log, 1);
-    let left = progress.state;
-    let verdict = progress.verdict;
-    let ending = progress.ending;
-    Stepped {
-        state: left,
-        answer: Answer {
-            verdict,
-            steps: progress.steps,
-            ending,
-        },
-    }
+    run(plan, scripts, state, cache, boxes, log, 1)
 }
 
 // The single step: the state is lent, and rewritten where it lies.
@@ -46,12 +35,17 @@ pub fn step_lent(
     log: &mut [u8],
 ) -> Answer
     ensures { λ r. ⌜ stepWith r (now (state .exit)) (now (cache .exit)) (now (boxes .exit)) (now (log .exit))
-        ≡ stepCallOf plan (now (scripts .entry)) (worldWith (now (state .entry)) (now (cache .entry)) (now (boxes .entry)) (now (log .entry))) ⌝ }
+        ≡ stepCallOf plan (now (scripts .entry))
+        (worldWith (now (state .entry)) (now (cache .entry)) (now (boxes .entry)) (now (log .entry))) ⌝ }
 {
     let s = *state;
     let out = step_value(plan, scripts, s, cache, boxes, log);
     *state = out.state;
-    out.answer
+    Answer {
+        verdict: out.verdict,
+        steps: out.steps,
+        ending: out.ending,
+    }
 }
 
 // The single step for a caller who holds the state by value: it is kept in a local, which is lent.
@@ -64,7 +58,8 @@ pub fn step(
     log: &mut [u8],
 ) -> Progress
     ensures { λ r. ⌜ runWith r (now (cache .exit)) (now (boxes .exit)) (now (log .exit))
-        ≡ stepCallOf plan (now (scripts .entry)) (worldWith state (now (cache .entry)) (now (boxes .entry)) (now (log .entry))) ⌝ }
+        ≡ stepCallOf plan (now (scripts .entry))
+        (worldWith state (now (cache .entry)) (now (boxes .entry)) (now (log .entry))) ⌝ }
 {
     let mut lent = state;
     let answer = step_lent(&mut lent, plan, scripts, cache, boxes, log);

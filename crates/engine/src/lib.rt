@@ -36,9 +36,3 @@ pub struct Answer {
     pub steps: u64,
     pub ending: Ending,
 }
-
-// A single step's answer, with the state that it leaves.
-pub struct Stepped {
-    pub state: State,
-    pub answer: Answer,
-}

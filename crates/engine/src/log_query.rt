@@ -1,15 +1,18 @@
-// Asking for one domain's log, and the second question about it.
+// A query for one domain's log, and its status query.
 use crate::checks::check_log;
 use plan::Plan;
 use records::part_records;
 use refusal::Verdict;
 use state::State;
 ghost use mathlib.Core.Path.{_≡_};
-ghost use Rattle.engine.specs.LogQuery.{logQueryOf, logStatusOf};
+ghost use Prim.Native.Nat.{_+_};
+ghost use Rattle.engine.specs.LogQuery.{logOffsetOf, logQueryOf, logStatusOf};
 
-// One domain's records so far: the part of the lent log itself, empty where the asking is refused.
+// One domain's records so far: the part of the lent log itself, empty where the query is refused.
 pub fn log_of(plan: Plan, state: State, log: &[u8], domain: u32) -> &[u8]
-    ensures { λ r. ⌜ now r ≡ logQueryOf plan state (now (log .entry)) domain ⌝ }
+    ensures { λ r. ⌜ (now r ≡ logQueryOf plan state (now (log .entry)) domain)
+        × (r .ptr .0 ≡ log .entry .ptr .0)
+        × (r .ptr .1 ≡ log .entry .ptr .1 + logOffsetOf plan state (now (log .entry)) domain) ⌝ }
 {
     let verdict = check_log(plan, state, log, domain);
     match verdict {
@@ -24,7 +27,7 @@ pub fn log_of(plan: Plan, state: State, log: &[u8], domain: u32) -> &[u8]
     }
 }
 
-// Why an asking is refused, if it is.
+// The status query: why a log query is refused, if it is.
 pub fn log_refusal(plan: Plan, state: State, log: &[u8], domain: u32) -> Verdict
     ensures { λ r. ⌜ r ≡ logStatusOf plan state (now (log .entry)) domain ⌝ }
 {

@@ -10,6 +10,7 @@ use refusal::Verdict;
 use state::State;
 ghost use mathlib.Core.Path.{_≡_};
 ghost use Prim.Native.Nat.{_≤_};
+ghost use Rattle.plan.specs.Limits.{mostRun, mostWindows};
 ghost use Rattle.state.specs.World.{endedOf};
 ghost use Rattle.machine.specs.View.{worldWith};
 ghost use Rattle.engine.specs.Running.{endingOf, runCallOf};
@@ -17,7 +18,7 @@ ghost use Rattle.engine.specs.Answers.{runWith};
 
 // Whether a run is over.
 fn ending_of(plan: Plan, state: State) -> Ending
-    requires { ⌜ (plan .run ≤ 1_000) × (plan .windows ≤ 32) ⌝ }
+    requires { ⌜ (plan .run ≤ mostRun) × (plan .windows ≤ mostWindows) ⌝ }
     ensures { λ r. ⌜ r ≡ endingOf (endedOf plan state) ⌝ }
 {
     if windows_total(plan) <= state.windows {
@@ -38,7 +39,8 @@ pub fn run(
     limit: u64,
 ) -> Progress
     ensures { λ r. ⌜ runWith r (now (cache .exit)) (now (boxes .exit)) (now (log .exit))
-        ≡ runCallOf plan (now (scripts .entry)) (worldWith state (now (cache .entry)) (now (boxes .entry)) (now (log .entry))) limit ⌝ }
+        ≡ runCallOf plan (now (scripts .entry))
+        (worldWith state (now (cache .entry)) (now (boxes .entry)) (now (log .entry))) limit ⌝ }
 {
     let verdict = check_run(plan, scripts, state, cache, boxes, log);
     match verdict {

@@ -13,7 +13,7 @@ use Rattle.engine.specs.Running.{RunOutcome, runCallOf, stepCallOf}
 use Rattle.isolation.specs.Calls.{AllOwn, Call, Handed, afterCall, handed, leftIn, logAnswer, logStatus, own}
 use Rattle.isolation.specs.Calls.{runAnswer, runCall, verdictOf}
 use Rattle.isolation.proofs.OneRun.Calls.{is-own, left-same, ownLogThings, ownThings}
-use Rattle.pirkvezo.specs.Answers.{allFit, answerLength, verdictNumber}
+use Rattle.pirkvezo.specs.Answers.{allFit, answerLength, verdictNumber, wrongLength}
 use Rattle.pirkvezo.specs.LogQuery.{LogCall, hostLog, logAnswerOf, logDone}
 use Rattle.pirkvezo.specs.Numbers.{numbersFrom, planLength, planOf, stateLength, stateNumbers, stateOf}
 use Rattle.pirkvezo.specs.Running.{RunCall, hostRun, hostStep, runDone}
@@ -164,10 +164,10 @@ pub query-is :
 unfolding hostLog
 query-is plan held domain answer fit = rw (fit, hostLog) refl
 
--- what a call with an answer array returns and leaves: it is refused, or does what the engine's call does
+-- what a call with an answer array returns and leaves: it is refused with 11, or does what the engine's call does
 pub record Mirrors
     (plan scripts : List ℕ) (held : Arrays) (call : Call) (answer : List ℕ) (number : ℕ) (after : Arrays) : Type 0 where
-  pub unfit : allFit plan (held .state) answer ≡ false → isRefusal number ≡ true
+  pub unfit : allFit plan (held .state) answer ≡ false → number ≡ verdictNumber wrongLength
   pub returns :
       allFit plan (held .state) answer ≡ true
       → number ≡ verdictNumber (verdictOf (planOf plan) scripts call (meant held))
@@ -193,7 +193,7 @@ module _ (plan scripts : List ℕ) (held : Arrays) where
     unfolding hostRun
     did-is fit = rw (fit, hostRun) refl
 
-    did-unfit : allFit plan (held .state) answer ≡ false → isRefusal (did .number) ≡ true
+    did-unfit : allFit plan (held .state) answer ≡ false → did .number ≡ verdictNumber wrongLength
     unfolding hostRun
     did-unfit unfit = rw (unfit, hostRun) refl
 
@@ -218,7 +218,7 @@ module _ (plan scripts : List ℕ) (held : Arrays) where
   module _ (domain : ℕ) (answer : List ℕ) where
     query-unfit :
         allFit plan (held .state) answer ≡ false
-        → isRefusal (hostLog plan (held .state) (held .log) domain answer .number) ≡ true
+        → hostLog plan (held .state) (held .log) domain answer .number ≡ verdictNumber wrongLength
     unfolding hostLog
     query-unfit unfit = rw (unfit, hostLog) refl
 
@@ -256,4 +256,4 @@ module _ (plan scripts : List ℕ) (held : Arrays) where
           → allFit plan (held .state) (answerHanded call) ≡ fit
           → allFit plan (held .state) (answerHanded call) ≡ true
       go true is = is
-      go false is = absurd (false≢true (sym accepted ∙ mirrors call owned .unfit is))
+      go false is = absurd (false≢true (sym accepted ∙ ap isRefusal (mirrors call owned .unfit is)))

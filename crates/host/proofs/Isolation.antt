@@ -7,6 +7,7 @@ use mathlib.Core.Path.{_≡_, refl, sym, ap, subst, subst₂, _∙_}
 use native.Mathlib.Decide.{ℕ-discrete}
 use native.Mathlib.Omega.{arith}
 use lib.ListN.{getD, length}
+use borrow.Author.Tests.{eq-eqb, ne-eqb}
 use Rattle.plan.specs.Limits.{mostDomains}
 use Rattle.plan.specs.Validity.{planValid}
 use Rattle.plan.proofs.Windows.{domains-most}
@@ -23,13 +24,13 @@ use Rattle.isolation.specs.Statement.{SameL1, SameSeen, SameSets, StartedOnTime
 use Rattle.isolation.proofs.Isolation.{isolation}
 use Rattle.isolation.proofs.OneRun.{on-time, own-accepted, own-refused}
 use Rattle.isolation.proofs.OneRun.Leaves.{list-valid}
-use Rattle.pirkvezo.specs.Answers.{allFit, answerLength, verdictNumber}
+use Rattle.pirkvezo.specs.Answers.{allFit, answerLength, verdictNumber, wrongLength}
 use Rattle.pirkvezo.specs.Numbers.{planOf, positionsOffset, stateOf}
 use Rattle.pirkvezo.proofs.Runs.{run-at}
 use Rattle.host.specs.Calls.{AllOwnArrays, Arrays, HostCall, HostList, IsHostList, answerHanded, arraysLeft}
-use Rattle.host.specs.Calls.{hostLogCall, hostPointOf, hostRunCall, hostStepCall, isRefusal, numberReturned}
-use Rattle.host.specs.Statement.{HostAdmissible, HostComparableFor, HostEndsInWindowOf, HostIsolation, HostSameSeen}
-use Rattle.host.specs.Statement.{HostWindowsOnTime, LogShown, runOfHost, shownAfter}
+use Rattle.host.specs.Calls.{hostLogCall, hostPointOf, hostRunCall, hostStepCall, numberReturned}
+use Rattle.host.specs.Statement.{HostAdmissible, HostComparableFor, HostEndsInWindowOf, HostIsolation}
+use Rattle.host.specs.Statement.{HostSameSeen, HostWindowsOnTime, LogShown, refusalNumber, runOfHost, shownAfter}
 use Rattle.host.proofs.Calls.{all-fit, as-own, asCall, meant, mirrors, refused-keeps, unfit-answer}
 use Rattle.host.proofs.Lists.{engine-is, engine-leaves, engine-point, engineList, host-leaves, plan-long}
 use Rattle.host.proofs.Lists.{state-long}
@@ -100,25 +101,38 @@ module _ (list : HostList) (is : IsHostList list) where
       returned-is call owned (admit .0)
       ∙ ap verdictNumber (own-accepted (engineList list) (engine-is list is) (asCall call) (as-own call) (admit .1))
 
-  refused-code : (call : HostCall) → isRefusal (refusedCode (asCall call) .number) ≡ true
-  refused-code (hostStepCall arrays) = refl
-  refused-code (hostRunCall arrays limit) = refl
-  refused-code (hostLogCall arrays domain) = refl
+  -- the number of a refusal, where the answer's length is right and where it is not
+  refused-number :
+      (call : HostCall)
+      → length (answerHanded call) ≡ answerLength
+      → refusedCode (asCall call) .number ≡ refusalNumber call
+  refused-number (hostStepCall arrays) long = refl
+  refused-number (hostRunCall arrays limit) long = refl
+  refused-number (hostLogCall arrays domain) long = rw (eq-eqb (length (arrays .answer)) answerLength long) refl
+
+  unfit-number :
+      (call : HostCall)
+      → (length (answerHanded call) ≡ answerLength → ⊥)
+      → verdictNumber wrongLength ≡ refusalNumber call
+  unfit-number (hostStepCall arrays) differs = refl
+  unfit-number (hostRunCall arrays limit) differs = refl
+  unfit-number (hostLogCall arrays domain) differs = rw (ne-eqb (length (arrays .answer)) answerLength differs) refl
 
   host-refused :
-      (call : HostCall) → AllOwnArrays call → (HostAdmissible list call → ⊥) → isRefusal (returned call) ≡ true
+      (call : HostCall) → AllOwnArrays call → (HostAdmissible list call → ⊥) → returned call ≡ refusalNumber call
   host-refused call owned inadmissible = go (ℕ-discrete (length (answerHanded call)) answerLength)
     where
-      go : Dec (length (answerHanded call) ≡ answerLength) → isRefusal (returned call) ≡ true
+      go : Dec (length (answerHanded call) ≡ answerLength) → returned call ≡ refusalNumber call
       go (yes long) =
-          ap isRefusal (returned-is call owned long)
-          ∙ ap (λ (code : Code). isRefusal (code .number))
+          returned-is call owned long
+          ∙ ap (λ (code : Code). code .number)
           (own-refused (engineList list) (engine-is list is) (asCall call) (as-own call)
           (λ admissible. inadmissible (admitted call long admissible)))
-          ∙ refused-code call
+          ∙ refused-number call long
       go (no differs) =
           mirrors (list .plan) (list .scripts) held call owned .unfit
           (unfit-answer (list .plan) (held .state) (answerHanded call) differs)
+          ∙ unfit-number call differs
 
   -- ---- what is seen
 

@@ -17,7 +17,7 @@ use Rattle.isolation.specs.Calls.{isRefused}
 use Rattle.isolation.proofs.OneRun.Verdicts.{refused-number}
 use Rattle.pirkvezo.specs.Answers.{allFit, answerOf, planFits, verdictNumber, wrongLength}
 use Rattle.pirkvezo.specs.Numbers.{numbersFrom, planLength, planNumbers, planOf, stateOf}
-use Rattle.pirkvezo.specs.Reading.{ReadCall, hostRead, readDone, readWith}
+use Rattle.pirkvezo.specs.Reading.{ReadCall, hostRead, readDone, hostReadWith}
 use Rattle.pirkvezo.specs.Starting.{freshDone, hostFreshStart}
 use Rattle.pirkvezo.proofs.ReadBack.{read-back}
 use Rattle.host.specs.Calls.{HostList, IsHostList, IsTextList, ReadArrays, freshReturn, isRefusal, readReturn}
@@ -37,7 +37,7 @@ module _ (arrays : ReadArrays) (list : HostList) (is : IsTextList arrays list) w
   read-is =
       let answer = answerOf wrongLength 0 0 (arrays .answer) in
       fitting (λ (call : ReadCall). call .number) (planFits (arrays .plan) (arrays .answer))
-      (readWith (verdictNumber wrongLength) (arrays .scripts) (arrays .plan) answer)
+      (hostReadWith (verdictNumber wrongLength) (arrays .scripts) (arrays .plan) answer)
       (readDone reading (arrays .answer)) refl (ap isRefusal (is .read)) .1
 
   accepted : reading .verdict ≡ Accepted

@@ -3,9 +3,10 @@
 -- sees the same in the arrays, whatever its rivals' scripts hold, if each of its windows began with
 -- the same in the boxes addressed to it. Assumes nothing.
 use Prim.Native.Nat.{ℕ, _+_, _<_, _≤_}
-use mathlib.Core.Bool.{true}
+use mathlib.Core.Bool.{cond, true}
 use mathlib.Core.List.{List}
 use mathlib.Core.Path.{_≡_}
+use lib.Dec.{eqb}
 use lib.ListN.{getD, length}
 use Rattle.lists.specs.Part.{part}
 use Rattle.plan.specs.Limits.{mostDomains}
@@ -15,11 +16,11 @@ use Rattle.ops.specs.Ops.{boxIndex}
 use Rattle.state.specs.World.{World}
 use Rattle.reader.specs.Read.{readOf}
 use Rattle.isolation.specs.Points.{FreshRun, InWindowOf, opsOf, windowsAfter, worldAfter}
-use Rattle.isolation.specs.Statement.{BoxesAgree, Correspond, Only, SameKernelSets, SameL1, SameSets}
-use Rattle.isolation.specs.Statement.{ScriptsAgree, StartedOnTime}
+use Rattle.isolation.specs.Statement.{BoxesAgree, Correspond, Only, SameKernelSets, SameL1}
+use Rattle.isolation.specs.Statement.{SameSets, ScriptsAgree, StartedOnTime}
 use Rattle.pirkvezo.specs.Answers.{answerLength}
 use Rattle.pirkvezo.specs.LogQuery.{LogCall, hostLog}
-use Rattle.pirkvezo.specs.Numbers.{clockOffset, completedOffset, planOf}
+use Rattle.pirkvezo.specs.Numbers.{stateClockOffset, completedOffset, planOf}
 use Rattle.pirkvezo.specs.Numbers.{positionsOffset, stateNumbers}
 use Rattle.host.specs.Calls.{AllOwnArrays, Arrays, HostCall, HostList, IsHostList, IsTextList}
 use Rattle.host.specs.Calls.{ReadArrays, afterHostCall, arraysLeft, hostLogCall, hostPointOf}
@@ -50,6 +51,13 @@ HostAdmissible list (hostRunCall arrays limit) =
 HostAdmissible list (hostLogCall arrays domain) =
     (length (arrays .answer) ≡ answerLength) × (domain < planOf (list .plan) .domains)
 
+-- the number with which any other is refused: 4 where it is only that the domain is not declared,
+-- and else 11
+abbrev pub refusalNumber : HostCall → ℕ
+refusalNumber (hostStepCall arrays) = 11
+refusalNumber (hostRunCall arrays limit) = 11
+refusalNumber (hostLogCall arrays domain) = cond (eqb (length (arrays .answer)) answerLength) 4 11
+
 -- ---- (A)
 
 -- each window so far started when the plan says
@@ -62,8 +70,8 @@ HostWindowsOnTime list =
 -- ---- (B): its premises
 
 -- what two lists must have in common, over a predicate that names domains: the plan's numbers, the
--- named domains' scripts, the logs' length; they end at corresponding points, and the boxes addressed
--- to named domains were equal at the start of each of their windows so far
+-- named domains' scripts, the logs' length; they end at corresponding points, and the boxes
+-- addressed to named domains were equal at the start of each of their windows so far
 pub record HostComparableFor (Named : ℕ → Type 0) (one other : HostList) : Type 0 where
   pub plans : one .plan ≡ other .plan
   pub declared : (domain : ℕ) → Named domain → domain < planOf (one .plan) .domains
@@ -143,7 +151,7 @@ pub record HostSameSeen (observer : ℕ) (one other : HostList) : Type 0 where
   -- in its own window: the clock, L1, the kernel's sets, and the boxes addressed to it
   pub clock :
       HostEndsInWindowOf (Only observer) one
-      → getD (arraysLeft one .state) clockOffset 0 ≡ getD (arraysLeft other .state) clockOffset 0
+      → getD (arraysLeft one .state) stateClockOffset 0 ≡ getD (arraysLeft other .state) stateClockOffset 0
   pub l1 :
       HostEndsInWindowOf (Only observer) one
       → SameL1 (arraysLeft one .cache) (arraysLeft other .cache)
@@ -168,12 +176,12 @@ pub record HostListLaws (list : HostList) : Type 0 where
       → AllOwnArrays call
       → HostAdmissible list call
       → numberReturned (list .plan) (list .scripts) call (arraysLeft list) ≡ 0
-  -- and else it is refused
+  -- and else it is refused, with 11 or with 4
   pub refused :
       (call : HostCall)
       → AllOwnArrays call
       → (HostAdmissible list call → ⊥)
-      → isRefusal (numberReturned (list .plan) (list .scripts) call (arraysLeft list)) ≡ true
+      → numberReturned (list .plan) (list .scripts) call (arraysLeft list) ≡ refusalNumber call
   -- a refused call, whatever it was handed, leaves every array of the list's own as it was
   pub unchanged :
       (call : HostCall)

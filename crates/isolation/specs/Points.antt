@@ -5,17 +5,15 @@ use mathlib.Core.Bool.{Bool, cond, _&&_}
 use mathlib.Core.List.{List}
 use mathlib.Core.Path.{_≡_}
 use lib.Dec.{eqb, ltb}
-use lib.ListN.{getD, length}
+use lib.ListN.{getD}
 use Rattle.plan.specs.declared.Plan.{Plan}
 use Rattle.plan.specs.Limits.{mostDomains, mostRunTicks}
 use Rattle.plan.specs.Sums.{sumTo}
 use Rattle.plan.specs.Windows.{windowOwner, windowsTotal}
 use Rattle.script.specs.Limits.{scriptsLength}
-use Rattle.records.specs.Records.{partRecords}
 use Rattle.ops.specs.Ops.{boxIndex}
 use Rattle.state.specs.World.{World}
-use Rattle.machine.specs.Steps.{steps}
-use Rattle.machine.specs.Fresh.{freshWorld}
+use Rattle.machine.specs.Fresh.{reachedWorld}
 
 -- a run from a fresh start, by what decides it: a plan, a script store and a log
 pub record FreshRun : Type 0 where
@@ -25,9 +23,7 @@ pub record FreshRun : Type 0 where
 
 -- the world after its first `count` steps
 unfoldable pub worldAfter : FreshRun → ℕ → World
-worldAfter run count =
-    steps (run .plan) (run .scripts) (partRecords (run .plan) (length (run .log))) count
-    (freshWorld (run .log))
+worldAfter run count = reachedWorld (run .plan) (run .scripts) (run .log) count
 
 -- the windows completed by then
 abbrev pub windowsAfter : FreshRun → ℕ → ℕ

@@ -1,4 +1,4 @@
--- An op that stands next in a script is within its limits, and stands before position 256. Assumes nothing.
+-- An op that stands next in a script is within its limits, and stands at a position of the script. Assumes nothing.
 use Prim.Native.Nat.{ℕ, _+_, _*_, _<_}
 use mathlib.Core.Bool.{Bool, true, false, cond}
 use mathlib.Core.List.{List}
@@ -10,7 +10,7 @@ use borrow.Author.Tests.{ltb-true}
 use Rattle.script.specs.declared.Op.{Op}
 use Rattle.script.specs.declared.ScriptItem.the-variants.{Op as Fetch, End}
 use Rattle.script.specs.Fetch.{decodeOf, fetchOf}
-use Rattle.script.specs.Limits.{OpWithinLimits}
+use Rattle.script.specs.Limits.{OpWithinLimits, mostOps}
 use Rattle.script.proofs.Laws.{decode-within}
 
 -- the end of a script is no op
@@ -19,17 +19,17 @@ end-is-none op same = let none : _≡_ {A = ℕ} 0 1 = cc in omega arith
 
 module _ (scripts : List ℕ) (domain position : ℕ) (op : Op) (fetched : fetchOf scripts domain position ≡ Fetch op) where
   -- the stored number there was decoded
-  fetched-op : (position < 256) × (decodeOf (getD scripts (256 * domain + position) 0) ≡ Fetch op)
+  fetched-op : (position < mostOps) × (decodeOf (getD scripts (mostOps * domain + position) 0) ≡ Fetch op)
   unfolding fetchOf
-  fetched-op = go (ltb position 256) refl fetched
+  fetched-op = go (ltb position mostOps) refl fetched
     where
-      go : (before : Bool) → ltb position 256 ≡ before
-          → cond before (decodeOf (getD scripts (256 * domain + position) 0)) End ≡ Fetch op
-          → (position < 256) × (decodeOf (getD scripts (256 * domain + position) 0) ≡ Fetch op)
-      go true test is = (ltb-true position 256 test, is)
+      go : (before : Bool) → ltb position mostOps ≡ before
+          → cond before (decodeOf (getD scripts (mostOps * domain + position) 0)) End ≡ Fetch op
+          → (position < mostOps) × (decodeOf (getD scripts (mostOps * domain + position) 0) ≡ Fetch op)
+      go true test is = (ltb-true position mostOps test, is)
       go false test is = absurd (end-is-none op is)
 
-  pub fetched-below : position < 256
+  pub fetched-below : position < mostOps
   fetched-below = fetched-op .0
 
   pub fetched-within : OpWithinLimits op

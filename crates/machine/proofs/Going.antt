@@ -9,7 +9,7 @@ use lib.Dec.{ltb}
 use lib.ListN.{length}
 use borrow.Author.Tests.{le-leb, ltb-false, ltb-true}
 use Rattle.plan.specs.declared.Plan.{Plan}
-use Rattle.plan.specs.Limits.{mostDomains, mostLength, mostPad, mostRun, mostRunTicks, mostWindows}
+use Rattle.plan.specs.Limits.{dearestOp, mostDomains, mostLength, mostPad, mostRun, mostRunTicks, mostWindows}
 use Rattle.plan.specs.Validity.{planValid}
 use Rattle.plan.specs.Windows.{windowEnd, windowLength, windowOwner, slotOf, windowStart, windowsTotal}
 use Rattle.plan.proofs.ValidPlans.{counts}
@@ -113,7 +113,7 @@ module _ (plan : Plan) (scripts : List ℕ) (quota limit : ℕ) (first : World) 
 
     -- in a window the clock is near the window's end
     pub going-clock : planValid plan ≡ true → stateValid plan quota (first .state) ≡ true → present .state .windows < windowsTotal plan
-        → present .state .clock ≤ windowEnd plan (present .state .windows) + 212
+        → present .state .clock ≤ windowEnd plan (present .state .windows) + (dearestOp - 1)
     going-clock possible valid inWindow =
         let on-schedule = steps-scheduled plan scripts quota first possible (valid-scheduled plan quota first possible valid) steps in
         subst (Scheduled plan) (sym (ap (λ (r : RunEffect). r .world) (going .ran))) on-schedule .soon inWindow

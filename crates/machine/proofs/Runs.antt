@@ -83,7 +83,7 @@ module _ (plan : Plan) (scripts : List ℕ) (quota : ℕ) where
   unfolding runOf
   runs-one world next running stepped = (λ i. ranWith 1 (sym stepped i)) ∙ sym (run-more 0 world running)
 
-  -- first so many, then so many more
+  -- first some, then some more
   pub runs-on : (one other : ℕ) (first present next : World) → RunsTo plan scripts quota one first present → RunsTo plan scripts quota other present next
       → RunsTo plan scripts quota (one + other) first next
   runs-on one other first present next so-far more =

@@ -1,6 +1,6 @@
 -- Windows start when the plan alone says: where the clock of a reached world stands, and that a switch sets it to the next window's start.
 -- Assumes nothing.
-use Prim.Native.Nat.{ℕ, suc, _+_, _≤_, _<_}
+use Prim.Native.Nat.{ℕ, suc, _+_, _-_, _≤_, _<_}
 use mathlib.Core.Bool.{Bool, and-eq-true-iff, false, true}
 use mathlib.Core.List.{List}
 use mathlib.Core.Logic.{_⊎_, inl, inr}
@@ -10,6 +10,7 @@ use native.Mathlib.Omega.{arith}
 use lib.Dec.{ltb}
 use borrow.Author.Tests.{eqb-true, leb-true, ltb-false, ltb-true}
 use Rattle.plan.specs.declared.Plan.{Plan}
+use Rattle.plan.specs.Limits.{dearestOp}
 use Rattle.plan.specs.Validity.{planValid}
 use Rattle.plan.specs.Windows.{windowEnd, windowStart, ticksTotal, windowsTotal}
 use Rattle.plan.proofs.Windows.{pad-least, start-total}
@@ -24,11 +25,11 @@ use Rattle.machine.specs.Switch.{flushedClock, paddedClock, switchOf}
 use Rattle.machine.proofs.Fetched.{fetched-within}
 use Rattle.machine.proofs.Invariant.{Begins, step-cases, steps-hold}
 
--- windows at most the total; in a window the clock is from its start to its end + 212; ended, it is the start that a next window would have
+-- windows at most the total; in a window the clock is from its start to its end + (dearestOp - 1); ended, it is the start that a next window would have
 pub record Scheduled (plan : Plan) (world : World) : Type 0 where
   pub windows : world .state .windows ≤ windowsTotal plan
   pub started : windowStart plan (world .state .windows) ≤ world .state .clock
-  pub soon : world .state .windows < windowsTotal plan → world .state .clock ≤ windowEnd plan (world .state .windows) + 212
+  pub soon : world .state .windows < windowsTotal plan → world .state .clock ≤ windowEnd plan (world .state .windows) + (dearestOp - 1)
   pub ended : world .state .windows ≡ windowsTotal plan → world .state .clock ≡ windowStart plan (world .state .windows)
 
 -- the next window starts at a window's end + the pad, and no window ends before it starts
@@ -40,7 +41,7 @@ pub start-end : (plan : Plan) (window : ℕ) → windowStart plan window ≤ win
 unfolding windowEnd
 start-end plan window = omega arith
 
--- 212 ticks late and 64 ticks of flushing are within the pad: after a switch the clock is exactly the next window's start
+-- the lateness of an op and the ticks of both flushes are within the pad: after a switch the clock is exactly the next window's start
 pub switch-clock : (plan : Plan) (world : World) → planValid plan ≡ true → Scheduled plan world → world .state .windows < windowsTotal plan
     → switchOf plan world .state .clock ≡ windowStart plan (world .state .windows + 1)
 unfolding switchOf paddedClock flushedClock

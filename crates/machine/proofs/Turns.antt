@@ -6,6 +6,7 @@ use Prim.Native.Nat.{ℕ, _+_, _≤_, max}
 use native.Mathlib.Omega.{arith}
 use lib.Dec.{leb}
 use Rattle.plan.specs.declared.Plan.{Plan}
+use Rattle.plan.specs.Limits.{dearestOp, mostFlushTicks}
 use Rattle.plan.specs.Windows.{windowEnd}
 use Rattle.script.specs.declared.ScriptItem.{ScriptItem}
 use Rattle.script.specs.declared.ScriptItem.the-variants.{Op as Fetch, End}
@@ -32,7 +33,7 @@ use Rattle.lists.proofs.Tests.{neither}
 -- both flushes one after the other, with what each answers
 module _ (cache flushed : List ℕ) (kernel l1 : ℕ)
     (first : kernel ≡ kernelFlushTicks cache) (between : flushed ≡ kernelFlushed cache) (second : l1 ≡ l1FlushTicks flushed) where
-  pub flushes-most : kernel + l1 ≤ 64
+  pub flushes-most : kernel + l1 ≤ mostFlushTicks
   flushes-most = rw (first, second, between) (flush-ticks cache)
 
   pub switch-clocks :
@@ -84,12 +85,12 @@ module _ (scripts : List ℕ) (turn : Turn) where
 
 -- ---- an op
 
--- an answer's ticks are at most 213
+-- an answer's ticks are those of the dearest op at most
 pub operated-ticks :
     (plan : Plan) (domain : ℕ) (op : Op) (cache boxes : List ℕ) (done : OpResult) (cache′ boxes′ : List ℕ)
     → OpWithinLimits op
     → effectWith done cache′ boxes′ ≡ effectOf plan domain op cache boxes
-    → done .ticks ≤ 213
+    → done .ticks ≤ dearestOp
 operated-ticks plan domain op cache boxes done cache′ boxes′ within did =
     let same : done .ticks ≡ effectOf plan domain op cache boxes .ticks = ap (λ (e : Effect). e .ticks) did in
     rw same (effect-ticks plan domain op cache boxes within)

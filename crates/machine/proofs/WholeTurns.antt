@@ -9,7 +9,7 @@ use native.Mathlib.Omega.{arith}
 use lib.ListN.{length, set}
 use borrow.Author.Tests.{lt-leb}
 use Rattle.plan.specs.declared.Plan.{Plan}
-use Rattle.plan.specs.Limits.{leastPad, mostDomains}
+use Rattle.plan.specs.Limits.{dearestOp, leastPad, mostDomains}
 use Rattle.plan.specs.Validity.{planValid}
 use Rattle.plan.specs.Windows.{windowEnd, windowLength, windowStart, windowsTotal}
 use Rattle.plan.proofs.Windows.{owner-declared}
@@ -51,14 +51,14 @@ turnFrom plan quota state start =
 pub record Room (turn : Turn) (logLength : ℕ) : Type 0 where
   pub windows : turn .windows ≤ clockBound
   pub owner : turn .owner < mostDomains
-  pub late : turn .clock ≤ turn .end + 212
+  pub late : turn .clock ≤ turn .end + (dearestOp - 1)
   pub end : turn .end ≤ clockBound
   pub log : 8 * (turn .quota * turn .owner + turn .quota) ≤ logLength
 
 module _
     (plan : Plan) (quota : ℕ) (state : State) (start : ℕ)
     (possible : planValid plan ≡ true) (inWindow : state .windows < windowsTotal plan) (starts : start ≡ windowStart plan (state .windows)) where
-  pub turn-room : (logLength : ℕ) → state .clock ≤ windowEnd plan (state .windows) + 212 → 8 * (quota * plan .domains) ≤ logLength
+  pub turn-room : (logLength : ℕ) → state .clock ≤ windowEnd plan (state .windows) + (dearestOp - 1) → 8 * (quota * plan .domains) ≤ logLength
       → Room (turnFrom plan quota state start) logLength
   turn-room logLength late fits =
       let numbers = small plan (state .windows) start possible starts inWindow in
@@ -119,7 +119,7 @@ module _ (limit pad : ℕ) (first : Turn) (ran : WindowProgress) (within : ran .
   -- or a switch follows
   module _ (clock : ℕ) (cache : List ℕ) (more : ran .steps < limit)
       (clocked : clock ≡ paddedClock (ran .turn .end) pad (flushedClock (ran .turn .clock) (ran .turn .end) cache)) where
-    pub turn-switches : leastPad ≤ pad → ran .turn .clock ≤ first .end + 212 → TurnRan limit pad first (switchedTo ran clock)
+    pub turn-switches : leastPad ≤ pad → ran .turn .clock ≤ first .end + (dearestOp - 1) → TurnRan limit pad first (switchedTo ran clock)
     unfolding paddedClock flushedClock
     turn-switches least late =
         record {

@@ -2,12 +2,13 @@
 use mathlib.Core.Bool.{false}
 use mathlib.Core.Path.{_≡_, refl, sym, ap, ap₂, subst, _∙_}
 use mathlib.Core.List.{List}
-use Prim.Native.Nat.{ℕ, _+_, _*_, _≤_, _<_}
+use Prim.Native.Nat.{ℕ, _+_, _*_, _-_, _≤_, _<_}
 use native.Mathlib.Omega.{arith}
 use lib.ListN.{length, length-set}
 use lib.Seq.{getD-set-same, set-getD, set-set}
 use borrow.Author.Tests.{lt-leb}
 use Rattle.plan.specs.declared.Plan.{Plan}
+use Rattle.plan.specs.Limits.{dearestOp}
 use Rattle.plan.specs.Windows.{windowEnd, windowOwner, windowsTotal}
 use Rattle.script.specs.declared.Op.{Op}
 use Rattle.script.specs.declared.ScriptItem.{ScriptItem}
@@ -111,7 +112,7 @@ pub record Turning
     (rights masks scripts : List ℕ) (limit : ℕ) (first : Turn) (cache₀ boxes₀ log₀ cache boxes log : List ℕ) (steps : ℕ) (turn : Turn) : Type 0 where
   pub within : steps ≤ limit
   pub moved : turn ≡ turnMoved first turn
-  pub late : turn .clock ≤ first .end + 212
+  pub late : turn .clock ≤ first .end + (dearestOp - 1)
   pub cache-long : length cache ≡ length cache₀
   pub boxes-long : length boxes ≡ length boxes₀
   pub log-long : length log ≡ length log₀
@@ -122,7 +123,7 @@ pub record Turning
 
 module _ (rights masks scripts : List ℕ) (limit : ℕ) (first : Turn) (cache₀ boxes₀ log₀ : List ℕ) where
   -- before the first op
-  pub turn-first : first .clock ≤ first .end + 212 → Turning rights masks scripts limit first cache₀ boxes₀ log₀ cache₀ boxes₀ log₀ 0 first
+  pub turn-first : first .clock ≤ first .end + (dearestOp - 1) → Turning rights masks scripts limit first cache₀ boxes₀ log₀ cache₀ boxes₀ log₀ 0 first
   unfolding runOf
   turn-first late =
       record {
@@ -164,11 +165,10 @@ module _ (rights masks scripts : List ℕ) (limit : ℕ) (first : Turn) (cache�
             subst
             (λ (s : State).
             Done plan scripts rights masks (first .quota) (steps + 1) after (worldWith state cache₀ boxes₀ log₀) s cache′ boxes′ log′)
-            (turned-twice state turn (next .clock))
-            (
+            (turned-twice state turn (next .clock)) (
               runs-on plan scripts (first .quota) steps 1 (worldWith state cache₀ boxes₀ log₀) (worldWith (turned state turn) cache boxes log)
-              (worldWith (turned (turned state turn) after) cache′ boxes′ log′)
-              (so-far .0) (one plan (turned state turn) (so-far .1)),
+                  (worldWith (turned (turned state turn) after) cache′ boxes′ log′)
+                  (so-far .0) (one plan (turned state turn) (so-far .1)),
               next-turn plan scripts rights masks (turned state turn) turn (so-far .1) (next .clock),
             );
       })

@@ -5,6 +5,7 @@ use mathlib.Core.Path.{_≡_}
 use mathlib.Core.List.{List}
 use lib.ListN.{length, set}
 use Rattle.plan.specs.declared.Plan.{Plan}
+use Rattle.plan.specs.Limits.{dearestOp}
 use Rattle.plan.specs.Windows.{windowEnd, windowOwner, windowsTotal}
 use Rattle.script.specs.declared.Op.{Op}
 use Rattle.state.specs.declared.State.{State}
@@ -75,11 +76,11 @@ pub record Stands (state : State) (turn : Turn) : Type 0 where
   pub positions-long : turn .owner < length (state .positions)
   pub records-long : turn .owner < length (state .records)
 
--- what an op leaves, with the turn after it: it takes at most 213 ticks
+-- what an op leaves, with the turn after it
 pub record OpRan
     (view : Plan) (op : Op) (turn next : Turn) (cache boxes log cache′ boxes′ log′ : List ℕ) : Type 0 where
   pub next-is : next ≡ turnAt turn (next .clock)
-  pub ticks : next .clock ≤ turn .clock + 213
+  pub ticks : next .clock ≤ turn .clock + dearestOp
   pub world :
       (state : State)
       → Stands state turn

@@ -15,9 +15,9 @@ use script::fetch;
 use state::State;
 ghost use mathlib.Core.Path.{_≡_};
 ghost use mathlib.Core.Bool.{true};
-ghost use Prim.Native.Nat.{_+_, _*_, _<_, _≤_, max};
+ghost use Prim.Native.Nat.{_+_, _*_, _-_, _<_, _≤_, max};
 ghost use lib.ListN.{length};
-ghost use Rattle.plan.specs.Limits.{leastPad, mostDomains, mostPad};
+ghost use Rattle.plan.specs.Limits.{dearestOp, leastPad, mostDomains, mostPad};
 ghost use Rattle.plan.specs.Validity.{planValid};
 ghost use Rattle.script.specs.Limits.{OpWithinLimits, mostOps, scriptsLength};
 ghost use Rattle.cache.specs.Lines.{tableLength};
@@ -36,7 +36,7 @@ fn later(one: u64, other: u64) -> u64
 
 // The switch: the clock raised to the window's end if lower, both flushes, and the pad. Answers the clock at the next window's start.
 fn switch(cache: &mut [u16], clock: u64, end: u64, pad: u64) -> u64
-    requires { ⌜ (length (now cache) ≡ tableLength) × (clock ≤ end + 212) × (end ≤ clockBound) × (pad ≤ mostPad) ⌝ }
+    requires { ⌜ (length (now cache) ≡ tableLength) × (clock ≤ end + (dearestOp - 1)) × (end ≤ clockBound) × (pad ≤ mostPad) ⌝ }
     ensures { λ r.
         ⌜ (r ≡ paddedClock end pad (flushedClock clock end (now (cache .entry))))
         × (now (cache .exit) ≡ switchedCache (now (cache .entry))) ⌝ }
@@ -103,11 +103,11 @@ fn run_window(
     boxes: &mut [u32],
     log: &mut [u8],
 ) -> WindowProgress
-    requires { ⌜ (first .owner < mostDomains) × (first .clock ≤ first .end + 212) × (first .end ≤ clockBound)
+    requires { ⌜ (first .owner < mostDomains) × (first .clock ≤ first .end + (dearestOp - 1)) × (first .end ≤ clockBound)
         × (length (now scripts) ≡ scriptsLength) × (length (now cache) ≡ tableLength) × (length (now boxes) ≡ boxesLength)
         × (8 * (first .quota * first .owner + first .quota) ≤ length (now log)) ⌝ }
     ensures { λ r. ⌜ (r .steps ≤ limit) × (r .turn ≡ turnMoved first (r .turn))
-        × (r .turn .clock ≤ first .end + 212) × ((plan : Plan) (state : State)
+        × (r .turn .clock ≤ first .end + (dearestOp - 1)) × ((plan : Plan) (state : State)
         → InTurn plan (now (rights .entry)) (now (masks .entry)) state first
         → WindowRan plan (now (scripts .entry)) (first .quota) limit (r .steps)
         (worldWith state (now (cache .entry)) (now (boxes .entry)) (now (log .entry)))
@@ -139,7 +139,7 @@ fn run_turn(
     log: &mut [u8],
 ) -> WindowProgress
     requires { ⌜ (leastPad ≤ pad) × (pad ≤ mostPad) × (0 < limit) × (first .windows ≤ clockBound)
-        × (first .owner < mostDomains) × (first .clock ≤ first .end + 212) × (first .end ≤ clockBound)
+        × (first .owner < mostDomains) × (first .clock ≤ first .end + (dearestOp - 1)) × (first .end ≤ clockBound)
         × (length (now scripts) ≡ scriptsLength) × (length (now cache) ≡ tableLength) × (length (now boxes) ≡ boxesLength)
         × (8 * (first .quota * first .owner + first .quota) ≤ length (now log)) ⌝ }
     ensures { λ r. ⌜ TurnRan limit pad first r × ((plan : Plan) (state : State)

@@ -21,7 +21,7 @@ use Rattle.pirkvezo.specs.declared.LogAnswer.{LogAnswer}
 use Rattle.pirkvezo.specs.Answers.{allFit, answerLength, answerOf, planFits, verdictNumber, wrongLength}
 use Rattle.pirkvezo.specs.LogQuery.{logAnswerOf, hostLog, logDone, hostLogWith}
 use Rattle.pirkvezo.specs.Numbers.{handedPlan, planLength, planNumbers, planOf, stateLength, stateNumbers, stateOf}
-use Rattle.pirkvezo.specs.Reading.{hostRead, readDone, readWith}
+use Rattle.pirkvezo.specs.Reading.{hostRead, readDone, hostReadWith}
 use Rattle.pirkvezo.specs.Running.{hostRun, runDone, hostRunWith}
 use Rattle.pirkvezo.specs.Starting.{freshDone, hostFreshWith, hostFreshStart}
 use Rattle.pirkvezo.proofs.Judged.{query-alike, fresh-alike, handed, run-alike}
@@ -64,7 +64,7 @@ module _ (text scripts plan answer : List ℕ) (number : ℕ) (written : List �
   pub read-unfit :
       planFits plan answer ≡ false
       → Told wrongLength 0 0 answer number written
-      → readWith number scripts plan written ≡ hostRead text scripts plan answer
+      → hostReadWith number scripts plan written ≡ hostRead text scripts plan answer
   unfolding hostRead
   read-unfit unfit tells = rw (unfit, hostRead, tells .number-is, tells .answer-is) refl
 
@@ -74,7 +74,7 @@ module _ (text scripts plan answer : List ℕ) (number : ℕ) (written : List �
       → (verdict ≡ readOf text scripts .verdict) × (given ≡ readOf text scripts .plan) × (filled ≡ readOf text scripts .scripts)
       → stored ≡ planNumbers given
       → Told verdict 0 0 answer number written
-      → readWith number filled stored written ≡ hostRead text scripts plan answer
+      → hostReadWith number filled stored written ≡ hostRead text scripts plan answer
   unfolding hostRead readDone
   read-fit verdict given filled stored fit did stores tells =
       rw (fit, hostRead, tells .number-is, tells .answer-is, stores, did .0, did .1, did .2) refl

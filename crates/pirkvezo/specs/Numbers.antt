@@ -107,8 +107,8 @@ stateLength = 18
 abbrev pub completedOffset : ℕ
 completedOffset = 0
 
-abbrev pub clockOffset : ℕ
-clockOffset = 1
+abbrev pub stateClockOffset : ℕ
+stateClockOffset = 1
 
 -- a script position for each domain
 abbrev pub positionsOffset : ℕ
@@ -131,7 +131,7 @@ unfoldable pub stateOf : List ℕ → State
 stateOf numbers =
     record {
       windows = getD numbers completedOffset 0;
-      clock = getD numbers clockOffset 0;
+      clock = getD numbers stateClockOffset 0;
       positions = numbersFrom numbers positionsOffset mostDomains;
       records = numbersFrom numbers recordsOffset mostDomains;
     }

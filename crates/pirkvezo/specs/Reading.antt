@@ -15,20 +15,20 @@ pub record ReadCall : Type 0 where
   pub answer : List ℕ
 
 -- these as one
-abbrev pub readWith : ℕ → List ℕ → List ℕ → List ℕ → ReadCall
-readWith number scripts plan answer =
+abbrev pub hostReadWith : ℕ → List ℕ → List ℕ → List ℕ → ReadCall
+hostReadWith number scripts plan answer =
     record { number = number; scripts = scripts; plan = plan; answer = answer }
 
 -- the plan that is read, in numbers; all zeros beside a refused reading
 unfoldable pub readDone : ReadOutcome → List ℕ → ReadCall
 readDone read answer =
-    readWith (verdictNumber (read .verdict)) (read .scripts) (planNumbers (read .plan))
+    hostReadWith (verdictNumber (read .verdict)) (read .scripts) (planNumbers (read .plan))
     (answerOf (read .verdict) 0 0 answer)
 
 -- the call: lengths first, then what the entry point does
 unfoldable pub hostRead : List ℕ → List ℕ → List ℕ → List ℕ → ReadCall
 hostRead text scripts plan answer =
     elim (planFits plan answer) [
-      | false ↦ readWith (verdictNumber wrongLength) scripts plan (answerOf wrongLength 0 0 answer)
+      | false ↦ hostReadWith (verdictNumber wrongLength) scripts plan (answerOf wrongLength 0 0 answer)
       | true ↦ readDone (readOf text scripts) answer
     ]

@@ -6,7 +6,7 @@ use crate::offsets::PLAN_LENGTH;
 use crate::plans::store_plan;
 use reader::read_plan;
 ghost use mathlib.Core.Path.{_≡_};
-ghost use Rattle.pirkvezo.specs.Reading.{hostRead, readWith};
+ghost use Rattle.pirkvezo.specs.Reading.{hostRead, hostReadWith};
 
 // Reads a text into a script store and a plan. A refusal leaves the store, and the plan is zeros.
 #[no_mangle]
@@ -16,7 +16,7 @@ pub extern "C" fn pirkvezo_read_plan(
     plan: &mut [u32],
     answer: &mut [u64],
 ) -> u32
-    ensures { λ r. ⌜ readWith r (now (scripts .exit)) (now (plan .exit)) (now (answer .exit))
+    ensures { λ r. ⌜ hostReadWith r (now (scripts .exit)) (now (plan .exit)) (now (answer .exit))
         ≡ hostRead (now (text .entry)) (now (scripts .entry)) (now (plan .entry))
         (now (answer .entry)) ⌝ }
 {

@@ -1,4 +1,4 @@
--- The counts of a reached state: script positions at most 256, records at most what a part of the log holds, and an undeclared domain's both 0.
+-- The counts of a reached state: script positions within a script, records at most what a part of the log holds, and an undeclared domain's both 0.
 -- Assumes nothing.
 use Prim.Native.Nat.{ℕ, _+_, _≤_, _<_}
 use mathlib.Core.Bool.{true}
@@ -6,10 +6,12 @@ use mathlib.Core.List.{List}
 use mathlib.Core.Path.{_≡_}
 use native.Mathlib.Omega.{arith}
 use Rattle.plan.specs.declared.Plan.{Plan}
+use Rattle.plan.specs.Limits.{mostDomains}
 use Rattle.plan.specs.Validity.{planValid}
 use Rattle.plan.specs.Windows.{windowsTotal}
 use Rattle.plan.proofs.Windows.{owner-declared}
 use Rattle.script.specs.declared.Op.{Op}
+use Rattle.script.specs.Limits.{mostOps}
 use Rattle.state.specs.World.{World, freshState, positionAt, recordsAt, runningOf}
 use Rattle.machine.specs.Fresh.{freshWorld}
 use Rattle.machine.specs.Steps.{opStepOf, steps}
@@ -19,7 +21,7 @@ use Rattle.machine.proofs.Invariant.{Begins, steps-hold}
 use Rattle.reachable.proofs.Cells.{cell-holds, cell-zeros}
 
 pub record Counted (plan : Plan) (quota : ℕ) (world : World) : Type 0 where
-  pub position : (domain : ℕ) → positionAt (world .state) domain ≤ 256
+  pub position : (domain : ℕ) → positionAt (world .state) domain ≤ mostOps
   pub records : (domain : ℕ) → recordsAt (world .state) domain ≤ quota
   pub noPosition : (domain : ℕ) → plan .domains ≤ domain → positionAt (world .state) domain ≡ 0
   pub noRecords : (domain : ℕ) → plan .domains ≤ domain → recordsAt (world .state) domain ≡ 0
@@ -43,7 +45,7 @@ module _ (plan : Plan) (scripts : List ℕ) (quota : ℕ) (possible : planValid 
       let below = fetched-below scripts running position op (begins .next) in
       let room = begins .room in
       record {
-        position = λ domain. cell-holds (λ n. n ≤ 256) positions running domain (position + 1) (counted .position domain) (λ same. omega arith);
+        position = λ domain. cell-holds (λ n. n ≤ mostOps) positions running domain (position + 1) (counted .position domain) (λ same. omega arith);
         records = λ domain. cell-holds (λ n. n ≤ quota) records running domain (count + 1) (counted .records domain) (λ same. omega arith);
         noPosition =
             λ domain past. cell-holds (λ n. n ≡ 0) positions running domain (position + 1) (counted .noPosition domain past) (λ same. omega arith);
@@ -55,10 +57,10 @@ module _ (plan : Plan) (scripts : List ℕ) (quota : ℕ) (possible : planValid 
   unfolding freshWorld freshState
   at-start log =
       record {
-        position = λ domain. omega (arith, cell-zeros 8 domain);
-        records = λ domain. omega (arith, cell-zeros 8 domain);
-        noPosition = λ domain past. cell-zeros 8 domain;
-        noRecords = λ domain past. cell-zeros 8 domain;
+        position = λ domain. omega (arith, cell-zeros mostDomains domain);
+        records = λ domain. omega (arith, cell-zeros mostDomains domain);
+        noPosition = λ domain past. cell-zeros mostDomains domain;
+        noRecords = λ domain past. cell-zeros mostDomains domain;
       }
 
   -- every world that a run reaches from a fresh start has possible counts

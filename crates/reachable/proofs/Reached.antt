@@ -1,5 +1,5 @@
--- Every world that a run reaches from a fresh start under a possible plan, beside a log of any length: its tables have their lengths, and it passes
--- the checks for 13 and 14. Assumes nothing.
+-- Every world that a run reaches from a fresh start under a possible plan, beside a log of any length: its tables have their lengths
+-- and are valid (13), and so is its state (14). Assumes nothing.
 use mathlib.Core.Bool.{true}
 use mathlib.Core.List.{List}
 use mathlib.Core.Path.{_≡_, refl}
@@ -12,17 +12,11 @@ use Rattle.records.specs.Records.{partRecords}
 use Rattle.ops.specs.Ops.{boxesLength}
 use Rattle.state.specs.TableValidity.{tablesValid}
 use Rattle.state.specs.StateValidity.{stateValid}
-use Rattle.state.specs.World.{World}
-use Rattle.machine.specs.Fresh.{freshWorld}
-use Rattle.machine.specs.Steps.{steps}
+use Rattle.machine.specs.Fresh.{reachedWorld}
 use Rattle.machine.proofs.Schedule.{scheduled}
 use Rattle.reachable.proofs.Counts.{counted}
 use Rattle.reachable.proofs.StateReached.{passes-state}
 use Rattle.reachable.proofs.Tables.{Sound, passes-tables, sound}
-
--- the world after so many steps from a fresh start beside a log, which is divided into the domains' parts
-abbrev pub reachedWorld : Plan → List ℕ → List ℕ → ℕ → World
-reachedWorld plan scripts log count = steps plan scripts (partRecords plan (length log)) count (freshWorld log)
 
 module _ (plan : Plan) (scripts log : List ℕ) (count : ℕ) (possible : planValid plan ≡ true) where
   reached-valid : Sound plan (length log) (reachedWorld plan scripts log count)
@@ -38,7 +32,7 @@ module _ (plan : Plan) (scripts log : List ℕ) (count : ℕ) (possible : planVa
   pub log-length : length (reachedWorld plan scripts log count .log) ≡ length log
   log-length = reached-valid .log
 
-  -- the checks for 13 and 14 pass
+  -- they are valid, and so is the state
   pub tables-valid :
       tablesValid plan (reachedWorld plan scripts log count .state) (reachedWorld plan scripts log count .cache)
       (reachedWorld plan scripts log count .boxes)

@@ -1,4 +1,4 @@
--- Every reached state passes the check for 14. Assumes nothing.
+-- Every reached state is valid (14). Assumes nothing.
 use Prim.Native.Nat.{ℕ, _≤_}
 use mathlib.Core.Bool.{true}
 use mathlib.Core.Path.{_≡_}
@@ -6,6 +6,7 @@ use native.Mathlib.Omega.{arith}
 use lib.Dec.{ltb}
 use borrow.Author.Tests.{eq-eqb, le-leb, ltb-false, ltb-true}
 use Rattle.plan.specs.declared.Plan.{Plan}
+use Rattle.plan.specs.Limits.{mostDomains}
 use Rattle.plan.specs.Validity.{planValid}
 use Rattle.plan.specs.Windows.{windowsTotal}
 use Rattle.plan.proofs.Sums.{below-all}
@@ -36,7 +37,7 @@ counts-valid plan quota world counted domain =
     let past : plan .domains ≤ domain = ltb-false _ _ test in
     both-pass _ _ (eq-eqb _ _ (counted .noPosition domain past)) (eq-eqb _ _ (counted .noRecords domain past)))
 
--- a world on schedule and with possible counts passes the check
+-- a world on schedule and with possible counts has a valid state
 pub passes-state : (plan : Plan) (quota : ℕ) (world : World)
     → planValid plan ≡ true
     → Scheduled plan world
@@ -44,4 +45,4 @@ pub passes-state : (plan : Plan) (quota : ℕ) (world : World)
     → stateValid plan quota (world .state) ≡ true
 unfolding stateValid
 passes-state plan quota world possible scheduled counted =
-    both-pass _ _ (clock-valid plan world possible scheduled) (below-all _ 8 (λ domain below. counts-valid plan quota world counted domain))
+    both-pass _ _ (clock-valid plan world possible scheduled) (below-all _ mostDomains (λ domain below. counts-valid plan quota world counted domain))

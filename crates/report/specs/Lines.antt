@@ -37,8 +37,8 @@ u32At bytes at = u16At bytes at + 65_536 * u16At bytes (at + 2)
 abbrev pub valueOffset : ℕ
 valueOffset = 2
 
-abbrev pub clockOffset : ℕ
-clockOffset = 4
+abbrev pub recordClockOffset : ℕ
+recordClockOffset = 4
 
 -- what the record at an offset of a log holds
 abbrev pub kindAt : List ℕ → ℕ → ℕ
@@ -48,7 +48,7 @@ abbrev pub valueAt : List ℕ → ℕ → ℕ
 valueAt log at = u16At log (at + valueOffset)
 
 abbrev pub clockAt : List ℕ → ℕ → ℕ
-clockAt log at = u32At log (at + clockOffset)
+clockAt log at = u32At log (at + recordClockOffset)
 
 -- from the kind on: (KIND VALUE))
 unfoldable pub kindAndValue : ℕ → ℕ → List ℕ

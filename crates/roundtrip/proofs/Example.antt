@@ -7,13 +7,13 @@ use Rattle.plan.specs.Validity.{countsValid, declaredValid, domainValid, maskVa
 use Rattle.plan.specs.Sums.{allBelow, sumTo}
 use Rattle.plan.specs.Windows.{ticksTotal}
 use Rattle.lexer.specs.Decimal.{decimalOf, digitsOf}
-use Rattle.roundtrip.specs.Example.{examplePlan, exampleText}
+use Rattle.roundtrip.specs.Example.{writtenPlan, writtenText}
 use Rattle.roundtrip.specs.Lines.{domainLine, followed, joined, linesFrom, padLine, planLines, planText, recipientsOf, risingFrom, runLine, spaced, windowLine}
 
-pub example-valid : planValid examplePlan ≡ true
-unfolding examplePlan coloursOf firstColour hasBit maskFrom maskOf sharesTotal countsValid declaredValid domainValid maskValid planValid undeclaredValid windowValid allBelow sumTo ticksTotal
+pub example-valid : planValid writtenPlan ≡ true
+unfolding writtenPlan coloursOf firstColour hasBit maskFrom maskOf sharesTotal countsValid declaredValid domainValid maskValid planValid undeclaredValid windowValid allBelow sumTo ticksTotal
 example-valid = refl
 
-pub example-written : planText examplePlan ≡ bytesOf exampleText
-unfolding examplePlan bytesOf decimalOf digitsOf hasBit domainLine followed joined linesFrom padLine planLines planText recipientsOf risingFrom runLine spaced windowLine
+pub example-written : planText writtenPlan ≡ bytesOf writtenText
+unfolding writtenPlan bytesOf decimalOf digitsOf hasBit domainLine followed joined linesFrom padLine planLines planText recipientsOf risingFrom runLine spaced windowLine
 example-written = refl

@@ -5,8 +5,8 @@ use lib.ListN.{replicate}
 use Rattle.plan.specs.declared.Plan.{Plan}
 
 -- three domains with 6, 4 and 1 colours, of which the first may send to both others and the last to the first
-unfoldable pub examplePlan : Plan
-examplePlan =
+unfoldable pub writtenPlan : Plan
+writtenPlan =
     record {
       pad = 276;
       run = 10;
@@ -20,6 +20,6 @@ examplePlan =
     }
 
 -- its text
-abbrev pub exampleText : String
-exampleText =
+abbrev pub writtenText : String
+writtenText =
     "(pad 276)\n(domain 0(share 400)(may 1 2))\n(domain 1(share 300)(may))\n(domain 2(share 67)(may 0))\n(window 0(length 400))\n(window 1(length 1000000))\n(window 2(length 5))\n(run 10)"

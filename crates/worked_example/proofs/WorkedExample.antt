@@ -16,14 +16,14 @@ use Rattle.forms.specs.Forms.{padForm, runForm, declaredDomain, windowForm, opF
 use Rattle.forms.specs.Forms.{nextDomain, listedDomain, mayForm, domainForm}
 use Rattle.line.specs.Lines.{closedLine, notedLine, formKeywords, formLine, lineAt}
 use Rattle.reader.specs.Draft.{noDraft, noOps, takePad, takeRun, takeDomain, takeWindow, takeOp, takeLine}
-use Rattle.plan.specs.Parts.{withPad, withRun, withDomain, withWindow, withMasks}
-use Rattle.reader.specs.Final.{lacking, mentionsFrom, firstOf, firstColourless, finalVerdict, planWithMasks}
+use Rattle.plan.specs.Parts.{withMasks}
+use Rattle.reader.specs.Final.{mentionsFrom, firstOf, firstColourless, finalVerdict, planWithMasks}
 use Rattle.reader.specs.Read.{walkFrom, readVerdict, readOf}
 use Rattle.engine.proofs.Computing.{computing}
 use Rattle.report.specs.Lines.{kindAndValue, seenLine, recordLines, domainLines, seenLines}
 use Rattle.report.specs.Lines.{pairLine, endLine, runLines, refusalLine}
 use Rattle.report.specs.Planrun.{ranLines, planrunOf}
-use Rattle.worked_example.specs.Example.{linesOf}
+use Rattle.worked_example.specs.Example.{textOf}
 use Rattle.worked_example.specs.WorkedExample.{WorkedExample, dirtyTable, firstWindowAt}
 use Rattle.worked_example.specs.WorkedExample.{foundBy, stepAt, tableAfter}
 
@@ -39,8 +39,8 @@ unfolding
     padForm runForm declaredDomain windowForm opForm nextDomain listedDomain mayForm domainForm
     closedLine notedLine formKeywords formLine lineAt
     noDraft noOps takePad takeRun takeDomain takeWindow takeOp takeLine
-    withPad withRun withDomain withWindow withMasks
-    lacking mentionsFrom firstOf firstColourless finalVerdict planWithMasks
+    withMasks
+    mentionsFrom firstOf firstColourless finalVerdict planWithMasks
     walkFrom readVerdict readOf
 reading = 0
 
@@ -52,7 +52,7 @@ unfolding
 printing = 0
 
 pub worked-example : WorkedExample
-unfolding computing reading printing linesOf dirtyTable firstWindowAt foundBy stepAt tableAfter
+unfolding computing reading printing textOf dirtyTable firstWindowAt foundBy stepAt tableAfter
 worked-example =
     record {
       fullRun = refl;

@@ -6,14 +6,14 @@ use mathlib.Core.List.{List, [], _∷_, _++_}
 use Rattle.lists.specs.Ascii.{bytesOf}
 
 -- the bytes of some lines, a LF after each
-unfoldable pub linesOf : List String → List ℕ
-linesOf [] = []
-linesOf (line ∷ lines) = bytesOf line ++ (bytesOf "\n" ++ linesOf lines)
+unfoldable pub textOf : List String → List ℕ
+textOf [] = []
+textOf (line ∷ lines) = bytesOf line ++ (bytesOf "\n" ++ textOf lines)
 
 -- the plan, with a first line of one's own for its pad
 abbrev pub planWithPadLine : String → List ℕ
 planWithPadLine padLine =
-    linesOf
+    textOf
     (padLine
     ∷ "(domain 0 (share 400) (may 1))"
     ∷ "(domain 1 (share 300) (may))"
@@ -34,7 +34,7 @@ examplePlan = planWithPadLine "(pad 276)"
 -- what is printed for it
 abbrev pub exampleOutput : List ℕ
 exampleOutput =
-    linesOf
+    textOf
     ("(seen 0 100 (miss 3))"
     ∷ "(seen 0 101 (hit1 3))"
     ∷ "(seen 0 306 (sent 1))"

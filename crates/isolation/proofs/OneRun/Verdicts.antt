@@ -21,11 +21,11 @@ use Rattle.refusal.specs.declared.Refusal.the-variants.{WrongLength, Impossible
 use Rattle.refusal.specs.declared.Verdict.{Verdict}
 use Rattle.refusal.specs.declared.Verdict.the-variants.{Accepted, Refused}
 use Rattle.engine.specs.LogQuery.{logStatusOf}
-use Rattle.engine.specs.Checks.{freshVerdict, logVerdict, runVerdict, tablesFit, unless}
+use Rattle.engine.specs.Checks.{freshVerdict, logVerdict, runVerdict, tablesFit}
+use Rattle.refusal.specs.Checks.{unless}
 use Rattle.machine.specs.Fresh.{freshWorld}
 use Rattle.engine.specs.FreshStart.{FreshOutcome, freshFrom, freshStartOf}
 use Rattle.engine.specs.Running.{ranFrom, runCallOf, runFrom}
-use Rattle.engine.proofs.Passing.{state-passes}
 use Rattle.isolation.specs.Calls.{isRefused}
 
 -- every refusal has a number that is not 0
@@ -92,7 +92,7 @@ pub wrong-domain : (plan : Plan) (state : State) (log : List ℕ) (domain : ℕ)
     → logStatusOf plan state log domain ≡ Refused (WrongDomain 0)
 unfolding logStatusOf logVerdict
 wrong-domain plan state log domain possible passes undeclared =
-    rw (possible, state-passes plan state (length log) passes, le-ltb domain (plan .domains) (omega arith), logVerdict)
+    rw (possible, passes, le-ltb domain (plan .domains) (omega arith), logVerdict)
 
 -- what a fresh start leaves, and a log, as a world
 abbrev beside : FreshOutcome → List ℕ → World

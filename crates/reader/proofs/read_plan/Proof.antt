@@ -26,28 +26,13 @@ ticks-bounded c =
     let draft = good c .0 in
     (draft .run-most, draft .windows .most, draft .pad-most, λ slot _. lengths-most draft slot)
 
-refused-reading-requires : tie.Need-refused-reading-requires
-refused-reading-requires c κs = tt
-
 returns : tie.Need-returns
 returns c = read-wrong-length _ _ _ _ (c .before .if1 .taken) (c .refused-reading .ensures .0) (c .refused-reading .ensures .1)
-
-refused-reading-requires-2 : tie.Need-refused-reading-requires-2
-refused-reading-requires-2 c κs = tt
 
 returns-2 : tie.Need-returns-2
 returns-2 c =
     read-too-long _ _ (c .before .before .if1 .left) _ _ (c .before .if2 .taken)
     (c .refused-reading2 .ensures .0) (c .refused-reading2 .ensures .1)
-
-walk-requires : tie.Need-walk-requires
-walk-requires c κs = tt
-
-enum-known-verdict : tie.Need-enum-known-verdict
-enum-known-verdict c = search needs
-
-refused-reading-requires-3 : tie.Need-refused-reading-requires-3
-refused-reading-requires-3 c κs = tt
 
 returns-3 : tie.Need-returns-3
 unfolding noOps
@@ -58,17 +43,8 @@ returns-3 c =
     (walked .walk .result) _ (walked .walk .ensures) _ _ _ (c .before .before .verdict .given .1)
     (c .refused-reading3 .ensures .0) (c .refused-reading3 .ensures .1)
 
-enum-told : tie.Need-enum-told
-enum-told c = search needs
-
 final-verdict-requires : tie.Need-final-verdict-requires
 final-verdict-requires c κs = let walked = c .before .before .before in (shares-bounded walked, ticks-bounded walked)
-
-enum-known-judged : tie.Need-enum-known-judged
-enum-known-judged c = search needs
-
-refused-reading-requires-4 : tie.Need-refused-reading-requires-4
-refused-reading-requires-4 c κs = tt
 
 returns-4 : tie.Need-returns-4
 unfolding noOps
@@ -81,9 +57,6 @@ returns-4 c =
     _ (checked .final-verdict .ensures) _ _ _ (c .before .before .judged .given .1)
     (c .refused-reading4 .ensures .0) (c .refused-reading4 .ensures .1)
 
-enum-told-2 : tie.Need-enum-told-2
-enum-told-2 c = search needs
-
 hand-over-requires : tie.Need-hand-over-requires
 hand-over-requires c κs =
     let walked = c .before .before .before .before .before .before .before .before in
@@ -95,9 +68,6 @@ plan-with-masks-requires c κs =
     let walked = checked .before .before .before .before in
     let passed = sym (checked .final-verdict .ensures) ∙ c .before .before .before .before .before .enum-told2 .given .1 in
     (shares-bounded walked, colours-at-most _ _ (passes _ (walked .walk .result .draft) passed .shares))
-
-same-length : tie.Need-same-length
-same-length c = search needs
 
 returns-5 : tie.Need-returns-5
 unfolding noOps
@@ -114,21 +84,6 @@ pub read-plan-spec : {M : Type 1} → statement M
 read-plan-spec =
     tie.close
     (tie.spec
-    refused-reading-requires
-    returns
-    refused-reading-requires-2
-    returns-2
-    walk-requires
-    enum-known-verdict
-    refused-reading-requires-3
-    returns-3
-    enum-told
-    final-verdict-requires
-    enum-known-judged
-    refused-reading-requires-4
-    returns-4
-    enum-told-2
-    hand-over-requires
-    plan-with-masks-requires
-    same-length
-    returns-5)
+    (λ c κs. tt) returns (λ c κs. tt) returns-2 (λ c κs. tt) (λ c. search needs) (λ c κs. tt) returns-3
+    (λ c. search needs) final-verdict-requires (λ c. search needs) (λ c κs. tt) returns-4 (λ c. search needs)
+    hand-over-requires plan-with-masks-requires (λ c. search needs) returns-5)

@@ -3,90 +3,6 @@ use borrow.Author.Needs.{needs}
 use Rattle.refusal.proofs.refusal_code.Statement.{statement}
 use Rattle.refusal.proofs.refusal_code.Tie as tie
 
-enum-told : tie.Need-enum-told
-enum-told c = search needs
-
-code-with-requires : tie.Need-code-with-requires
-code-with-requires c κs = search needs
-
-enum-known-refusal : tie.Need-enum-known-refusal
-enum-known-refusal c = search needs
-
-code-with-requires-2 : tie.Need-code-with-requires-2
-code-with-requires-2 c κs = search needs
-
-enum-known-refusal-2 : tie.Need-enum-known-refusal-2
-enum-known-refusal-2 c = search needs
-
-code-with-requires-3 : tie.Need-code-with-requires-3
-code-with-requires-3 c κs = search needs
-
-enum-known-refusal-3 : tie.Need-enum-known-refusal-3
-enum-known-refusal-3 c = search needs
-
-code-with-requires-4 : tie.Need-code-with-requires-4
-code-with-requires-4 c κs = search needs
-
-enum-known-refusal-4 : tie.Need-enum-known-refusal-4
-enum-known-refusal-4 c = search needs
-
-code-with-requires-5 : tie.Need-code-with-requires-5
-code-with-requires-5 c κs = search needs
-
-enum-known-refusal-5 : tie.Need-enum-known-refusal-5
-enum-known-refusal-5 c = search needs
-
-code-with-requires-6 : tie.Need-code-with-requires-6
-code-with-requires-6 c κs = search needs
-
-enum-known-refusal-6 : tie.Need-enum-known-refusal-6
-enum-known-refusal-6 c = search needs
-
-code-with-requires-7 : tie.Need-code-with-requires-7
-code-with-requires-7 c κs = search needs
-
-enum-known-refusal-7 : tie.Need-enum-known-refusal-7
-enum-known-refusal-7 c = search needs
-
-code-with-requires-8 : tie.Need-code-with-requires-8
-code-with-requires-8 c κs = search needs
-
-enum-told-2 : tie.Need-enum-told-2
-enum-told-2 c = search needs
-
-code-with-requires-9 : tie.Need-code-with-requires-9
-code-with-requires-9 c κs = search needs
-
-enum-known-refusal-8 : tie.Need-enum-known-refusal-8
-enum-known-refusal-8 c = search needs
-
-code-with-requires-10 : tie.Need-code-with-requires-10
-code-with-requires-10 c κs = search needs
-
-enum-told-3 : tie.Need-enum-told-3
-enum-told-3 c = search needs
-
-code-with-requires-11 : tie.Need-code-with-requires-11
-code-with-requires-11 c κs = search needs
-
-enum-told-4 : tie.Need-enum-told-4
-enum-told-4 c = search needs
-
-code-with-requires-12 : tie.Need-code-with-requires-12
-code-with-requires-12 c κs = search needs
-
-enum-told-5 : tie.Need-enum-told-5
-enum-told-5 c = search needs
-
-code-with-requires-13 : tie.Need-code-with-requires-13
-code-with-requires-13 c κs = search needs
-
-enum-told-6 : tie.Need-enum-told-6
-enum-told-6 c = search needs
-
-code-with-requires-14 : tie.Need-code-with-requires-14
-code-with-requires-14 c κs = search needs
-
 returns : tie.Need-returns
 returns c = simp (← (c .code-with .ensures), c .before .enum-told .given .1)
 
@@ -133,45 +49,10 @@ pub refusal-code-spec : {M : Type 1} → statement M
 refusal-code-spec =
     tie.close
     (tie.spec
-    enum-told
-    code-with-requires
-    enum-known-refusal
-    code-with-requires-2
-    enum-known-refusal-2
-    code-with-requires-3
-    enum-known-refusal-3
-    code-with-requires-4
-    enum-known-refusal-4
-    code-with-requires-5
-    enum-known-refusal-5
-    code-with-requires-6
-    enum-known-refusal-6
-    code-with-requires-7
-    enum-known-refusal-7
-    code-with-requires-8
-    enum-told-2
-    code-with-requires-9
-    enum-known-refusal-8
-    code-with-requires-10
-    enum-told-3
-    code-with-requires-11
-    enum-told-4
-    code-with-requires-12
-    enum-told-5
-    code-with-requires-13
-    enum-told-6
-    code-with-requires-14
-    returns
-    returns-2
-    returns-3
-    returns-4
-    returns-5
-    returns-6
-    returns-7
-    returns-8
-    returns-9
-    returns-10
-    returns-11
-    returns-12
-    returns-13
-    returns-14)
+    (λ c. search needs) (λ c κs. search needs) (λ c. search needs) (λ c κs. search needs) (λ c. search needs)
+    (λ c κs. search needs) (λ c. search needs) (λ c κs. search needs) (λ c. search needs) (λ c κs. search needs)
+    (λ c. search needs) (λ c κs. search needs) (λ c. search needs) (λ c κs. search needs) (λ c. search needs)
+    (λ c κs. search needs) (λ c. search needs) (λ c κs. search needs) (λ c. search needs) (λ c κs. search needs)
+    (λ c. search needs) (λ c κs. search needs) (λ c. search needs) (λ c κs. search needs) (λ c. search needs)
+    (λ c κs. search needs) (λ c. search needs) (λ c κs. search needs) returns returns-2 returns-3 returns-4
+    returns-5 returns-6 returns-7 returns-8 returns-9 returns-10 returns-11 returns-12 returns-13 returns-14)

@@ -38,7 +38,7 @@ write-domain-requires c κs =
     let log = start .args .log .now in
     let few = domains-most plan (start .pre .0) in
     let declared = c .before .before .if1 .taken in
-    rw (c .before .log-of .ensures)
+    rw (c .before .log-of .ensures .0)
     (omega (
       arith,
       l .inv .1 .0,
@@ -60,7 +60,7 @@ loop-again c =
       omega (arith, own .before .if1 .taken),
       rw (add-one (l .domain))
           (wrote-both (args .out .now) 0 passed next (l .inv .1)
-          (rw (own .log-of .ensures) at (c .before .before .write-domain .ensures))),
+          (rw (own .log-of .ensures .0) at (c .before .before .write-domain .ensures))),
     )
 
 returns : tie.Need-returns Inv-loop μ-loop

@@ -66,15 +66,5 @@ pub op-of-spec : {M : Type 1} → statement M
 op-of-spec =
     tie.close
     (tie.spec
-    returns
-    returns-2
-    returns-3
-    returns-4
-    returns-5
-    returns-6
-    returns-7
-    returns-8
-    cast-t20
-    returns-9
-    returns-10
+    returns returns-2 returns-3 returns-4 returns-5 returns-6 returns-7 returns-8 cast-t20 returns-9 returns-10
     returns-11)

@@ -4,39 +4,6 @@ use Rattle.script.specs.Stored.{storedOf}
 use Rattle.script.proofs.stored.Statement.{statement}
 use Rattle.script.proofs.stored.Tie as tie
 
-enum-known-op : tie.Need-enum-known-op
-enum-known-op c = search needs
-
-pack-requires : tie.Need-pack-requires
-pack-requires c κs = search needs
-
-enum-known-op-2 : tie.Need-enum-known-op-2
-enum-known-op-2 c = search needs
-
-pack-requires-2 : tie.Need-pack-requires-2
-pack-requires-2 c κs = search needs
-
-enum-known-op-3 : tie.Need-enum-known-op-3
-enum-known-op-3 c = search needs
-
-pack-requires-3 : tie.Need-pack-requires-3
-pack-requires-3 c κs = search needs
-
-enum-known-op-4 : tie.Need-enum-known-op-4
-enum-known-op-4 c = search needs
-
-pack-requires-4 : tie.Need-pack-requires-4
-pack-requires-4 c κs = search needs
-
-enum-known-op-5 : tie.Need-enum-known-op-5
-enum-known-op-5 c = search needs
-
-cast-pack : tie.Need-cast-pack
-cast-pack c = search needs
-
-pack-requires-5 : tie.Need-pack-requires-5
-pack-requires-5 c κs = search needs
-
 returns : tie.Need-returns
 unfolding storedOf
 returns c = simp (c .before .before .op .given .1, ← (c .pack .ensures))
@@ -61,19 +28,6 @@ pub stored-spec : {M : Type 1} → statement M
 stored-spec =
     tie.close
     (tie.spec
-    enum-known-op
-    pack-requires
-    enum-known-op-2
-    pack-requires-2
-    enum-known-op-3
-    pack-requires-3
-    enum-known-op-4
-    pack-requires-4
-    enum-known-op-5
-    cast-pack
-    pack-requires-5
-    returns
-    returns-2
-    returns-3
-    returns-4
-    returns-5)
+    (λ c. search needs) (λ c κs. search needs) (λ c. search needs) (λ c κs. search needs) (λ c. search needs)
+    (λ c κs. search needs) (λ c. search needs) (λ c κs. search needs) (λ c. search needs) (λ c. search needs)
+    (λ c κs. search needs) returns returns-2 returns-3 returns-4 returns-5)

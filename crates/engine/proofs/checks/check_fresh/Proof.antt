@@ -5,9 +5,6 @@ use Rattle.engine.specs.Checks.{freshVerdict}
 use Rattle.engine.proofs.checks.check_fresh.Statement.{statement}
 use Rattle.engine.proofs.checks.check_fresh.Tie as tie
 
-is-valid-requires : tie.Need-is-valid-requires
-is-valid-requires c κs = search needs
-
 returns : tie.Need-returns
 unfolding freshVerdict
 returns c = rw (c .before .before .if1 .taken, sym (c .before .is-valid .ensures) ∙ c .if2 .taken) refl
@@ -21,4 +18,4 @@ unfolding freshVerdict
 returns-3 c = rw (c .if1 .left) refl
 
 pub check-fresh-spec : {M : Type 1} → statement M
-check-fresh-spec = tie.close (tie.spec is-valid-requires returns returns-2 returns-3)
+check-fresh-spec = tie.close (tie.spec (λ c κs. search needs) returns returns-2 returns-3)

@@ -19,8 +19,10 @@ use ghost.Atoms.{Atoms, sem}
 use contract.Lifetimes.{Lfts, Shares}
 use contract.Monad.{Fun, fact}
 use contract.Running.{givenOf, tables, tablesOf}
-use types.Kit.{Given, Item, ‵, raw, some, later, _⊛_, ⋆, _$_, _∵_, !, qed, by, move, keep, drop, use1, use2, split, join, pick, rewrite, fsplit, fsplit3, fjoin, fjoin3, feqL, feqI, suffices, frame, await, done}
-use types.Run.{look, look-raw, init, store-raw, forget, stop, hop, fld, from, load, addr, of-opd, and-then, no-more, assigns, land, returns, enter, alloc1, alloc0, params1, pass1, pass0, free1, free0}
+use types.Kit.{Given, Item, ‵, raw, some, later, _⊛_, ⋆, _$_, _∵_, !, qed, by, move, keep, drop}
+use types.Kit.{use1, use2, split, join, pick, rewrite, fsplit, fsplit3, fjoin, fjoin3, feqL, feqI, suffices, frame, await, done}
+use types.Run.{look, look-raw, init, store-raw, forget, stop, hop, fld, from, load, addr, of-opd}
+use types.Run.{and-then, no-more, assigns, land, returns, enter, alloc1, alloc0, params1, pass1, pass0, free1, free0}
 use types.Part.{agg, whole, sub, look-in}
 use types.SemTy.{Body}
 use sound.WpLaws.{FmC, fmOf, WpFn-mono}
@@ -39,13 +41,14 @@ use denote.Triple.Statement.{Contract, Triple}
 use denote.Triple.Call.{calls-at}
 use denote.Triple.Clauses.{Lasts, ensured, lasts}
 use denote.Triple.Table.{entered, cited}
-use denote.Triple.Walked.{says, Stays, stay-ref, stay-none, stay-none-slice, gave-slice, walkOf, goes-ref, goes-none, goes-none-slice, goes-gave-slice, Walks, ends-at, walked, walk-meets}
+use denote.Triple.Walked.{says, Stays, stay-ref, stay-none, stay-none-slice, gave-slice, walkOf}
+use denote.Triple.Walked.{goes-ref, goes-none, goes-none-slice, goes-gave-slice, Walks, ends-at, walked, walk-meets}
 use denote.Exit.{yes}
 use denote.Signature.{plain}
 use Rattle.state.specs.declared.State.{State}
 use Rattle.plan.specs.declared.Plan.{Plan}
 use Rattle.engine.specs.declared.Answer.{Answer}
-use Rattle.engine.specs.declared.Stepped.{Stepped}
+use Rattle.engine.specs.declared.Progress.{Progress}
 use Rattle.machine.specs.View.{worldWith}
 use Rattle.engine.specs.Running.{stepCallOf}
 use Rattle.engine.specs.Answers.{stepWith}
@@ -55,8 +58,8 @@ use Rattle.plan.proofs.Plan as Plan
 use Rattle.plan.proofs.Plan.Laws as Plan′
 use Rattle.engine.proofs.Answer as Answer
 use Rattle.engine.proofs.Answer.Laws as Answer′
-use Rattle.engine.proofs.Stepped as Stepped
-use Rattle.engine.proofs.Stepped.Laws as Stepped′
+use Rattle.engine.proofs.Progress as Progress
+use Rattle.engine.proofs.Progress.Laws as Progress′
 use Rattle.engine.proofs.lending.step_value as callee
 use Rattle.engine.proofs.lending.step_value.Symbol as callee-def
 use Rattle.engine.proofs.lending.step_value.Symbol.{name as #callee}
@@ -112,12 +115,19 @@ stayed = (
 abbrev Callee : {M : Type 1} (𝓤 : URA M) (H : Heap 𝓤) (A : Atoms 𝓤) (mem : Memory → SProp 𝓤) (run : Routine → Fun 𝓤) → Contract 𝓤
 Callee 𝓤 H A mem run = tripleOf 𝓤 H A callee.signature (callee.spec 𝓤 H A mem run)
 
--- what whoever holds the result knows of its two fields
-state-of : (stepped : Stepped) (vs : List Val) → Is Stepped.the-row stepped vs → Is State.the-row (stepped .state) (state-vals (stepped .state))
-state-of stepped vs is-stepped = LL.owed Stepped.the-type Stepped′.the-laws stepped vs is-stepped .0
+-- the answer that is made of the result
+abbrev answer-of : Progress → Answer
+answer-of progress = record { verdict = progress .verdict; steps = progress .steps; ending = progress .ending }
 
-answer-of : (stepped : Stepped) (vs : List Val) → Is Stepped.the-row stepped vs → Is Answer.the-row (stepped .answer) (answer-vals (stepped .answer))
-answer-of stepped vs is-stepped = LL.owed Stepped.the-type Stepped′.the-laws stepped vs is-stepped .1 .0
+-- what whoever holds the result knows of it
+state-told : (progress : Progress) (vs : List Val) → Is Progress.the-row progress vs → Is State.the-row (progress .state) (state-vals (progress .state))
+state-told progress vs is-progress = LL.owed Progress.the-type Progress′.the-laws progress vs is-progress .1 .1 .1 .0
+
+answer-told : (progress : Progress) (vs : List Val) → Is Progress.the-row progress vs
+    → Is Answer.the-row (answer-of progress) (answer-vals (answer-of progress))
+answer-told progress vs is-progress =
+    let told = LL.owed Progress.the-type Progress′.the-laws progress vs is-progress in
+    LL.owes Answer.the-type Answer′.the-laws (answer-of progress) (told .0, (told .1 .0, (told .1 .1 .0, tt)))
 
 module _ {M : Type 1} (𝓤 : URA M) (H : Heap 𝓤) (A : Atoms 𝓤) (W : Given 𝓤 H A) (at-mem : Memory → SProp 𝓤) (run : Routine → Fun 𝓤)
     (κ : Lft) (κs : Lfts 4) (q : Share) (qs : Shares 4) (lent : RefT State) (plan : Plan) (scripts cache boxes log : RefT (List ℕ))
@@ -162,9 +172,9 @@ module _ {M : Type 1} (𝓤 : URA M) (H : Heap 𝓤) (A : Atoms 𝓤) (W : Given
   call = ((κs, qs, tt, callee-args, callee-vals), tt)
 
   -- what the callee ensures, of its result and the last lists
-  abbrev Ensures : Stepped → List ℕ → List ℕ → List ℕ → Type 0
-  Ensures stepped cache-end boxes-end log-end =
-      stepWith (stepped .answer) (stepped .state) cache-end boxes-end log-end ≡ stepCallOf plan (scripts .now) (worldWith old (cache .now) (boxes .now) (log .now))
+  abbrev Ensures : Progress → List ℕ → List ℕ → List ℕ → Type 0
+  Ensures progress cache-end boxes-end log-end =
+      stepWith (answer-of progress) (progress .state) cache-end boxes-end log-end ≡ stepCallOf plan (scripts .now) (worldWith old (cache .now) (boxes .now) (log .now))
 
   -- the callee asks for nothing but what its types own
   abbrev Asked : List (Item 𝓤)
@@ -191,31 +201,33 @@ module _ {M : Type 1} (𝓤 : URA M) (H : Heap 𝓤) (A : Atoms 𝓤) (W : Given
       move ! (2 ∷ 0 ∷ []) $ use2 W (raw (Callee 𝓤 H A at-mem run .pre call)) asked $ done !
 
   -- what is left at exit: the borrow at the new state, the tokens, and each slice's last list
-  abbrev Left : Stepped → List ℕ → List ℕ → List ℕ → List (Item 𝓤)
-  Left stepped cache-end boxes-end log-end =
-      ‵ (fobs (lent .name) (State.the-row .coded .code (stepped .state))) ∷ ‵ (fbor κ (Body (mem State.the-row) block place (lent .name))) ∷ ‵ (flft κ q) ∷ Tokens
+  abbrev Left : Progress → List ℕ → List ℕ → List ℕ → List (Item 𝓤)
+  Left progress cache-end boxes-end log-end =
+      ‵ (fobs (lent .name) (State.the-row .coded .code (progress .state))) ∷ ‵ (fbor κ (Body (mem State.the-row) block place (lent .name))) ∷ ‵ (flft κ q) ∷ Tokens
       ∷ ‵ (finally u16 (cache .name) cache-end) ∷ ‵ (finally u32 (boxes .name) boxes-end) ∷ ‵ (finally u8 (log .name) log-end) ∷ ‵ OwnScripts ∷ []
 
-  exits : (stepped : Stepped) (cache-end boxes-end log-end : List ℕ) → Is Answer.the-row (stepped .answer) (answer-vals (stepped .answer))
-      → Ensures stepped cache-end boxes-end log-end → length cache-end ≡ length (cache .now) → length boxes-end ≡ length (boxes .now) → length log-end ≡ length (log .now)
-      → ent 𝓤 (⋆ 𝓤 H A (Left stepped cache-end boxes-end log-end)) (Post (answer-val (stepped .answer)))
-  exits stepped cache-end boxes-end log-end is-answer equation cache-long boxes-long log-long =
-      qed W (Left stepped cache-end boxes-end log-end) ∵
+  exits : (progress : Progress) (cache-end boxes-end log-end : List ℕ) → Is Answer.the-row (answer-of progress) (answer-vals (answer-of progress))
+      → Ensures progress cache-end boxes-end log-end → length cache-end ≡ length (cache .now) → length boxes-end ≡ length (boxes .now) → length log-end ≡ length (log .now)
+      → ent 𝓤 (⋆ 𝓤 H A (Left progress cache-end boxes-end log-end)) (Post (answer-val (answer-of progress)))
+  exits progress cache-end boxes-end log-end is-answer equation cache-long boxes-long log-long =
+      qed W (Left progress cache-end boxes-end log-end) ∵
       suffices ! _
       (ends-at 𝓤 H A own.ended stayed (own.clauses 𝓤 H A at-mem run) W
-      (((κ, κs), (q, qs), tt, args, vals), tt) (answer-val (stepped .answer)) (stepped .answer) (stepped .state, (tt, (tt, (cache-end, (boxes-end, (log-end, tt)))))) (tt, (tt, (tt, (cache-long, (boxes-long, (log-long, tt))))))) $
+      (((κ, κs), (q, qs), tt, args, vals), tt) (answer-val (answer-of progress)) (answer-of progress)
+      (progress .state, (tt, (tt, (cache-end, (boxes-end, (log-end, tt)))))) (tt, (tt, (tt, (cache-long, (boxes-long, (log-long, tt))))))) $
       says ! equation $
       move ! (2 ∷ 3 ∷ []) $ join ! $ frame ! $ nothing ! $ move ! (5 ∷ 0 ∷ []) $ fjoin ! $ move ! (4 ∷ 0 ∷ []) $ fjoin ! $ move ! (3 ∷ 0 ∷ []) $ fjoin ! $
       move ! (3 ∷ 0 ∷ []) $ fjoin ! $ owned ! Plan.the-row (Is Plan.the-row) (LL.makes Plan.the-type Plan′.the-plain 𝓤 H A) plan _ is-plan $ fjoin ! $
       move ! (1 ∷ 2 ∷ []) $ feqI ! (List Val) (vptr block place ∷ []) (vptr block place ∷ []) refl $ fjoin3 ! $ fjoin ! $
-      owned ! Answer.the-row (Is Answer.the-row) (LL.makes Answer.the-type Answer′.the-plain 𝓤 H A) (stepped .answer) _ is-answer $ move ! (1 ∷ 0 ∷ []) $ done !
+      owned ! Answer.the-row (Is Answer.the-row) (LL.makes Answer.the-type Answer′.the-plain 𝓤 H A) (answer-of progress) _ is-answer $ move ! (1 ∷ 0 ∷ []) $ done !
 
   module _ (C : Calls 𝓤 H) (Λ : Loops 𝓤 H) (fm : FmC 𝓤 H (W .laws) C) (known : Triple 𝓤 (C #callee) (Callee 𝓤 H A at-mem run)) where
     walk : ent 𝓤 (onEntry 𝓤 H A own.signature (κ, κs) (q, qs) args vals)
         (WpFn 𝓤 H C Λ code.function (vptr block place ∷ plan-val plan ∷ sliceVal (scripts .ptr) (length (scripts .now))
         ∷ sliceVal (cache .ptr) (length (cache .now)) ∷ sliceVal (boxes .ptr) (length (boxes .now)) ∷ sliceVal (log .ptr) (length (log .now)) ∷ []) Post)
     walk =
-        qed W ((‵ (flft κ q) ⊛ Tokens) ∷ ‵ (owns (MutRef (named 0) κ State.the-row ∷ Plan.the-row ∷ Scripts κs ∷ Cache κs ∷ Boxes κs ∷ Log κs ∷ []) args vals) ∷ []) ∵ enter ! C Λ code.function _ _ $
+        qed W ((‵ (flft κ q) ⊛ Tokens) ∷ ‵ (owns (MutRef (named 0) κ State.the-row ∷ Plan.the-row ∷ Scripts κs ∷ Cache κs ∷ Boxes κs ∷ Log κs ∷ []) args vals) ∷
+        []) ∵ enter ! C Λ code.function _ _ $
         -- room for the locals, and the arguments put into theirs
         alloc1 ! (λ l₀. alloc1 ! (λ l₁. alloc1 ! (λ l₂. alloc1 ! (λ l₃. alloc1 ! (λ l₄. alloc1 ! (λ l₅. alloc1 ! (λ l₆. alloc1 ! (λ l₇.
         alloc1 ! (λ l₈. alloc1 ! (λ l₉. alloc1 ! (λ l₁₀. alloc1 ! (λ l₁₁. alloc1 ! (λ l₁₂. alloc1 ! (λ l₁₃. alloc1 ! (λ l₁₄. alloc0 ! $
@@ -252,29 +264,33 @@ module _ {M : Type 1} (𝓤 : URA M) (H : Heap 𝓤) (A : Atoms 𝓤) (W : Given
         (and-then ! (load ! (from ! (stop !)) (look ! 21 refl)) (and-then ! (load ! (from ! (stop !)) (look ! 15 refl))
         (and-then ! (load ! (from ! (stop !)) (look ! 11 refl)) (and-then ! (load ! (from ! (stop !)) (look ! 7 refl)) (no-more !))))))) (λ value.
         -- the callee says its result, the last list of each slice, as long as the list passed, and the equation
-        use1 W (later (some (λ (stepped : Stepped). (Tokens ⊛ ‵ (Stepped.the-row .own stepped (value ∷ [])))
-        ⊛ raw (ensured 𝓤 H A callee.ended (callee.clauses 𝓤 H A at-mem run) κs callee-args tt stepped)))) (id⊢ 𝓤 _) $
-        await ! tt $ pick ! (λ stepped.
+        use1 W (later (some (λ (progress : Progress). (Tokens ⊛ ‵ (Progress.the-row .own progress (value ∷ [])))
+        ⊛ raw (ensured 𝓤 H A callee.ended (callee.clauses 𝓤 H A at-mem run) κs callee-args tt progress)))) (id⊢ 𝓤 _) $
+        await ! tt $ pick ! (λ progress.
         split ! $ move ! (1 ∷ []) $
         use1 W (some (λ (ends : Lasts callee.ended κs callee-args). ‵ (lasts callee.ended κs callee-args ends)
-        ⊛ raw (fact 𝓤 (Ensures stepped (ends .1 .1 .1 .0) (ends .1 .1 .1 .1 .0) (ends .1 .1 .1 .1 .1 .0))))) (id⊢ 𝓤 _) $
+        ⊛ raw (fact 𝓤 (Ensures progress (ends .1 .1 .1 .0) (ends .1 .1 .1 .1 .0) (ends .1 .1 .1 .1 .1 .0))))) (id⊢ 𝓤 _) $
         pick ! (λ ends.
-        split ! $ move ! (1 ∷ []) $ heard ! (Ensures stepped (ends .1 .1 .1 .0) (ends .1 .1 .1 .1 .0) (ends .1 .1 .1 .1 .1 .0)) (λ equation.
+        split ! $ move ! (1 ∷ []) $ heard ! (Ensures progress (ends .1 .1 .1 .0) (ends .1 .1 .1 .1 .0) (ends .1 .1 .1 .1 .1 .0)) (λ equation.
         fsplit ! $ drop ! $ fsplit ! $ drop ! $ fsplit ! $ drop ! $ fsplit ! $ fsplit ! $ move ! (1 ∷ []) $ feqL ! (λ cache-long. move ! (1 ∷ []) $ fsplit ! $
         fsplit ! $ move ! (1 ∷ []) $ feqL ! (λ boxes-long. move ! (1 ∷ []) $ fsplit ! $ fsplit ! $ move ! (1 ∷ []) $ feqL ! (λ log-long. move ! (1 ∷ []) $ drop ! $
-        move ! (3 ∷ []) $ split ! $ move ! (1 ∷ []) $ peeks ! Stepped.the-row (Is Stepped.the-row) (shows 𝓤 H A Stepped.the-row) stepped (value ∷ []) (λ is-stepped.
-        -- in hand: what the result owns; tokens; log's last list; boxes'; cache's; scripts' own; what the old state owns; the state's cell; the open borrow; the state's value; the right to change it; _14 to _0
+        move ! (3 ∷ []) $ split ! $ move ! (1 ∷ []) $ peeks ! Progress.the-row (Is Progress.the-row) (shows 𝓤 H A Progress.the-row) progress (value ∷ []) (λ is-progress.
+        -- in hand: what the result owns; tokens; log's last list; boxes'; cache's; scripts' own; what the old state owns;
+        -- the state's cell; the open borrow; the state's value; the right to change it; _14 to _0
         -- the result is put into its local; *state = out.state; out.answer
-        land ! (from ! (stop !)) (init ! 23 refl (LL.lawful Stepped.the-type Stepped′.the-laws 𝓤 H A W .typed stepped _ is-stepped .0)) $
-        rewrite ! 23 (λ (w : Val). ‵ (fat fullShare Stepped′.mir l₈ 0 w)) (ap only (LL.tells Stepped.the-type Stepped′.the-laws stepped (value ∷ []) is-stepped)) refl $
-        assigns ! (of-opd ! (load ! (from ! (fld ! refl (stop !))) (look-in ! 23 (sub ! 0 refl (whole !))))) (from ! (hop ! (look ! 37 refl) (stop !)))
-        (store-raw ! 7 refl (LL.lawful State.the-type State′.the-laws 𝓤 H A W .typed (stepped .state) _ (state-of stepped _ is-stepped) .0)) $
-        assigns ! (of-opd ! (load ! (from ! (fld ! refl (stop !))) (look-in ! 23 (sub ! 1 refl (whole !)))))
-        (from ! (stop !)) (init ! 39 refl (LL.lawful Answer.the-type Answer′.the-laws 𝓤 H A W .typed (stepped .answer) _ (answer-of stepped _ is-stepped) .0)) $
+        land ! (from ! (stop !)) (init ! 23 refl (LL.lawful Progress.the-type Progress′.the-laws 𝓤 H A W .typed progress _ is-progress .0)) $
+        rewrite ! 23 (λ (w : Val). ‵ (fat fullShare Progress′.mir l₈ 0 w)) (ap only (LL.tells Progress.the-type Progress′.the-laws progress (value ∷ []) is-progress)) refl $
+        assigns ! (of-opd ! (load ! (from ! (fld ! refl (stop !))) (look-in ! 23 (sub ! 3 refl (whole !))))) (from ! (hop ! (look ! 37 refl) (stop !)))
+        (store-raw ! 7 refl (LL.lawful State.the-type State′.the-laws 𝓤 H A W .typed (progress .state) _ (state-told progress _ is-progress) .0)) $
+        assigns ! (agg !
+        (and-then ! (load ! (from ! (fld ! refl (stop !))) (look-in ! 23 (sub ! 0 refl (whole !))))
+        (and-then ! (load ! (from ! (fld ! refl (stop !))) (look-in ! 23 (sub ! 1 refl (whole !))))
+        (and-then ! (load ! (from ! (fld ! refl (stop !))) (look-in ! 23 (sub ! 2 refl (whole !)))) (no-more !)))))
+        (from ! (stop !)) (init ! 39 refl (LL.lawful Answer.the-type Answer′.the-laws 𝓤 H A W .typed (answer-of progress) _ (answer-told progress _ is-progress) .0)) $
         -- the borrow is closed at the new state
         move ! (6 ∷ []) $ drop ! $
-        owned ! State.the-row (Is State.the-row) (LL.makes State.the-type State′.the-plain 𝓤 H A) (stepped .state) _ (state-of stepped _ is-stepped) $
-        move ! (7 ∷ 0 ∷ 8 ∷ 9 ∷ 10 ∷ []) $ closes ! tt State.the-row (stepped .state) (state-vals (stepped .state)) block place $
+        owned ! State.the-row (Is State.the-row) (LL.makes State.the-type State′.the-plain 𝓤 H A) (progress .state) _ (state-told progress _ is-progress) $
+        move ! (7 ∷ 0 ∷ 8 ∷ 9 ∷ 10 ∷ []) $ closes ! tt State.the-row (progress .state) (state-vals (progress .state)) block place $
         -- in hand: the state's value; the borrow; the borrow's token; what the result owns; tokens; log's last list; boxes'; cache's; scripts' own; _14 to _0
         -- the locals are freed
         returns ! (look ! 37 refl) $ forget ! 37 refl $ forget ! 35 refl $ forget ! 33 refl $ forget ! 31 refl $ forget ! 29 refl $ forget ! 27 refl $
@@ -285,7 +301,8 @@ module _ {M : Type 1} (𝓤 : URA M) (H : Heap 𝓤) (A : Atoms 𝓤) (W : Given
         move ! (19 ∷ 20 ∷ []) $ free1 ! $ move ! (17 ∷ 18 ∷ []) $ free1 ! $ move ! (15 ∷ 16 ∷ []) $ free1 ! $ move ! (13 ∷ 14 ∷ []) $ free1 ! $ move ! (11 ∷ 12 ∷ []) $
         free1 ! $ move ! (9 ∷ 10 ∷ []) $ free1 ! $ free0 ! $
         keep ! (0 ∷ 1 ∷ 2 ∷ 4 ∷ 7 ∷ 6 ∷ 5 ∷ 8 ∷ []) $
-        by ! (exits stepped (ends .1 .1 .1 .0) (ends .1 .1 .1 .1 .0) (ends .1 .1 .1 .1 .1 .0) (answer-of stepped _ is-stepped) equation cache-long boxes-long log-long))))))))))))))))))))))))))
+        by ! (exits progress (ends .1 .1 .1 .0) (ends .1 .1 .1 .1 .0) (ends .1 .1 .1 .1 .1 .0) (answer-told progress _ is-progress) equation cache-long boxes-long
+        log-long))))))))))))))))))))))))))
 
 -- the walk, for every choice of lifetimes and arguments
 module _ {M : Type 1} (𝓤 : URA M) (H : Heap 𝓤) (A : Atoms 𝓤) (W : Given 𝓤 H A) (mem : Memory → SProp 𝓤) (run : Routine → Fun 𝓤) where

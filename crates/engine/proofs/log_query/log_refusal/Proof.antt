@@ -4,12 +4,9 @@ use Rattle.engine.specs.LogQuery.{logStatusOf}
 use Rattle.engine.proofs.log_query.log_refusal.Statement.{statement}
 use Rattle.engine.proofs.log_query.log_refusal.Tie as tie
 
-check-log-requires : tie.Need-check-log-requires
-check-log-requires c κs = search needs
-
 returns : tie.Need-returns
 unfolding logStatusOf
 returns c = c .check-log .ensures
 
 pub log-refusal-spec : {M : Type 1} → statement M
-log-refusal-spec = tie.close (tie.spec check-log-requires returns)
+log-refusal-spec = tie.close (tie.spec (λ c κs. search needs) returns)

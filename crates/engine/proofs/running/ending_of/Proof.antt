@@ -6,9 +6,6 @@ use Rattle.state.specs.World.{endedOf}
 use Rattle.engine.proofs.running.ending_of.Statement.{statement}
 use Rattle.engine.proofs.running.ending_of.Tie as tie
 
-windows-total-requires : tie.Need-windows-total-requires
-windows-total-requires c κs = search needs
-
 returns : tie.Need-returns
 unfolding endedOf
 returns c = rw (sym (c .before .before .windows-total .ensures), le-leb _ _ (c .if1 .taken)) refl
@@ -18,4 +15,4 @@ unfolding endedOf
 returns-2 c = rw (sym (c .before .before .windows-total .ensures), lt-leb _ _ (c .if1 .left)) refl
 
 pub ending-of-spec : {M : Type 1} → statement M
-ending-of-spec = tie.close (tie.spec windows-total-requires returns returns-2)
+ending-of-spec = tie.close (tie.spec (λ c κs. search needs) returns returns-2)

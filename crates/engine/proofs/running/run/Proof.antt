@@ -14,18 +14,13 @@ use Rattle.engine.proofs.running.run.Tie as tie
 -- what an accepted run was lent
 lent :
     (c : tie.After-enum-told)
-    → RunAccepted (c .before .before .before .before .before .before .before .before .before .before .args .plan) (now (c .before .before .before .before .before .before .before .before .before .before .args .scripts))
-    (worldWith (c .before .before .before .before .before .before .before .before .before .before .args .state) (now (c .before .before .before .before .before .before .before .before .before .before .args .cache)) (now (c .before .before .before .before .before .before .before .before .before .before .args .boxes)) (now (c .before .before .before .before .before .before .before .before .before .before .args .log)))
+    → RunAccepted (c .before .before .before .before .before .before .before .before .before .before .args .plan)
+    (now (c .before .before .before .before .before .before .before .before .before .before .args .scripts))
+    (worldWith (c .before .before .before .before .before .before .before .before .before .before .args .state)
+    (now (c .before .before .before .before .before .before .before .before .before .before .args .cache))
+    (now (c .before .before .before .before .before .before .before .before .before .before .args .boxes))
+    (now (c .before .before .before .before .before .before .before .before .before .before .args .log)))
 lent c = run-accepted _ _ _ (sym (c .before .before .check-run .ensures) ∙ c .enum-told .given .1)
-
-check-run-requires : tie.Need-check-run-requires
-check-run-requires c κs = search needs
-
-enum-known-verdict : tie.Need-enum-known-verdict
-enum-known-verdict c = search needs
-
-enum-told : tie.Need-enum-told
-enum-told c = search needs
 
 part-records-requires : tie.Need-part-records-requires
 part-records-requires c κs = let count = counts _ (lent c .possible) in (count .domains-least, count .domains-most)
@@ -33,9 +28,15 @@ part-records-requires c κs = let count = counts _ (lent c .possible) in (count 
 run-steps-requires : tie.Need-run-steps-requires
 run-steps-requires c κs =
     let ok = lent (c .before .before .before .before) in
-    let quota = c .before .before .before .part-records .ensures (c .before .before .before .before .before .before .before .before .before .before .before .before .before .before .args .plan) refl in (
+    let quota = c .before .before .before .part-records .ensures
+    (c .before .before .before .before .before .before .before .before .before .before .before .before .before .before
+    .args .plan) refl in (
       ok .possible,
-      ap (λ (n : ℕ). stateValid (c .before .before .before .before .before .before .before .before .before .before .before .before .before .before .args .plan) n (c .before .before .before .before .before .before .before .before .before .before .before .before .before .before .args .state)) quota ∙ ok .state-is,
+      ap (λ (n : ℕ). stateValid
+          (c .before .before .before .before .before .before .before .before .before .before .before .before .before
+          .before .args .plan) n
+          (c .before .before .before .before .before .before .before .before .before .before .before .before .before
+          .before .args .state)) quota ∙ ok .state-is,
       ok .scripts-long,
       ok .cache-long,
       ok .boxes-long,
@@ -43,33 +44,24 @@ run-steps-requires c κs =
     )
 
 ending-of-requires : tie.Need-ending-of-requires
-ending-of-requires c κs = let count = counts _ (lent (c .before .before .before .before .before .before .before .before .before .before .before .before) .possible) in (count .run-most, count .windows-most)
-
-same-length : tie.Need-same-length
-same-length c = search needs
-
-same-length-2 : tie.Need-same-length-2
-same-length-2 c = search needs
-
-same-length-3 : tie.Need-same-length-3
-same-length-3 c = search needs
+ending-of-requires c κs =
+    let count = counts _ (lent
+    (c .before .before .before .before .before .before .before .before .before .before .before .before) .possible) in
+    (count .run-most, count .windows-most)
 
 returns : tie.Need-returns
 returns c = run-refused _ _ _ _ _ (sym (c .before .verdict .given .1) ∙ c .before .before .before .check-run .ensures)
 
-same-length-4 : tie.Need-same-length-4
-same-length-4 c = search needs
-
-same-length-5 : tie.Need-same-length-5
-same-length-5 c = search needs
-
-same-length-6 : tie.Need-same-length-6
-same-length-6 c = search needs
-
 returns-2 : tie.Need-returns-2
 returns-2 c =
-    ran _ _ _ _ _ _ _ _ (sym (c .before .before .before .before .before .before .before .before .before .before .before .before .before .enum-told .given .1) ∙ c .before .before .before .before .before .before .before .before .before .before .before .before .before .before .before .check-run .ensures)
-    (c .before .before .before .before .before .before .before .before .before .before .before .before .part-records .ensures (c .before .before .before .before .before .before .before .before .before .before .before .before .before .before .before .before .before .before .before .before .before .before .before .args .plan) refl)
+    ran _ _ _ _ _ _ _ _ (sym
+    (c .before .before .before .before .before .before .before .before .before .before .before .before .before
+    .enum-told .given .1) ∙
+    c .before .before .before .before .before .before .before .before .before .before .before .before .before .before
+    .before .check-run .ensures)
+    (c .before .before .before .before .before .before .before .before .before .before .before .before .part-records
+    .ensures (c .before .before .before .before .before .before .before .before .before .before .before .before
+    .before .before .before .before .before .before .before .before .before .before .before .args .plan) refl)
     (c .before .before .before .before .before .before .before .before .run-steps .ensures)
     (c .ending-of .ensures)
 
@@ -77,17 +69,6 @@ pub run-spec : {M : Type 1} → statement M
 run-spec =
     tie.close
     (tie.spec
-    check-run-requires
-    enum-known-verdict
-    enum-told
-    part-records-requires
-    run-steps-requires
-    ending-of-requires
-    same-length
-    same-length-2
-    same-length-3
-    returns
-    same-length-4
-    same-length-5
-    same-length-6
-    returns-2)
+    (λ c κs. search needs) (λ c. search needs) (λ c. search needs) part-records-requires run-steps-requires
+    ending-of-requires (λ c. search needs) (λ c. search needs) (λ c. search needs) returns (λ c. search needs)
+    (λ c. search needs) (λ c. search needs) returns-2)

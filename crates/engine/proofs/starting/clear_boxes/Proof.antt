@@ -23,15 +23,6 @@ loop-holds c = (search needs, refl)
 here-length : (c : tie.At-loop Inv-loop μ-loop) → length (c .loop .boxes) ≡ length (c .before .args .boxes .now)
 here-length c = ap length (c .loop .inv .1) ∙ emptied-length (c .loop .i) (c .before .args .boxes .now) (c .loop .inv .0)
 
-mul-boxes : tie.Need-mul-boxes Inv-loop μ-loop
-mul-boxes c = search needs
-
-slice-write-boxes : tie.Need-slice-write-boxes Inv-loop μ-loop
-slice-write-boxes c = search needs
-
-add-i : tie.Need-add-i Inv-loop μ-loop
-add-i c = search needs
-
 loop-less : tie.Need-loop-less Inv-loop μ-loop
 loop-less c = omega (arith, here-length (c .before))
 
@@ -53,13 +44,5 @@ pub clear-boxes-spec : {M : Type 1} → statement M
 clear-boxes-spec =
     tie.close
     (tie.spec
-    Inv-loop
-    μ-loop
-    loop-holds
-    mul-boxes
-    slice-write-boxes
-    add-i
-    loop-less
-    loop-again
-    same-length
-    returns)
+    Inv-loop μ-loop loop-holds (λ c. search needs) (λ c. search needs) (λ c. search needs) loop-less loop-again
+    same-length returns)

@@ -7,14 +7,8 @@ use Rattle.machine.proofs.stepping.next_step.Tie as tie
 returns : tie.Need-returns
 returns c = next-switch _ _ (c .if1 .taken)
 
-cast-fetch : tie.Need-cast-fetch
-cast-fetch c = search needs
-
-fetch-requires : tie.Need-fetch-requires
-fetch-requires c κs = search needs
-
 returns-2 : tie.Need-returns-2
 returns-2 c = next-item _ _ _ (c .fetch .ensures) (c .before .before .if1 .left)
 
 pub next-step-spec : {M : Type 1} → statement M
-next-step-spec = tie.close (tie.spec returns cast-fetch fetch-requires returns-2)
+next-step-spec = tie.close (tie.spec returns (λ c. search needs) (λ c κs. search needs) returns-2)

@@ -15,28 +15,37 @@ use Rattle.machine.proofs.stepping.run_steps.Statement.{statement}
 use Rattle.machine.proofs.stepping.run_steps.Tie as tie
 
 abbrev Inv-loop : tie.InvT-loop
-Inv-loop scripts quota limit cache₀ boxes₀ log₀ plan rights masks declared pad total steps₀ present₀ start₀ cache boxes log steps present start =
-    Going plan scripts quota limit (worldWith present₀ cache₀ boxes₀ log₀) (worldWith present cache boxes log) steps start
+Inv-loop scripts quota limit cache₀ boxes₀ log₀ plan rights masks declared pad total steps₀ present₀ start₀ cache
+    boxes log steps present start =
+    Going plan scripts quota limit (worldWith present₀ cache₀ boxes₀ log₀) (worldWith present cache boxes log) steps
+    start
 
 abbrev μ-loop : tie.MeasureT-loop
-μ-loop scripts quota limit cache₀ boxes₀ log₀ plan rights masks declared pad total steps₀ present₀ start₀ cache boxes log steps present start =
+μ-loop scripts quota limit cache₀ boxes₀ log₀ plan rights masks declared pad total steps₀ present₀ start₀ cache boxes
+    log steps present start =
     limit - steps
 
 -- ---- in the loop: the limit is not reached, and the run is in a window
 
 more :
     (c : tie.In-loop Inv-loop μ-loop)
-    → let args = c .before .before .before .before .before .before .before .before .before .before .args in let loop = c .before .loop in
+    → let args = c .before .before .before .before .before .before .before .before .before .before .args in let loop =
+    c .before .loop in
     (loop .steps < args .limit) × (loop .present .windows < windowsTotal (args .t1))
 more c = goes-on _ _ _ _ (rw (c .before .before .before .windows-total .ensures) at (c .loop-test .taken))
 
-smalls : (c : tie.In-loop Inv-loop μ-loop) → let loop = c .before .loop in Small (c .before .before .before .before .before .before .before .before .before .before .args .t1) (loop .present .windows) (loop .start)
-smalls c = small _ _ _ (c .before .before .before .before .before .before .before .before .before .before .pre .0) (c .before .loop .inv .starts (more c .0)) (more c .1)
+smalls : (c : tie.In-loop Inv-loop μ-loop) → let loop = c .before .loop in Small
+    (c .before .before .before .before .before .before .before .before .before .before .args .t1)
+    (loop .present .windows) (loop .start)
+smalls c =
+    small _ _ _ (c .before .before .before .before .before .before .before .before .before .before .pre .0)
+    (c .before .loop .inv .starts (more c .0)) (more c .1)
 
 -- the turn, small enough for what follows, and the state's
 room :
     (c : tie.In-loop Inv-loop μ-loop)
-    → let args = c .before .before .before .before .before .before .before .before .before .before .args in let loop = c .before .loop in
+    → let args = c .before .before .before .before .before .before .before .before .before .before .args in let loop =
+    c .before .loop in
     Room (turnFrom (args .t1) (args .quota) (loop .present) (loop .start)) (length (loop .log))
 room c =
     let pre = c .before .before .before .before .before .before .before .before .before .before .pre in
@@ -46,33 +55,38 @@ room c =
 
 here :
     (c : tie.In-loop Inv-loop μ-loop)
-    → let args = c .before .before .before .before .before .before .before .before .before .before .args in let loop = c .before .loop in
-    InTurn (args .t1) (args .t1 .rights) (args .t1 .masks) (loop .present) (turnFrom (args .t1) (args .quota) (loop .present) (loop .start))
+    → let args = c .before .before .before .before .before .before .before .before .before .before .args in let loop =
+    c .before .loop in
+    InTurn (args .t1) (args .t1 .rights) (args .t1 .masks) (loop .present)
+    (turnFrom (args .t1) (args .quota) (loop .present) (loop .start))
 here c =
     let kept = going-counts _ _ _ _ _ _ _ _ (c .before .loop .inv) in
     let good = c .before .before .before .before .before .before .before .before .before .before .good .1 .1 .1 .1 .0 in
-    turn-here _ _ (c .before .loop .present) _ (c .before .before .before .before .before .before .before .before .before .before .pre .0) (more c .1) (c .before .loop .inv .starts (more c .0))
+    turn-here _ _ (c .before .loop .present) _
+    (c .before .before .before .before .before .before .before .before .before .before .pre .0) (more c .1)
+    (c .before .loop .inv .starts (more c .0))
     (kept .0 ∙ search (needs, good)) (kept .1 ∙ search (needs, good))
 
-cast-declared : tie.Need-cast-declared Inv-loop μ-loop
-cast-declared c = search needs
-
-cast-pad : tie.Need-cast-pad Inv-loop μ-loop
-cast-pad c = search needs
-
 windows-total-requires : tie.Need-windows-total-requires Inv-loop μ-loop
-windows-total-requires c κs = let count = counts _ (c .before .before .before .before .before .before .pre .0) in (count .run-most, count .windows-most)
+windows-total-requires c κs =
+    let count = counts _ (c .before .before .before .before .before .before .pre .0) in
+    (count .run-most, count .windows-most)
 
 window-start-requires : tie.Need-window-start-requires Inv-loop μ-loop
 window-start-requires c κs =
-    let pre = c .before .before .before .before .before .before .before .pre in
-    (pre .0, valid-scheduled _ _ (worldWith (c .before .before .before .before .before .before .before .args .state) [] [] []) (pre .0) (pre .1) .windows)
+    let pre = c .before .before .before .before .before .before .before .pre in (
+      pre .0,
+      valid-scheduled _ _ (worldWith (c .before .before .before .before .before .before .before .args .state)
+          [] [] []) (pre .0) (pre .1) .windows,
+    )
 
 loop-holds : tie.Need-loop-holds Inv-loop μ-loop
 loop-holds c = going-first _ _ _ _ _ _ (c .window-start .ensures)
 
 rem-slot : tie.Need-rem-slot Inv-loop μ-loop
-rem-slot c = counts _ (c .before .before .before .before .before .before .before .before .before .before .pre .0) .windows-least
+rem-slot c =
+    counts _ (c .before .before .before .before .before .before .before .before .before .before .pre .0)
+    .windows-least
 
 mul-owner : tie.Need-mul-owner Inv-loop μ-loop
 mul-owner c = omega (arith, smalls c .slot-below)
@@ -120,7 +134,8 @@ sub-run-turn c = omega (arith, more (c .before .before .before .before .before .
 run-turn-requires : tie.Need-run-turn-requires Inv-loop μ-loop
 unfolding windowOwner windowLength
 run-turn-requires c κs =
-    let pre = c .before .before .before .before .before .before .before .before .before .before .before .before .before .before .before .before .before .before .before .pre in
+    let pre = c .before .before .before .before .before .before .before .before .before .before .before .before
+    .before .before .before .before .before .before .before .pre in
     let count = counts _ (pre .0) in
     let inv = c .before .before .before .before .before .before .before .before .before .before .loop .inv in
     let turn = room (c .before .before .before .before .before .before .before .before .before) in (
@@ -139,83 +154,84 @@ run-turn-requires c κs =
 
 mul-present : tie.Need-mul-present Inv-loop μ-loop
 unfolding windowOwner
-mul-present c = omega (arith, smalls (c .before .before .before .before .before .before .before .before .before .before .before .before .before .before .before .before) .owner-below)
+mul-present c =
+    omega (
+      arith,
+      smalls (c .before .before .before .before .before .before .before .before .before .before .before
+          .before .before .before .before .before) .owner-below,
+    )
 
 element-write-present : tie.Need-element-write-present Inv-loop μ-loop
 unfolding windowOwner
-element-write-present c = smalls (c .before .before .before .before .before .before .before .before .before .before .before .before .before .before .before .before) .owner-below
+element-write-present c =
+    smalls (c .before .before .before .before .before .before .before .before .before .before .before .before .before
+    .before .before .before) .owner-below
 
 mul-present-2 : tie.Need-mul-present-2 Inv-loop μ-loop
 unfolding windowOwner
-mul-present-2 c = omega (arith, smalls (c .before .before .before .before .before .before .before .before .before .before .before .before .before .before .before .before) .owner-below)
+mul-present-2 c =
+    omega (
+      arith,
+      smalls (c .before .before .before .before .before .before .before .before .before .before .before
+          .before .before .before .before .before) .owner-below,
+    )
 
 element-write-present-2 : tie.Need-element-write-present-2 Inv-loop μ-loop
 unfolding windowOwner
-element-write-present-2 c = smalls (c .before .before .before .before .before .before .before .before .before .before .before .before .before .before .before .before) .owner-below
+element-write-present-2 c =
+    smalls (c .before .before .before .before .before .before .before .before .before .before .before .before .before
+    .before .before .before) .owner-below
 
 add-steps : tie.Need-add-steps Inv-loop μ-loop
-add-steps c = omega (arith, more (c .before .before .before .before .before .before .before .before .before .before .before .before .before .before .before .before .before) .0, c .before .before .before .before .before .before .before .run-turn .ensures .0 .within, c .before .before .before .before .before .before .before .before .before .before .before .before .before .before .before .before .before .before .before .before .before .before .before .before .before .before .before .fits .limit)
+add-steps c =
+    omega (
+      arith,
+      more (c .before .before .before .before .before .before .before .before .before .before .before
+          .before .before .before .before .before .before) .0,
+      c .before .before .before .before .before .before .before .run-turn .ensures .0 .within,
+      c .before .before .before .before .before .before .before .before .before .before .before .before .before .before
+          .before .before .before .before .before .before .before .before .before .before .before .before .before .fits
+          .limit,
+    )
 
 loop-less : tie.Need-loop-less Inv-loop μ-loop
-loop-less c = omega (arith, more (c .before .before .before .before .before .before .before .before .before .before .before .before .before .before .before .before .before) .0, c .before .before .before .before .before .before .before .run-turn .ensures .0 .some)
+loop-less c =
+    omega (
+      arith,
+      more (c .before .before .before .before .before .before .before .before .before .before .before
+          .before .before .before .before .before .before) .0,
+      c .before .before .before .before .before .before .before .run-turn .ensures .0 .some,
+    )
 
 loop-again : tie.Need-loop-again Inv-loop μ-loop
 unfolding windowOwner windowLength
 loop-again c =
-    let args = c .before .before .before .before .before .before .before .before .before .before .before .before .before .before .before .before .before .before .before .before .before .before .before .before .before .before .before .args in
-    let loop = c .before .before .before .before .before .before .before .before .before .before .before .before .before .before .before .before .before .before .loop in
+    let args = c .before .before .before .before .before .before .before .before .before .before .before .before
+    .before .before .before .before .before .before .before .before .before .before .before .before .before .before
+    .before .args in
+    let loop = c .before .before .before .before .before .before .before .before .before .before .before .before
+    .before .before .before .before .before .before .loop in
     let turn = c .before .before .before .before .before .before .before .run-turn in
     let did = turn .ensures in
-    let begins = here (c .before .before .before .before .before .before .before .before .before .before .before .before .before .before .before .before .before) in
-    going-turn (args .t1) _ _ _ _ (loop .present) _ _ _ _ _ (turnFrom (args .t1) (args .quota) (loop .present) (loop .start)) (turn .result) _ _ _ (loop .inv)
+    let begins = here (c .before .before .before .before .before .before .before .before .before .before .before
+    .before .before .before .before .before .before) in
+    going-turn (args .t1) _ _ _ _ (loop .present) _ _ _ _ _
+    (turnFrom (args .t1) (args .quota) (loop .present) (loop .start)) (turn .result) _ _ _ (loop .inv)
     (begins .end-is) (did .0) (did .1 _ _ begins refl)
     (turn .kept .1 .1 .1 .1 .1 .1 .0) (turn .kept .1 .1 .1 .1 .1 .1 .1 .0) (turn .kept .1 .1 .1 .1 .1 .1 .1 .1 .0)
 
-same-length : tie.Need-same-length Inv-loop μ-loop
-same-length c = c .before .loop .inv .cache-long
-
-same-length-2 : tie.Need-same-length-2 Inv-loop μ-loop
-same-length-2 c = c .before .loop .inv .boxes-long
-
-same-length-3 : tie.Need-same-length-3 Inv-loop μ-loop
-same-length-3 c = c .before .loop .inv .log-long
-
 returns : tie.Need-returns Inv-loop μ-loop
-returns c = going-done _ _ _ _ _ _ _ _ (c .before .loop .inv) (rw (c .before .before .before .windows-total .ensures) at (c .loop-test .left))
+returns c =
+    going-done _ _ _ _ _ _ _ _ (c .before .loop .inv)
+    (rw (c .before .before .before .windows-total .ensures) at (c .loop-test .left))
 
 pub run-steps-spec : {M : Type 1} → statement M
 run-steps-spec =
     tie.close
     (tie.spec
-    Inv-loop
-    μ-loop
-    cast-declared
-    cast-pad
-    windows-total-requires
-    window-start-requires
-    loop-holds
-    rem-slot
-    mul-owner
-    element-copy-out-owner
-    cast-owner
-    mul-t31
-    element-copy-out-t34
-    cast-t30
-    add-t37
-    mul-t39
-    element-copy-out-t42
-    mul-t43
-    element-copy-out-t46
-    sub-run-turn
-    run-turn-requires
-    mul-present
-    element-write-present
-    mul-present-2
-    element-write-present-2
-    add-steps
-    loop-less
-    loop-again
-    same-length
-    same-length-2
-    same-length-3
-    returns)
+    Inv-loop μ-loop (λ c. search needs) (λ c. search needs) windows-total-requires window-start-requires loop-holds
+    rem-slot mul-owner element-copy-out-owner cast-owner mul-t31 element-copy-out-t34 cast-t30 add-t37 mul-t39
+    element-copy-out-t42 mul-t43 element-copy-out-t46 sub-run-turn run-turn-requires mul-present
+    element-write-present mul-present-2 element-write-present-2 add-steps loop-less loop-again
+    (λ c. c .before .loop .inv .cache-long) (λ c. c .before .loop .inv .boxes-long)
+    (λ c. c .before .loop .inv .log-long) returns)

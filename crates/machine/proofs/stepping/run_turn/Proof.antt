@@ -7,69 +7,60 @@ use Rattle.machine.proofs.WholeTurns.{switch-runs, turn-stops, turn-swi
 use Rattle.machine.proofs.stepping.run_turn.Statement.{statement}
 use Rattle.machine.proofs.stepping.run_turn.Tie as tie
 
-run-window-requires : tie.Need-run-window-requires
-run-window-requires c κs = search needs
-
-same-length : tie.Need-same-length
-same-length c = search needs
-
-same-length-2 : tie.Need-same-length-2
-same-length-2 c = search needs
-
-same-length-3 : tie.Need-same-length-3
-same-length-3 c = search needs
-
 returns : tie.Need-returns
 returns c =
-    let ran = c .before .before .before .before .before .before .before .before .run-window .ensures in
-    (turn-stops _ _ _ _ (ran .0) (ran .1) (c .before .before .before .before .before .before .before .before .before .before .before .before .before .before .before .before .pre .2) (c .if1 .taken), λ plan state here pads. ran .3 plan state here .ran)
+    let ran = c .before .before .before .before .before .before .before .before .run-window .ensures in (
+      turn-stops _ _ _ _ (ran .0) (ran .1)
+          (c .before .before .before .before .before .before .before .before .before .before .before .before .before .before
+          .before .before .pre .2) (c .if1 .taken),
+      λ plan state here pads. ran .3 plan state here .ran,
+    )
 
 switch-requires : tie.Need-switch-requires
 switch-requires c κs =
-    let pre = c .before .before .before .before .before .before .before .before .before .before .before .before .before .before .before .before .before .before .pre in
+    let pre = c .before .before .before .before .before .before .before .before .before .before .before .before
+    .before .before .before .before .before .before .pre in
     let ran = c .before .before .before .before .before .before .before .before .before .before .run-window in
     let end = ap (λ (t : Turn). t .end) (ran .ensures .1) in
-    (ran .kept .1 .1 .1 .1 .1 .0 ∙ pre .8, omega (arith, end, ran .ensures .2), omega (arith, end, pre .6), pre .1)
+    (ran .kept .1 .1 .1 .1 .1 .0 ∙ pre .8, omega (arith, end, ran .ensures .2), omega (arith, end, pre .6), omega (arith, pre .1))
 
 add-t22 : tie.Need-add-t22
-add-t22 c = omega (arith, c .before .before .before .before .before .before .if1, c .before .before .before .before .before .before .before .before .before .before .before .before .before .before .before .before .before .before .before .before .before .before .fits)
+add-t22 c =
+    omega (
+      arith,
+      c .before .before .before .before .before .before .if1,
+      c .before .before .before .before .before .before .before .before .before .before .before .before .before .before
+          .before .before .before .before .before .before .before .before .fits,
+    )
 
 add-t23 : tie.Need-add-t23
-add-t23 c = omega (arith, ap (λ (t : Turn). t .windows) (c .before .before .before .before .before .before .before .before .before .before .before .before .before .before .before .run-window .ensures .1), c .before .before .before .before .before .before .before .before .before .before .before .before .before .before .before .before .before .before .before .before .before .before .before .pre .3)
-
-same-length-4 : tie.Need-same-length-4
-same-length-4 c = search needs
-
-same-length-5 : tie.Need-same-length-5
-same-length-5 c = search needs
-
-same-length-6 : tie.Need-same-length-6
-same-length-6 c = search needs
+add-t23 c =
+    omega (
+      arith,
+      ap (λ (t : Turn). t .windows)
+          (c .before .before .before .before .before .before .before .before .before .before .before .before .before .before
+          .before .run-window .ensures .1),
+      c .before .before .before .before .before .before .before .before .before .before .before .before .before .before
+          .before .before .before .before .before .before .before .before .before .pre .3,
+    )
 
 returns-2 : tie.Need-returns-2
 returns-2 c =
-    let pre = c .before .before .before .before .before .before .before .before .before .before .before .before .before .before .before .before .before .before .before .before .before .before .before .pre in
-    let ran = c .before .before .before .before .before .before .before .before .before .before .before .before .before .before .before .run-window .ensures in
+    let pre = c .before .before .before .before .before .before .before .before .before .before .before .before
+    .before .before .before .before .before .before .before .before .before .before .before .pre in
+    let ran = c .before .before .before .before .before .before .before .before .before .before .before .before
+    .before .before .before .run-window .ensures in
     let more = c .before .before .before .before .before .before .before .if1 .left in
     let switched = c .before .before .before .before .switch .ensures in (
       turn-switches _ _ _ _ (ran .0) (ran .1) _ _ more (switched .0) (pre .0) (ran .2),
       λ plan state here pads.
-      switch-runs _ _ _ _ (ran .0) (ran .1) _ _ more (switched .0) plan _ _ _ state _ _ _ _ (ran .3 plan state here) (switched .1) here pads,
+          switch-runs _ _ _ _ (ran .0) (ran .1) _ _ more (switched .0) plan _ _ _ state _ _ _ _ (ran .3 plan state here)
+          (switched .1) here pads,
     )
 
 pub run-turn-spec : {M : Type 1} → statement M
 run-turn-spec =
     tie.close
     (tie.spec
-    run-window-requires
-    same-length
-    same-length-2
-    same-length-3
-    returns
-    switch-requires
-    add-t22
-    add-t23
-    same-length-4
-    same-length-5
-    same-length-6
-    returns-2)
+    (λ c κs. search needs) (λ c. search needs) (λ c. search needs) (λ c. search needs) returns switch-requires
+    add-t22 add-t23 (λ c. search needs) (λ c. search needs) (λ c. search needs) returns-2)

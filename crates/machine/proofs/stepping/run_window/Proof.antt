@@ -22,19 +22,17 @@ loop-holds : tie.Need-loop-holds Inv-loop μ-loop
 loop-holds c = turn-first _ _ _ _ _ _ _ _ (c .before .before .before .before .pre .1)
 
 next-step-requires : tie.Need-next-step-requires Inv-loop μ-loop
-next-step-requires c κs = let pre = c .before .before .before .before .before .before .pre in (omega (arith, ap (λ (t : Turn). t .owner) (c .before .loop .inv .moved), pre .0), pre .3)
-
-enum-known-next : tie.Need-enum-known-next Inv-loop μ-loop
-enum-known-next c = search needs
-
-enum-told : tie.Need-enum-told Inv-loop μ-loop
-enum-told c = search needs
+next-step-requires c κs =
+    let pre = c .before .before .before .before .before .before .pre in
+    (omega (arith, ap (λ (t : Turn). t .owner) (c .before .loop .inv .moved), pre .0), pre .3)
 
 op-step-requires : tie.Need-op-step-requires Inv-loop μ-loop
 op-step-requires c κs =
-    let pre = c .before .before .before .before .before .before .before .before .before .before .before .before .before .pre in
+    let pre = c .before .before .before .before .before .before .before .before .before .before .before .before
+    .before .pre in
     let inv = c .before .before .before .before .before .before .before .before .loop .inv in
-    let begins = op-next _ _ _ (sym (c .before .before .before .before .before .before .next-step .ensures) ∙ c .before .before .before .before .next .given .1) in (
+    let begins = op-next _ _ _ (sym (c .before .before .before .before .before .before .next-step .ensures) ∙
+    c .before .before .before .before .next .given .1) in (
       omega (arith, ap (λ (t : Turn). t .owner) (inv .moved), pre .0),
       fetched-within _ _ _ _ (begins .next),
       fetched-below _ _ _ _ (begins .next),
@@ -45,26 +43,34 @@ op-step-requires c κs =
     )
 
 add-steps : tie.Need-add-steps Inv-loop μ-loop
-add-steps c = omega (arith, c .before .before .before .before .before .before .before .before .before .before .before .before .before .before .loop-test, c .before .before .before .before .before .before .before .before .before .before .before .before .before .before .before .before .before .before .before .before .fits)
+add-steps c =
+    omega (
+      arith,
+      c .before .before .before .before .before .before .before .before .before .before .before .before
+          .before .before .loop-test,
+      c .before .before .before .before .before .before .before .before .before .before .before .before .before .before
+          .before .before .before .before .before .before .fits,
+    )
 
 loop-less : tie.Need-loop-less Inv-loop μ-loop
-loop-less c = omega (arith, c .before .before .before .before .before .before .before .before .before .before .before .before .before .before .loop-test)
+loop-less c =
+    omega (
+      arith,
+      c .before .before .before .before .before .before .before .before .before .before .before .before
+          .before .before .loop-test,
+    )
 
 loop-again : tie.Need-loop-again Inv-loop μ-loop
 loop-again c =
-    let chosen = sym (c .before .before .before .before .before .before .before .before .before .before .before .next .given .1) ∙ c .before .before .before .before .before .before .before .before .before .before .before .before .before .next-step .ensures in
+    let chosen = sym (c .before .before .before .before .before .before .before .before .before .before .before .next
+    .given .1) ∙ c .before .before .before .before .before .before .before .before .before .before .before .before
+    .before .next-step .ensures in
     let did = c .before .before .before .before .before .before .op-step in
-    turn-more _ _ _ _ _ _ _ _ _ _ _ _ _ _ _ _ _ _ (c .before .before .before .before .before .before .before .before .before .before .before .before .before .before .before .loop .inv) (c .before .before .before .before .before .before .before .before .before .before .before .before .before .before .loop-test .taken) chosen
+    turn-more _ _ _ _ _ _ _ _ _ _ _ _ _ _ _ _ _ _
+    (c .before .before .before .before .before .before .before .before .before .before .before .before .before .before
+    .before .loop .inv) (c .before .before .before .before .before .before .before .before .before .before .before
+    .before .before .before .loop-test .taken) chosen
     (did .ensures) (did .kept .1 .1 .1 .1 .0) (did .kept .1 .1 .1 .1 .1 .0) (did .kept .1 .1 .1 .1 .1 .1 .0)
-
-same-length : tie.Need-same-length Inv-loop μ-loop
-same-length c = c .before .loop .inv .cache-long
-
-same-length-2 : tie.Need-same-length-2 Inv-loop μ-loop
-same-length-2 c = c .before .loop .inv .boxes-long
-
-same-length-3 : tie.Need-same-length-3 Inv-loop μ-loop
-same-length-3 c = c .before .loop .inv .log-long
 
 returns : tie.Need-returns Inv-loop μ-loop
 returns c =
@@ -72,17 +78,12 @@ returns c =
       inv .within,
       inv .moved,
       inv .late,
-      λ plan state begins. record { ran = inv .done plan state begins .0; due = λ fewer. absurd (omega (arith, c .loop-test)) },
+      λ plan state begins. record {
+        ran = inv .done plan state begins .0;
+        due = λ fewer. absurd
+            (omega (arith, c .loop-test));
+      },
     )
-
-same-length-4 : tie.Need-same-length-4 Inv-loop μ-loop
-same-length-4 c = c .before .before .before .before .loop .inv .cache-long
-
-same-length-5 : tie.Need-same-length-5 Inv-loop μ-loop
-same-length-5 c = c .before .before .before .before .loop .inv .boxes-long
-
-same-length-6 : tie.Need-same-length-6 Inv-loop μ-loop
-same-length-6 c = c .before .before .before .before .loop .inv .log-long
 
 returns-2 : tie.Need-returns-2 Inv-loop μ-loop
 returns-2 c =
@@ -92,28 +93,19 @@ returns-2 c =
       inv .moved,
       inv .late,
       λ plan state begins.
-      record { ran = inv .done plan state begins .0; due = λ fewer. turn-ends _ _ _ _ _ _ _ _ _ _ _ _ _ inv chosen plan state begins },
+          record {
+            ran = inv .done plan state begins .0;
+            due = λ fewer. turn-ends _ _ _ _ _ _ _ _ _ _ _ _ _ inv chosen
+                plan state begins;
+          },
     )
 
 pub run-window-spec : {M : Type 1} → statement M
 run-window-spec =
     tie.close
     (tie.spec
-    Inv-loop
-    μ-loop
-    loop-holds
-    next-step-requires
-    enum-known-next
-    enum-told
-    op-step-requires
-    add-steps
-    loop-less
-    loop-again
-    same-length
-    same-length-2
-    same-length-3
-    returns
-    same-length-4
-    same-length-5
-    same-length-6
-    returns-2)
+    Inv-loop μ-loop loop-holds next-step-requires (λ c. search needs) (λ c. search needs) op-step-requires add-steps
+    loop-less loop-again (λ c. c .before .loop .inv .cache-long) (λ c. c .before .loop .inv .boxes-long)
+    (λ c. c .before .loop .inv .log-long) returns (λ c. c .before .before .before .before .loop .inv .cache-long)
+    (λ c. c .before .before .before .before .loop .inv .boxes-long)
+    (λ c. c .before .before .before .before .loop .inv .log-long) returns-2)

@@ -54,7 +54,8 @@ returns c =
 returns-2 : tie.Need-returns-2
 returns-2 c =
     query-accepted _ _ _ _ _ _ (granted (c .before .before))
-    (c .before .part-records .ensures (c .before .before .before .before .before .before .args .plan) refl) (c .log-of .ensures)
+    (c .before .part-records .ensures (c .before .before .before .before .before .before .args .plan) refl)
+    (c .log-of .ensures .0)
 
 pub query-log-spec : {M : Type 1} → statement M
 query-log-spec =

@@ -5,12 +5,9 @@ use Rattle.plan.specs.Colours.{coloursOf}
 use Rattle.plan.proofs.sharing.colours_of.Statement.{statement}
 use Rattle.plan.proofs.sharing.colours_of.Tie as tie
 
-mul-result : tie.Need-mul-result
-mul-result c = search needs
-
 returns : tie.Need-returns
 unfolding coloursOf
 returns c = refl
 
 pub colours-of-spec : {M : Type 1} → statement M
-colours-of-spec = tie.close (tie.spec mul-result returns)
+colours-of-spec = tie.close (tie.spec (λ c. search needs) returns)

@@ -5,12 +5,9 @@ use Rattle.plan.specs.Colours.{hasBit}
 use Rattle.plan.proofs.sharing.has_bit.Statement.{statement}
 use Rattle.plan.proofs.sharing.has_bit.Tie as tie
 
-shr-result : tie.Need-shr-result
-shr-result c = search needs
-
 returns : tie.Need-returns
 unfolding hasBit
 returns c = refl
 
 pub has-bit-spec : {M : Type 1} → statement M
-has-bit-spec = tie.close (tie.spec shr-result returns)
+has-bit-spec = tie.close (tie.spec (λ c. search needs) returns)

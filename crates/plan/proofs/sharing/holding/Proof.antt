@@ -5,12 +5,6 @@ use Rattle.plan.specs.Colours.{holdingOf}
 use Rattle.plan.proofs.sharing.holding.Statement.{statement}
 use Rattle.plan.proofs.sharing.holding.Tie as tie
 
-mul-result : tie.Need-mul-result
-mul-result c = search needs
-
-array-read-result : tie.Need-array-read-result
-array-read-result c = search needs
-
 returns : tie.Need-returns
 unfolding holdingOf
 returns c = simp (lt-ltb _ _ (c .if1 .taken))
@@ -20,4 +14,4 @@ unfolding holdingOf
 returns-2 c = simp (le-ltb _ _ (c .if1 .left))
 
 pub holding-spec : {M : Type 1} → statement M
-holding-spec = tie.close (tie.spec mul-result array-read-result returns returns-2)
+holding-spec = tie.close (tie.spec (λ c. search needs) (λ c. search needs) returns returns-2)

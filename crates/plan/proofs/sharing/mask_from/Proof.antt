@@ -6,14 +6,8 @@ use Rattle.plan.proofs.Bits.{mask-fits, mask-shifted, one-shifted}
 use Rattle.plan.proofs.sharing.mask_from.Statement.{statement}
 use Rattle.plan.proofs.sharing.mask_from.Tie as tie
 
-shl-ones : tie.Need-shl-ones
-shl-ones c = search needs
-
 sub-ones : tie.Need-sub-ones
 sub-ones c = rw (one-shifted (c .args .count) (omega arith)) (pow-pos (c .args .count))
-
-shl-mask : tie.Need-shl-mask
-shl-mask c = search needs
 
 cast-result : tie.Need-cast-result
 cast-result c = record { fits = rw (mask-shifted (c .args .first) (c .args .count) (c .pre)) (mask-fits (c .args .first) (c .args .count) (c .pre)) }
@@ -22,4 +16,4 @@ returns : tie.Need-returns
 returns c = mask-shifted (c .args .first) (c .args .count) (c .pre)
 
 pub mask-from-spec : {M : Type 1} → statement M
-mask-from-spec = tie.close (tie.spec shl-ones sub-ones shl-mask cast-result returns)
+mask-from-spec = tie.close (tie.spec (λ c. search needs) sub-ones (λ c. search needs) cast-result returns)

@@ -31,18 +31,9 @@ Inv-loop shares domains masks₀ first₀ i₀ masks first i =
 abbrev μ-loop : tie.MeasureT-loop
 μ-loop shares domains masks₀ first₀ i₀ masks first i = domains - i
 
-cast-domains : tie.Need-cast-domains Inv-loop μ-loop
-cast-domains c = search needs
-
 loop-holds : tie.Need-loop-holds Inv-loop μ-loop
 unfolding sumTo
 loop-holds c = (omega arith, c .before .before .pre .0 .0, refl, refl, filled-none _)
-
-mul-colours-of : tie.Need-mul-colours-of Inv-loop μ-loop
-mul-colours-of c = omega arith
-
-array-read-colours-of : tie.Need-array-read-colours-of Inv-loop μ-loop
-array-read-colours-of c = omega arith
 
 colours-of-requires : tie.Need-colours-of-requires Inv-loop μ-loop
 colours-of-requires c κs = c .before .before .before .before .pre .0 .1 (c .before .loop .i) (omega arith)
@@ -58,20 +49,11 @@ mask-from-requires c κs =
     let total : sumTo rule (start .args .plan .domains) ≤ domainColours = start .pre .1 in
     omega (arith, c .colours-of .ensures)
 
-mul-masks : tie.Need-mul-masks Inv-loop μ-loop
-mul-masks c = omega arith
-
 array-write-masks : tie.Need-array-write-masks Inv-loop μ-loop
 array-write-masks c = omega (arith, c .before .before .before .loop .inv)
 
 add-first : tie.Need-add-first Inv-loop μ-loop
 add-first c = omega (arith, mask-from-requires (c .before) (c .mask-from .lifetimes))
-
-add-i : tie.Need-add-i Inv-loop μ-loop
-add-i c = omega arith
-
-loop-less : tie.Need-loop-less Inv-loop μ-loop
-loop-less c = omega arith
 
 loop-again : tie.Need-loop-again Inv-loop μ-loop
 loop-again c =
@@ -100,18 +82,6 @@ pub masks-of-spec : {M : Type 1} → statement M
 masks-of-spec =
     tie.close
     (tie.spec
-    Inv-loop
-    μ-loop
-    cast-domains
-    loop-holds
-    mul-colours-of
-    array-read-colours-of
-    colours-of-requires
-    mask-from-requires
-    mul-masks
-    array-write-masks
-    add-first
-    add-i
-    loop-less
-    loop-again
-    returns)
+    Inv-loop μ-loop (λ c. search needs) loop-holds (λ c. omega arith) (λ c. omega arith) colours-of-requires
+    mask-from-requires (λ c. omega arith) array-write-masks add-first (λ c. omega arith) (λ c. omega arith)
+    loop-again returns)

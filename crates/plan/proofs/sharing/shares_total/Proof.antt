@@ -17,18 +17,9 @@ Inv-loop shares domains total₀ i₀ total i = (i ≤ domains) × (total ≡ su
 abbrev μ-loop : tie.MeasureT-loop
 μ-loop shares domains total₀ i₀ total i = domains - i
 
-cast-domains : tie.Need-cast-domains Inv-loop μ-loop
-cast-domains c = search needs
-
 loop-holds : tie.Need-loop-holds Inv-loop μ-loop
 unfolding sumTo
 loop-holds c = (omega arith, refl, c .before .before .pre .0)
-
-mul-total : tie.Need-mul-total Inv-loop μ-loop
-mul-total c = omega arith
-
-array-read-total : tie.Need-array-read-total Inv-loop μ-loop
-array-read-total c = omega arith
 
 add-total : tie.Need-add-total Inv-loop μ-loop
 add-total c =
@@ -37,12 +28,6 @@ add-total c =
     let most : sumTo (λ (index : ℕ). getD (c .before .before .before .before .args .plan .shares) index 0) (loop .i) ≤ mostShare * loop .i =
     sum-most _ mostShare (loop .i) (λ index below. pre .1 index (omega arith)) in
     omega (arith, pre .1 (loop .i) (omega arith))
-
-add-i : tie.Need-add-i Inv-loop μ-loop
-add-i c = omega arith
-
-loop-less : tie.Need-loop-less Inv-loop μ-loop
-loop-less c = omega arith
 
 loop-again : tie.Need-loop-again Inv-loop μ-loop
 loop-again c = (omega arith, sum-more _ _ (c .before .loop .i) (c .before .loop .inv .1), c .before .loop .inv .2)
@@ -57,14 +42,5 @@ pub shares-total-spec : {M : Type 1} → statement M
 shares-total-spec =
     tie.close
     (tie.spec
-    Inv-loop
-    μ-loop
-    cast-domains
-    loop-holds
-    mul-total
-    array-read-total
-    add-total
-    add-i
-    loop-less
-    loop-again
-    returns)
+    Inv-loop μ-loop (λ c. search needs) loop-holds (λ c. omega arith) (λ c. omega arith) add-total
+    (λ c. omega arith) (λ c. omega arith) loop-again returns)

@@ -15,15 +15,9 @@ Inv-loop count lengths pad total₀ i₀ total i = (i ≤ count) × (total ≡ s
 abbrev μ-loop : tie.MeasureT-loop
 μ-loop count lengths pad total₀ i₀ total i = count - i
 
-cast-pad : tie.Need-cast-pad Inv-loop μ-loop
-cast-pad c = search needs
-
 loop-holds : tie.Need-loop-holds Inv-loop μ-loop
 unfolding sumTo
 loop-holds c = (omega arith, refl)
-
-mul-length : tie.Need-mul-length Inv-loop μ-loop
-mul-length c = omega arith
 
 array-read-length : tie.Need-array-read-length Inv-loop μ-loop
 array-read-length c = omega (arith, c .before .before .before .before .pre)
@@ -43,12 +37,6 @@ add-total-2 c =
     sum-most rule 2_000_000 (loop .i) (λ slot below. omega (arith, start .pre .2 slot (omega arith), start .pre)) in
     omega (arith, start .pre .2 (loop .i) (c .loop-test .taken), start .pre, loop .inv)
 
-add-i : tie.Need-add-i Inv-loop μ-loop
-add-i c = omega arith
-
-loop-less : tie.Need-loop-less Inv-loop μ-loop
-loop-less c = omega arith
-
 loop-again : tie.Need-loop-again Inv-loop μ-loop
 loop-again c = (omega arith, sum-more _ _ (c .before .loop .i) (c .before .loop .inv .1))
 
@@ -59,16 +47,5 @@ pub padded-lengths-spec : {M : Type 1} → statement M
 padded-lengths-spec =
     tie.close
     (tie.spec
-    Inv-loop
-    μ-loop
-    cast-pad
-    loop-holds
-    mul-length
-    array-read-length
-    cast-length
-    add-total
-    add-total-2
-    add-i
-    loop-less
-    loop-again
-    returns)
+    Inv-loop μ-loop (λ c. search needs) loop-holds (λ c. omega arith) array-read-length cast-length add-total
+    add-total-2 (λ c. omega arith) (λ c. omega arith) loop-again returns)

@@ -9,14 +9,8 @@ use Rattle.plan.proofs.Windows.{padded-most}
 use Rattle.plan.proofs.timing.ticks_total.Statement.{statement}
 use Rattle.plan.proofs.timing.ticks_total.Tie as tie
 
-cast-windows : tie.Need-cast-windows
-cast-windows c = search needs
-
 padded-lengths-requires : tie.Need-padded-lengths-requires
 padded-lengths-requires c κs = (c .before .pre .1, c .before .pre .2, λ slot below. c .before .pre .3 slot (omega arith))
-
-cast-run : tie.Need-cast-run
-cast-run c = search needs
 
 mul-result : tie.Need-mul-result
 mul-result c =
@@ -33,4 +27,6 @@ returns c = ap (λ (n : ℕ). c .before .before .before .args .plan .run * n) (c
 
 pub ticks-total-spec : {M : Type 1} → statement M
 ticks-total-spec =
-    tie.close (tie.spec cast-windows padded-lengths-requires cast-run mul-result returns)
+    tie.close
+    (tie.spec
+    (λ c. search needs) padded-lengths-requires (λ c. search needs) mul-result returns)

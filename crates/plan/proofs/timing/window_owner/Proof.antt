@@ -8,9 +8,6 @@ use Rattle.plan.proofs.Windows.{slot-below}
 use Rattle.plan.proofs.timing.window_owner.Statement.{statement}
 use Rattle.plan.proofs.timing.window_owner.Tie as tie
 
-cast-windows : tie.Need-cast-windows
-cast-windows c = search needs
-
 rem-slot : tie.Need-rem-slot
 rem-slot c = counts _ (c .before .before .pre) .windows-least
 
@@ -25,4 +22,4 @@ unfolding windowOwner
 returns c = refl
 
 pub window-owner-spec : {M : Type 1} → statement M
-window-owner-spec = tie.close (tie.spec cast-windows rem-slot mul-result array-read-result returns)
+window-owner-spec = tie.close (tie.spec (λ c. search needs) rem-slot mul-result array-read-result returns)

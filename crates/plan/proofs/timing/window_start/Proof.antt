@@ -8,12 +8,6 @@ use Rattle.plan.proofs.Windows.{slot-below, start-fits, start-repeats}
 use Rattle.plan.proofs.timing.window_start.Statement.{statement}
 use Rattle.plan.proofs.timing.window_start.Tie as tie
 
-cast-windows : tie.Need-cast-windows
-cast-windows c = search needs
-
-cast-count : tie.Need-cast-count
-cast-count c = search needs
-
 rem-slot : tie.Need-rem-slot
 rem-slot c = counts _ (c .before .before .pre .0) .windows-least
 
@@ -50,12 +44,5 @@ pub window-start-spec : {M : Type 1} → statement M
 window-start-spec =
     tie.close
     (tie.spec
-    cast-windows
-    cast-count
-    rem-slot
-    padded-lengths-requires
-    padded-lengths-requires-2
-    div-repeats
-    mul-result
-    add-result
-    returns)
+    (λ c. search needs) (λ c. search needs) rem-slot padded-lengths-requires padded-lengths-requires-2 div-repeats
+    mul-result add-result returns)

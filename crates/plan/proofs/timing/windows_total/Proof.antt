@@ -9,12 +9,6 @@ use Rattle.plan.specs.Limits.{mostRun, mostWindows}
 use Rattle.plan.proofs.timing.windows_total.Statement.{statement}
 use Rattle.plan.proofs.timing.windows_total.Tie as tie
 
-cast-run : tie.Need-cast-run
-cast-run c = search needs
-
-cast-windows : tie.Need-cast-windows
-cast-windows c = search needs
-
 mul-result : tie.Need-mul-result
 mul-result c =
     let pre = c .before .before .pre in
@@ -26,4 +20,4 @@ unfolding windowsTotal
 returns c = refl
 
 pub windows-total-spec : {M : Type 1} → statement M
-windows-total-spec = tie.close (tie.spec cast-run cast-windows mul-result returns)
+windows-total-spec = tie.close (tie.spec (λ c. search needs) (λ c. search needs) mul-result returns)

@@ -10,36 +10,12 @@ use Rattle.plan.proofs.ValidPlans.{limits}
 use Rattle.plan.proofs.validity.declared_valid.Statement.{statement}
 use Rattle.plan.proofs.validity.declared_valid.Tie as tie
 
-mul-share : tie.Need-mul-share
-mul-share c = search needs
-
-array-read-share : tie.Need-array-read-share
-array-read-share c = search needs
-
-mul-right : tie.Need-mul-right
-mul-right c = search needs
-
-array-read-right : tie.Need-array-read-right
-array-read-right c = search needs
-
-is-within-requires : tie.Need-is-within-requires
-is-within-requires c κs = search needs
-
 returns : tie.Need-returns
 unfolding declaredValid
 returns c = let outside = sym (c .before .is-within .ensures) ∙ not-true _ (c .if1 .taken) in rw outside refl
 
 colours-of-requires : tie.Need-colours-of-requires
 colours-of-requires c κs = limits leastShare mostShare _ (sym (c .before .is-within .ensures) ∙ not-false _ (c .if1 .left)) .1
-
-cast-has-bit : tie.Need-cast-has-bit
-cast-has-bit c = search needs
-
-has-bit-requires : tie.Need-has-bit-requires
-has-bit-requires c κs = search needs
-
-shl-result : tie.Need-shl-result
-shl-result c = search needs
 
 returns-2 : tie.Need-returns-2
 unfolding declaredValid
@@ -52,14 +28,5 @@ pub declared-valid-spec : {M : Type 1} → statement M
 declared-valid-spec =
     tie.close
     (tie.spec
-    mul-share
-    array-read-share
-    mul-right
-    array-read-right
-    is-within-requires
-    returns
-    colours-of-requires
-    cast-has-bit
-    has-bit-requires
-    shl-result
-    returns-2)
+    (λ c. search needs) (λ c. search needs) (λ c. search needs) (λ c. search needs) (λ c κs. search needs) returns
+    colours-of-requires (λ c. search needs) (λ c κs. search needs) (λ c. search needs) returns-2)

@@ -27,12 +27,6 @@ domain-valid-requires c κs = (c .loop-test .taken, c .before .before .pre)
 returns : tie.Need-returns Inv-loop μ-loop
 returns c = all-below-fails _ mostDomains (c .before .before .before .loop .domain) (c .before .before .loop-test .taken) (sym (c .before .domain-valid .ensures) ∙ not-true _ (c .if1 .taken))
 
-add-domain : tie.Need-add-domain Inv-loop μ-loop
-add-domain c = omega arith
-
-loop-less : tie.Need-loop-less Inv-loop μ-loop
-loop-less c = omega arith
-
 loop-again : tie.Need-loop-again Inv-loop μ-loop
 loop-again c =
     let loop = c .before .before .before .loop in (
@@ -47,12 +41,5 @@ pub domains-valid-spec : {M : Type 1} → statement M
 domains-valid-spec =
     tie.close
     (tie.spec
-    Inv-loop
-    μ-loop
-    loop-holds
-    domain-valid-requires
-    returns
-    add-domain
-    loop-less
-    loop-again
+    Inv-loop μ-loop loop-holds domain-valid-requires returns (λ c. omega arith) (λ c. omega arith) loop-again
     returns-2)

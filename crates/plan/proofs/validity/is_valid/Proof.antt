@@ -29,9 +29,6 @@ masked c = sym (c .before .masks-valid .ensures) ∙ not-false _ (c .if4 .left)
 windowed : (c : tie.Else5) → allBelow (windowValid (c .before .before .before .before .before .before .before .before .before .before .args .plan)) mostWindows ≡ true
 windowed c = sym (c .before .windows-valid .ensures) ∙ not-false _ (c .if5 .left)
 
-counts-valid-requires : tie.Need-counts-valid-requires
-counts-valid-requires c κs = search needs
-
 returns : tie.Need-returns
 unfolding planValid
 returns c = rw (sym (c .before .counts-valid .ensures) ∙ not-true _ (c .if1 .taken)) refl
@@ -69,9 +66,6 @@ returns-4 c =
     )
     refl
 
-windows-valid-requires : tie.Need-windows-valid-requires
-windows-valid-requires c κs = search needs
-
 returns-5 : tie.Need-returns-5
 unfolding planValid
 returns-5 c =
@@ -106,15 +100,5 @@ pub is-valid-spec : {M : Type 1} → statement M
 is-valid-spec =
     tie.close
     (tie.spec
-    counts-valid-requires
-    returns
-    domains-valid-requires
-    returns-2
-    shares-total-requires
-    returns-3
-    masks-valid-requires
-    returns-4
-    windows-valid-requires
-    returns-5
-    ticks-total-requires
-    returns-6)
+    (λ c κs. search needs) returns domains-valid-requires returns-2 shares-total-requires returns-3
+    masks-valid-requires returns-4 (λ c κs. search needs) returns-5 ticks-total-requires returns-6)

@@ -27,24 +27,9 @@ Inv-loop kept given domain₀ domain = (domain ≤ mostDomains) × (allBelow (λ
 abbrev μ-loop : tie.MeasureT-loop
 μ-loop kept given domain₀ domain = mostDomains - domain
 
-masks-of-requires : tie.Need-masks-of-requires Inv-loop μ-loop
-masks-of-requires c κs = c .before .pre
-
 loop-holds : tie.Need-loop-holds Inv-loop μ-loop
 unfolding allBelow
 loop-holds c = (omega arith, refl)
-
-mul-if1 : tie.Need-mul-if1 Inv-loop μ-loop
-mul-if1 c = omega arith
-
-array-read-if1 : tie.Need-array-read-if1 Inv-loop μ-loop
-array-read-if1 c = omega arith
-
-mul-if1-2 : tie.Need-mul-if1-2 Inv-loop μ-loop
-mul-if1-2 c = omega arith
-
-array-read-if1-2 : tie.Need-array-read-if1-2 Inv-loop μ-loop
-array-read-if1-2 c = omega arith
 
 returns : tie.Need-returns Inv-loop μ-loop
 unfolding maskValid
@@ -53,12 +38,6 @@ returns c =
     let start = c .before .before .before .before .before in
     let given = due _ (start .args .plan) (c .before .before .before .masks-of .ensures) (loop .domain) (c .before .loop-test .taken) in
     all-below-fails _ mostDomains (loop .domain) (c .before .loop-test .taken) (ne-eqb _ _ (λ same. c .if1 .taken (same ∙ sym given)))
-
-add-domain : tie.Need-add-domain Inv-loop μ-loop
-add-domain c = omega arith
-
-loop-less : tie.Need-loop-less Inv-loop μ-loop
-loop-less c = omega arith
 
 loop-again : tie.Need-loop-again Inv-loop μ-loop
 loop-again c = (omega (arith, c .before .loop-test), all-below-more _ (c .before .before .loop .domain) (c .before .before .loop .inv .1) (eq-eqb _ _ (c .if1 .left)))
@@ -78,16 +57,5 @@ pub masks-valid-spec : {M : Type 1} → statement M
 masks-valid-spec =
     tie.close
     (tie.spec
-    Inv-loop
-    μ-loop
-    masks-of-requires
-    loop-holds
-    mul-if1
-    array-read-if1
-    mul-if1-2
-    array-read-if1-2
-    returns
-    add-domain
-    loop-less
-    loop-again
-    returns-2)
+    Inv-loop μ-loop (λ c κs. c .before .pre) loop-holds (λ c. omega arith) (λ c. omega arith) (λ c. omega arith)
+    (λ c. omega arith) returns (λ c. omega arith) (λ c. omega arith) loop-again returns-2)

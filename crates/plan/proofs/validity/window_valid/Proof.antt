@@ -4,9 +4,6 @@ use Rattle.plan.specs.Validity.{windowValid}
 use Rattle.plan.proofs.validity.window_valid.Statement.{statement}
 use Rattle.plan.proofs.validity.window_valid.Tie as tie
 
-is-within-requires : tie.Need-is-within-requires
-is-within-requires c κs = search needs
-
 returns : tie.Need-returns
 unfolding windowValid
 returns c plan slot owner length domains declared =
@@ -17,4 +14,4 @@ unfolding windowValid
 returns-2 c plan slot owner length domains declared = simp (owner, length, domains, declared, c .if1 .left)
 
 pub window-valid-spec : {M : Type 1} → statement M
-window-valid-spec = tie.close (tie.spec is-within-requires returns returns-2)
+window-valid-spec = tie.close (tie.spec (λ c κs. search needs) returns returns-2)

@@ -17,33 +17,9 @@ Inv-loop plan windows valid₀ slot₀ valid slot = (slot ≤ mostWindows) × (v
 abbrev μ-loop : tie.MeasureT-loop
 μ-loop plan windows valid₀ slot₀ valid slot = mostWindows - slot
 
-cast-windows : tie.Need-cast-windows Inv-loop μ-loop
-cast-windows c = search needs
-
 loop-holds : tie.Need-loop-holds Inv-loop μ-loop
 unfolding allBelow
 loop-holds c = (omega arith, refl)
-
-mul-owner : tie.Need-mul-owner Inv-loop μ-loop
-mul-owner c = omega arith
-
-element-copy-out-owner : tie.Need-element-copy-out-owner Inv-loop μ-loop
-element-copy-out-owner c = omega arith
-
-mul-length : tie.Need-mul-length Inv-loop μ-loop
-mul-length c = omega arith
-
-element-copy-out-length : tie.Need-element-copy-out-length Inv-loop μ-loop
-element-copy-out-length c = omega arith
-
-window-valid-requires : tie.Need-window-valid-requires Inv-loop μ-loop
-window-valid-requires c κs = search needs
-
-add-slot : tie.Need-add-slot Inv-loop μ-loop
-add-slot c = omega arith
-
-loop-less : tie.Need-loop-less Inv-loop μ-loop
-loop-less c = omega arith
 
 loop-again : tie.Need-loop-again Inv-loop μ-loop
 loop-again c =
@@ -57,16 +33,5 @@ pub windows-valid-spec : {M : Type 1} → statement M
 windows-valid-spec =
     tie.close
     (tie.spec
-    Inv-loop
-    μ-loop
-    cast-windows
-    loop-holds
-    mul-owner
-    element-copy-out-owner
-    mul-length
-    element-copy-out-length
-    window-valid-requires
-    add-slot
-    loop-less
-    loop-again
-    returns)
+    Inv-loop μ-loop (λ c. search needs) loop-holds (λ c. omega arith) (λ c. omega arith) (λ c. omega arith)
+    (λ c. omega arith) (λ c κs. search needs) (λ c. omega arith) (λ c. omega arith) loop-again returns)

@@ -3,12 +3,9 @@ use Rattle.reader.specs.Draft.{noDraft}
 use Rattle.reader.proofs.drafting.no_draft.Statement.{statement}
 use Rattle.reader.proofs.drafting.no_draft.Tie as tie
 
-no-plan-requires : tie.Need-no-plan-requires
-no-plan-requires c κs = tt
-
 returns : tie.Need-returns
 unfolding noDraft
 returns c = simp (← (c .no-plan .ensures))
 
 pub no-draft-spec : {M : Type 1} → statement M
-no-draft-spec = tie.close (tie.spec no-plan-requires returns)
+no-draft-spec = tie.close (tie.spec (λ c κs. tt) returns)

@@ -4,12 +4,9 @@ use Rattle.reader.specs.Draft.{takeDomain}
 use Rattle.reader.proofs.drafting.take_domain.Statement.{statement}
 use Rattle.reader.proofs.drafting.take_domain.Tie as tie
 
-plan-with-domain-requires : tie.Need-plan-with-domain-requires
-plan-with-domain-requires c κs = search needs
-
 returns : tie.Need-returns
 unfolding takeDomain
 returns c = simp (← (c .before .plan-with-domain .ensures))
 
 pub take-domain-spec : {M : Type 1} → statement M
-take-domain-spec = tie.close (tie.spec plan-with-domain-requires returns)
+take-domain-spec = tie.close (tie.spec (λ c κs. search needs) returns)

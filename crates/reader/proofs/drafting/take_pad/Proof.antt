@@ -8,15 +8,9 @@ returns : tie.Need-returns
 unfolding takePad
 returns c = simp (ne-eqb _ _ (c .if1 .taken))
 
-plan-with-pad-requires : tie.Need-plan-with-pad-requires
-plan-with-pad-requires c κs = tt
-
-with-plan-requires : tie.Need-with-plan-requires
-with-plan-requires c κs = tt
-
 returns-2 : tie.Need-returns-2
 unfolding takePad
 returns-2 c = simp (eq-eqb _ _ (c .before .before .if1 .left), ← (c .before .plan-with-pad .ensures), ← (c .with-plan .ensures))
 
 pub take-pad-spec : {M : Type 1} → statement M
-take-pad-spec = tie.close (tie.spec returns plan-with-pad-requires with-plan-requires returns-2)
+take-pad-spec = tie.close (tie.spec returns (λ c κs. tt) (λ c κs. tt) returns-2)

@@ -8,15 +8,9 @@ returns : tie.Need-returns
 unfolding takeRun
 returns c = simp (ne-eqb _ _ (c .if1 .taken))
 
-plan-with-run-requires : tie.Need-plan-with-run-requires
-plan-with-run-requires c κs = tt
-
-with-plan-requires : tie.Need-with-plan-requires
-with-plan-requires c κs = tt
-
 returns-2 : tie.Need-returns-2
 unfolding takeRun
 returns-2 c = simp (eq-eqb _ _ (c .before .before .if1 .left), ← (c .before .plan-with-run .ensures), ← (c .with-plan .ensures))
 
 pub take-run-spec : {M : Type 1} → statement M
-take-run-spec = tie.close (tie.spec returns plan-with-run-requires with-plan-requires returns-2)
+take-run-spec = tie.close (tie.spec returns (λ c κs. tt) (λ c κs. tt) returns-2)

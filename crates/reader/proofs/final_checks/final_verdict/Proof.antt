@@ -5,18 +5,9 @@ use Rattle.reader.specs.Final.{finalVerdict}
 use Rattle.reader.proofs.final_checks.final_verdict.Statement.{statement}
 use Rattle.reader.proofs.final_checks.final_verdict.Tie as tie
 
-is-lacking-requires : tie.Need-is-lacking-requires
-is-lacking-requires c κs = tt
-
 returns : tie.Need-returns
 unfolding finalVerdict
 returns c = simp (← (c .before .is-lacking .ensures), c .if1 .taken)
-
-may-verdict-requires : tie.Need-may-verdict-requires
-may-verdict-requires c κs = tt
-
-enum-known-recipients : tie.Need-enum-known-recipients
-enum-known-recipients c = search needs
 
 returns-2 : tie.Need-returns-2
 unfolding finalVerdict
@@ -28,18 +19,6 @@ returns-2 c =
       ← (c .before .before .before .may-verdict .ensures),
       c .before .recipients .given .1,
     )
-
-enum-told : tie.Need-enum-told
-enum-told c = search needs
-
-shares-total-requires : tie.Need-shares-total-requires
-shares-total-requires c κs = search needs
-
-cast-total : tie.Need-cast-total
-cast-total c = search needs
-
-cast-if2 : tie.Need-cast-if2
-cast-if2 c = search needs
 
 returns-3 : tie.Need-returns-3
 unfolding finalVerdict
@@ -54,12 +33,6 @@ returns-3 c =
       ← (c .before .shares-total .ensures),
       lt-ltb _ _ (c .if2 .taken),
     )
-
-first-colourless-requires : tie.Need-first-colourless-requires
-first-colourless-requires c κs = search needs
-
-cast-if3 : tie.Need-cast-if3
-cast-if3 c = search needs
 
 returns-4 : tie.Need-returns-4
 unfolding finalVerdict
@@ -77,9 +50,6 @@ returns-4 c =
       ← (c .before .before .first-colourless .ensures),
       lt-ltb _ _ (c .if3 .taken),
     )
-
-ticks-total-requires : tie.Need-ticks-total-requires
-ticks-total-requires c κs = search needs
 
 returns-5 : tie.Need-returns-5
 unfolding finalVerdict
@@ -125,19 +95,6 @@ pub final-verdict-spec : {M : Type 1} → statement M
 final-verdict-spec =
     tie.close
     (tie.spec
-    is-lacking-requires
-    returns
-    may-verdict-requires
-    enum-known-recipients
-    returns-2
-    enum-told
-    shares-total-requires
-    cast-total
-    cast-if2
-    returns-3
-    first-colourless-requires
-    cast-if3
-    returns-4
-    ticks-total-requires
-    returns-5
-    returns-6)
+    (λ c κs. tt) returns (λ c κs. tt) (λ c. search needs) returns-2 (λ c. search needs) (λ c κs. search needs)
+    (λ c. search needs) (λ c. search needs) returns-3 (λ c κs. search needs) (λ c. search needs) returns-4
+    (λ c κs. search needs) returns-5 returns-6)

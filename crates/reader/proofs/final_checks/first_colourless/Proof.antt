@@ -18,17 +18,8 @@ Inv-loop shares domains domain₀ domain =
 abbrev μ-loop : tie.MeasureT-loop
 μ-loop shares domains domain₀ domain = domains - domain
 
-cast-domains : tie.Need-cast-domains Inv-loop μ-loop
-cast-domains c = search needs
-
 loop-holds : tie.Need-loop-holds Inv-loop μ-loop
 loop-holds c = (search needs, λ plan _ _. refl)
-
-mul-colours-of : tie.Need-mul-colours-of Inv-loop μ-loop
-mul-colours-of c = search needs
-
-array-read-colours-of : tie.Need-array-read-colours-of Inv-loop μ-loop
-array-read-colours-of c = search needs
 
 colours-of-requires : tie.Need-colours-of-requires Inv-loop μ-loop
 colours-of-requires c κs = c .before .before .before .before .pre .1 _ (omega arith)
@@ -37,12 +28,6 @@ returns : tie.Need-returns Inv-loop μ-loop
 returns c =
     let plan = c .before .before .before .before .before .before .args .plan in
     sym (colourless-here plan _ (search needs) (sym (c .before .colours-of .ensures) ∙ c .if1 .taken)) ∙ c .before .before .before .loop .inv .1 plan refl refl ∙ colourless-all plan
-
-add-domain : tie.Need-add-domain Inv-loop μ-loop
-add-domain c = search needs
-
-loop-less : tie.Need-loop-less Inv-loop μ-loop
-loop-less c = search needs
 
 loop-again : tie.Need-loop-again Inv-loop μ-loop
 loop-again c = (
@@ -62,15 +47,5 @@ pub first-colourless-spec : {M : Type 1} → statement M
 first-colourless-spec =
     tie.close
     (tie.spec
-    Inv-loop
-    μ-loop
-    cast-domains
-    loop-holds
-    mul-colours-of
-    array-read-colours-of
-    colours-of-requires
-    returns
-    add-domain
-    loop-less
-    loop-again
-    returns-2)
+    Inv-loop μ-loop (λ c. search needs) loop-holds (λ c. search needs) (λ c. search needs) colours-of-requires
+    returns (λ c. search needs) (λ c. search needs) loop-again returns-2)

@@ -20,21 +20,6 @@ loop-holds : tie.Need-loop-holds Inv-loop μ-loop
 unfolding mayAfter
 loop-holds c = refl
 
-mul-earlier-kept : tie.Need-mul-earlier-kept Inv-loop μ-loop
-mul-earlier-kept c = search needs
-
-array-read-earlier-kept : tie.Need-array-read-earlier-kept Inv-loop μ-loop
-array-read-earlier-kept c = search needs
-
-earlier-kept-requires : tie.Need-earlier-kept-requires Inv-loop μ-loop
-earlier-kept-requires c κs = tt
-
-add-domain : tie.Need-add-domain Inv-loop μ-loop
-add-domain c = search needs
-
-loop-less : tie.Need-loop-less Inv-loop μ-loop
-loop-less c = search needs
-
 loop-again : tie.Need-loop-again Inv-loop μ-loop
 loop-again c =
     let loop = c .before .before .loop in
@@ -43,9 +28,6 @@ loop-again c =
 returns : tie.Need-returns Inv-loop μ-loop
 returns c = may-nothing _ (c .if1 .taken) ∙ may-end _ _ _ _ (c .before .before .loop .inv) (c .before .loop-test .left)
 
-sub-t12 : tie.Need-sub-t12 Inv-loop μ-loop
-sub-t12 c = search needs
-
 returns-2 : tie.Need-returns-2 Inv-loop μ-loop
 returns-2 c = may-found _ (c .if1 .left) ∙ may-end _ _ _ _ (c .before .before .loop .inv) (c .before .loop-test .left)
 
@@ -53,15 +35,5 @@ pub may-verdict-spec : {M : Type 1} → statement M
 may-verdict-spec =
     tie.close
     (tie.spec
-    Inv-loop
-    μ-loop
-    loop-holds
-    mul-earlier-kept
-    array-read-earlier-kept
-    earlier-kept-requires
-    add-domain
-    loop-less
-    loop-again
-    returns
-    sub-t12
-    returns-2)
+    Inv-loop μ-loop loop-holds (λ c. search needs) (λ c. search needs) (λ c κs. tt) (λ c. search needs)
+    (λ c. search needs) loop-again returns (λ c. search needs) returns-2)

@@ -6,12 +6,9 @@ use Rattle.reader.specs.Final.{planWithMasks}
 use Rattle.reader.proofs.final_checks.plan_with_masks.Statement.{statement}
 use Rattle.reader.proofs.final_checks.plan_with_masks.Tie as tie
 
-masks-of-requires : tie.Need-masks-of-requires
-masks-of-requires c κs = search needs
-
 returns : tie.Need-returns
 unfolding planWithMasks withMasks
 returns c = ap (withMasks (c .before .args .plan)) (c .masks-of .ensures)
 
 pub plan-with-masks-spec : {M : Type 1} → statement M
-plan-with-masks-spec = tie.close (tie.spec masks-of-requires returns)
+plan-with-masks-spec = tie.close (tie.spec (λ c κs. search needs) returns)

@@ -19,24 +19,6 @@ abbrev μ-loop : tie.MeasureT-loop
 loop-holds : tie.Need-loop-holds Inv-loop μ-loop
 loop-holds c = (search needs, refl, refl)
 
-mul-scripts : tie.Need-mul-scripts Inv-loop μ-loop
-mul-scripts c = search needs
-
-element-copy-out-scripts : tie.Need-element-copy-out-scripts Inv-loop μ-loop
-element-copy-out-scripts c = search needs
-
-mul-scripts-2 : tie.Need-mul-scripts-2 Inv-loop μ-loop
-mul-scripts-2 c = search needs
-
-slice-write-scripts : tie.Need-slice-write-scripts Inv-loop μ-loop
-slice-write-scripts c = search needs
-
-add-index : tie.Need-add-index Inv-loop μ-loop
-add-index c = search needs
-
-loop-less : tie.Need-loop-less Inv-loop μ-loop
-loop-less c = search needs
-
 loop-again : tie.Need-loop-again Inv-loop μ-loop
 loop-again c =
     let loop = c .before .before .loop in
@@ -45,9 +27,6 @@ loop-again c =
       length-set (loop .scripts) (loop .index) (getD store (loop .index) 0) ∙ loop .inv .1,
       filled-next store (loop .scripts) (loop .index) (search needs) (search needs) (loop .inv .2),
     )
-
-same-length : tie.Need-same-length Inv-loop μ-loop
-same-length c = c .before .loop .inv .1
 
 returns : tie.Need-returns Inv-loop μ-loop
 returns c =
@@ -58,15 +37,5 @@ pub hand-over-spec : {M : Type 1} → statement M
 hand-over-spec =
     tie.close
     (tie.spec
-    Inv-loop
-    μ-loop
-    loop-holds
-    mul-scripts
-    element-copy-out-scripts
-    mul-scripts-2
-    slice-write-scripts
-    add-index
-    loop-less
-    loop-again
-    same-length
-    returns)
+    Inv-loop μ-loop loop-holds (λ c. search needs) (λ c. search needs) (λ c. search needs) (λ c. search needs)
+    (λ c. search needs) (λ c. search needs) loop-again (λ c. c .before .loop .inv .1) returns)

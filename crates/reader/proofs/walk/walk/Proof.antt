@@ -16,14 +16,8 @@ Inv-loop text store₀ draft₀ at₀ store draft at = LinesLeft text at draft s
 abbrev μ-loop : tie.MeasureT-loop
 μ-loop text store₀ draft₀ at₀ store draft at = length text - at
 
-no-draft-requires : tie.Need-no-draft-requires Inv-loop μ-loop
-no-draft-requires c κs = tt
-
 loop-holds : tie.Need-loop-holds Inv-loop μ-loop
 loop-holds c = rw (c .no-draft .ensures) (lines-first _ noDraft _ draft-first)
-
-line-at-requires : tie.Need-line-at-requires Inv-loop μ-loop
-line-at-requires c κs = tt
 
 take-line-requires : tie.Need-take-line-requires Inv-loop μ-loop
 take-line-requires c κs =
@@ -33,18 +27,12 @@ take-line-requires c κs =
       turn-op _ _ _ _ _ left (turn .loop-test .taken) _ (c .before .line-at .ensures),
     )
 
-enum-told : tie.Need-enum-told Inv-loop μ-loop
-enum-told c = search needs
-
 returns : tie.Need-returns Inv-loop μ-loop
 returns c =
     let taken = c .before .before in
     let turn = taken .before .before .before .before in
     turn-refused _ _ _ _ _ (turn .before .loop .inv) (turn .loop-test .taken) _ (taken .before .before .line-at .ensures)
     (taken .take-line .result) _ (taken .take-line .ensures) _ (c .enum-told .given .1)
-
-enum-told-2 : tie.Need-enum-told-2 Inv-loop μ-loop
-enum-told-2 c = search needs
 
 add-at : tie.Need-add-at Inv-loop μ-loop
 add-at c =
@@ -77,16 +65,5 @@ pub walk-spec : {M : Type 1} → statement M
 walk-spec =
     tie.close
     (tie.spec
-    Inv-loop
-    μ-loop
-    no-draft-requires
-    loop-holds
-    line-at-requires
-    take-line-requires
-    enum-told
-    returns
-    enum-told-2
-    add-at
-    loop-less
-    loop-again
-    returns-2)
+    Inv-loop μ-loop (λ c κs. tt) loop-holds (λ c κs. tt) take-line-requires (λ c. search needs) returns
+    (λ c. search needs) add-at loop-less loop-again returns-2)
