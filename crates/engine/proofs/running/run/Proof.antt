@@ -11,15 +11,14 @@ use Rattle.engine.proofs.running.run.Statement.{statement}
 use denote.Ref.{now}
 use Rattle.engine.proofs.running.run.Tie as tie
 
+abbrev start : tie.After-enum-told → tie.Start
+start c = c .before .before .before .before .before .before .before .before .before .before
+
 -- what an accepted run was lent
 lent :
     (c : tie.After-enum-told)
-    → RunAccepted (c .before .before .before .before .before .before .before .before .before .before .args .plan)
-    (now (c .before .before .before .before .before .before .before .before .before .before .args .scripts))
-    (worldWith (c .before .before .before .before .before .before .before .before .before .before .args .state)
-    (now (c .before .before .before .before .before .before .before .before .before .before .args .cache))
-    (now (c .before .before .before .before .before .before .before .before .before .before .args .boxes))
-    (now (c .before .before .before .before .before .before .before .before .before .before .args .log)))
+    → let args = start c .args in
+    RunAccepted (args .plan) (now (args .scripts)) (worldWith (args .state) (now (args .cache)) (now (args .boxes)) (now (args .log)))
 lent c = run-accepted _ _ _ (sym (c .before .before .check-run .ensures) ∙ c .enum-told .given .1)
 
 part-records-requires : tie.Need-part-records-requires
@@ -27,20 +26,15 @@ part-records-requires c κs = let count = counts _ (lent c .possible) in (count 
 
 run-steps-requires : tie.Need-run-steps-requires
 run-steps-requires c κs =
+    let args = start (c .before .before .before .before) .args in
     let ok = lent (c .before .before .before .before) in
-    let quota = c .before .before .before .part-records .ensures
-    (c .before .before .before .before .before .before .before .before .before .before .before .before .before .before
-    .args .plan) refl in (
+    let quota = c .before .before .before .part-records .ensures (args .plan) refl in (
       ok .possible,
-      ap (λ (n : ℕ). stateValid
-          (c .before .before .before .before .before .before .before .before .before .before .before .before .before
-          .before .args .plan) n
-          (c .before .before .before .before .before .before .before .before .before .before .before .before .before
-          .before .args .state)) quota ∙ ok .state-is,
+      ap (λ (n : ℕ). stateValid (args .plan) n (args .state)) quota ∙ ok .state-is,
       ok .scripts-long,
       ok .cache-long,
       ok .boxes-long,
-      rw quota (parts-fit (c .before .before .before .before .before .before .before .before .before .before .before .before .before .before .args .plan) _),
+      rw quota (parts-fit (args .plan) _),
     )
 
 ending-of-requires : tie.Need-ending-of-requires
@@ -54,16 +48,11 @@ returns c = run-refused _ _ _ _ _ (sym (c .before .verdict .given .1) ∙ c .bef
 
 returns-2 : tie.Need-returns-2
 returns-2 c =
-    ran _ _ _ _ _ _ _ _ (sym
-    (c .before .before .before .before .before .before .before .before .before .before .before .before .before
-    .enum-told .given .1) ∙
-    c .before .before .before .before .before .before .before .before .before .before .before .before .before .before
-    .before .check-run .ensures)
+    let at = c .before .before .before .before .before .before .before .before .before .before .before .before .before in
+    ran _ _ _ _ _ _ _ _ (sym (at .enum-told .given .1) ∙ at .before .before .check-run .ensures)
     (c .before .before .before .before .before .before .before .before .before .before .before .before .part-records
-    .ensures (c .before .before .before .before .before .before .before .before .before .before .before .before
-    .before .before .before .before .before .before .before .before .before .before .before .args .plan) refl)
-    (c .before .before .before .before .before .before .before .before .run-steps .ensures)
-    (c .ending-of .ensures)
+    .ensures (start at .args .plan) refl)
+    (c .before .before .before .before .before .before .before .before .run-steps .ensures) (c .ending-of .ensures)
 
 pub run-spec : {M : Type 1} → statement M
 run-spec =

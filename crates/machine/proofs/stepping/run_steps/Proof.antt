@@ -7,6 +7,7 @@ use lib.ListN.{length}
 use borrow.Author.Needs.{needs}
 use Rattle.plan.specs.Windows.{windowLength, windowOwner, windowsTotal}
 use Rattle.plan.proofs.ValidPlans.{counts}
+use Rattle.machine.specs.declared.Turn.{Turn}
 use Rattle.machine.specs.View.{InTurn, worldWith}
 use Rattle.machine.proofs.Going.{Going, Small, goes-on, going-clock, going-counts, going-done, going-first, small}
 use Rattle.machine.proofs.Schedule.{valid-scheduled}
@@ -15,78 +16,59 @@ use Rattle.machine.proofs.stepping.run_steps.Statement.{statement}
 use Rattle.machine.proofs.stepping.run_steps.Tie as tie
 
 abbrev Inv-loop : tie.InvT-loop
-Inv-loop scripts quota limit cache₀ boxes₀ log₀ plan rights masks declared pad total steps₀ present₀ start₀ cache
-    boxes log steps present start =
-    Going plan scripts quota limit (worldWith present₀ cache₀ boxes₀ log₀) (worldWith present cache boxes log) steps
-    start
+Inv-loop scripts quota limit cache₀ boxes₀ log₀ plan _ _ _ _ _ _ present₀ _ cache boxes log steps present start =
+    Going plan scripts quota limit (worldWith present₀ cache₀ boxes₀ log₀) (worldWith present cache boxes log) steps start
 
 abbrev μ-loop : tie.MeasureT-loop
-μ-loop scripts quota limit cache₀ boxes₀ log₀ plan rights masks declared pad total steps₀ present₀ start₀ cache boxes
-    log steps present start =
-    limit - steps
+μ-loop _ _ limit _ _ _ _ _ _ _ _ _ _ _ _ _ _ _ steps _ _ = limit - steps
 
 -- ---- in the loop: the limit is not reached, and the run is in a window
 
-more :
-    (c : tie.In-loop Inv-loop μ-loop)
-    → let args = c .before .before .before .before .before .before .before .before .before .before .args in let loop =
-    c .before .loop in
-    (loop .steps < args .limit) × (loop .present .windows < windowsTotal (args .t1))
-more c = goes-on _ _ _ _ (rw (c .before .before .before .windows-total .ensures) at (c .loop-test .taken))
+abbrev start : tie.In-loop Inv-loop μ-loop → tie.Start Inv-loop μ-loop
+start c = c .before .before .before .before .before .before .before .before .before .before
 
-smalls : (c : tie.In-loop Inv-loop μ-loop) → let loop = c .before .loop in Small
-    (c .before .before .before .before .before .before .before .before .before .before .args .t1)
-    (loop .present .windows) (loop .start)
-smalls c =
-    small _ _ _ (c .before .before .before .before .before .before .before .before .before .before .pre .0)
-    (c .before .loop .inv .starts (more c .0)) (more c .1)
+-- the loop again, from the call of a turn
+abbrev in-loop : tie.After-run-turn Inv-loop μ-loop → tie.In-loop Inv-loop μ-loop
+in-loop c = c .before .before .before .before .before .before .before .before .before .before
 
--- the turn, small enough for what follows, and the state's
-room :
-    (c : tie.In-loop Inv-loop μ-loop)
-    → let args = c .before .before .before .before .before .before .before .before .before .before .args in let loop =
-    c .before .loop in
-    Room (turnFrom (args .t1) (args .quota) (loop .present) (loop .start)) (length (loop .log))
-room c =
-    let pre = c .before .before .before .before .before .before .before .before .before .before .pre in
-    let inv = c .before .loop .inv in
-    turn-room _ _ (c .before .loop .present) _ (pre .0) (more c .1) (inv .starts (more c .0)) _
-    (going-clock _ _ _ _ _ _ _ _ inv (pre .0) (pre .1) (more c .1)) (rw (inv .log-long) (pre .5))
+module _ (c : tie.In-loop Inv-loop μ-loop) where
+  more : (c .before .loop .steps < start c .args .limit) × (c .before .loop .present .windows < windowsTotal (start c .args .t1))
+  more = goes-on _ _ _ _ (rw (c .before .before .before .windows-total .ensures) at (c .loop-test .taken))
 
-here :
-    (c : tie.In-loop Inv-loop μ-loop)
-    → let args = c .before .before .before .before .before .before .before .before .before .before .args in let loop =
-    c .before .loop in
-    InTurn (args .t1) (args .t1 .rights) (args .t1 .masks) (loop .present)
-    (turnFrom (args .t1) (args .quota) (loop .present) (loop .start))
-here c =
-    let kept = going-counts _ _ _ _ _ _ _ _ (c .before .loop .inv) in
-    let good = c .before .before .before .before .before .before .before .before .before .before .good .1 .1 .1 .1 .0 in
-    turn-here _ _ (c .before .loop .present) _
-    (c .before .before .before .before .before .before .before .before .before .before .pre .0) (more c .1)
-    (c .before .loop .inv .starts (more c .0))
-    (kept .0 ∙ search (needs, good)) (kept .1 ∙ search (needs, good))
+  smalls : Small (start c .args .t1) (c .before .loop .present .windows) (c .before .loop .start)
+  smalls = small _ _ _ (start c .pre .0) (c .before .loop .inv .starts (more .0)) (more .1)
+
+  -- the turn, small enough for what follows, and the state's
+  abbrev turn : Turn
+  turn = turnFrom (start c .args .t1) (start c .args .quota) (c .before .loop .present) (c .before .loop .start)
+
+  room : Room turn (length (c .before .loop .log))
+  room =
+      let pre = start c .pre in
+      let inv = c .before .loop .inv in
+      turn-room _ _ (c .before .loop .present) _ (pre .0) (more .1) (inv .starts (more .0)) _
+      (going-clock _ _ _ _ _ _ _ _ inv (pre .0) (pre .1) (more .1)) (rw (inv .log-long) (pre .5))
+
+  here : InTurn (start c .args .t1) (start c .args .t1 .rights) (start c .args .t1 .masks) (c .before .loop .present) turn
+  here =
+      let kept = going-counts _ _ _ _ _ _ _ _ (c .before .loop .inv) in
+      let good = start c .good .1 .1 .1 .1 .0 in
+      turn-here _ _ (c .before .loop .present) _ (start c .pre .0) (more .1) (c .before .loop .inv .starts (more .0))
+      (kept .0 ∙ search (needs, good)) (kept .1 ∙ search (needs, good))
 
 windows-total-requires : tie.Need-windows-total-requires Inv-loop μ-loop
-windows-total-requires c κs =
-    let count = counts _ (c .before .before .before .before .before .before .pre .0) in
-    (count .run-most, count .windows-most)
+windows-total-requires c κs = let count = counts _ (c .before .before .before .before .before .before .pre .0) in (count .run-most, count .windows-most)
 
 window-start-requires : tie.Need-window-start-requires Inv-loop μ-loop
 window-start-requires c κs =
-    let pre = c .before .before .before .before .before .before .before .pre in (
-      pre .0,
-      valid-scheduled _ _ (worldWith (c .before .before .before .before .before .before .before .args .state)
-          [] [] []) (pre .0) (pre .1) .windows,
-    )
+    let at = c .before .before .before .before .before .before .before in
+    (at .pre .0, valid-scheduled _ _ (worldWith (at .args .state) [] [] []) (at .pre .0) (at .pre .1) .windows)
 
 loop-holds : tie.Need-loop-holds Inv-loop μ-loop
 loop-holds c = going-first _ _ _ _ _ _ (c .window-start .ensures)
 
 rem-slot : tie.Need-rem-slot Inv-loop μ-loop
-rem-slot c =
-    counts _ (c .before .before .before .before .before .before .before .before .before .before .pre .0)
-    .windows-least
+rem-slot c = counts _ (start c .pre .0) .windows-least
 
 mul-owner : tie.Need-mul-owner Inv-loop μ-loop
 mul-owner c = omega (arith, smalls c .slot-below)
@@ -134,91 +116,57 @@ sub-run-turn c = omega (arith, more (c .before .before .before .before .before .
 run-turn-requires : tie.Need-run-turn-requires Inv-loop μ-loop
 unfolding windowOwner windowLength
 run-turn-requires c κs =
-    let pre = c .before .before .before .before .before .before .before .before .before .before .before .before
-    .before .before .before .before .before .before .before .pre in
+    let at = c .before .before .before .before .before .before .before .before .before in
+    let pre = start at .pre in
     let count = counts _ (pre .0) in
-    let inv = c .before .before .before .before .before .before .before .before .before .before .loop .inv in
-    let turn = room (c .before .before .before .before .before .before .before .before .before) in (
+    let inv = at .before .loop .inv in
+    let small = room at in (
       count .pad-least,
       count .pad-most,
-      omega (arith, more (c .before .before .before .before .before .before .before .before .before) .0),
-      turn .windows,
-      turn .owner,
-      turn .late,
-      turn .end,
+      omega (arith, more at .0),
+      small .windows,
+      small .owner,
+      small .late,
+      small .end,
       pre .2,
       inv .cache-long ∙ pre .3,
       inv .boxes-long ∙ pre .4,
-      turn .log,
+      small .log,
     )
 
 mul-present : tie.Need-mul-present Inv-loop μ-loop
 unfolding windowOwner
-mul-present c =
-    omega (
-      arith,
-      smalls (c .before .before .before .before .before .before .before .before .before .before .before
-          .before .before .before .before .before) .owner-below,
-    )
+mul-present c = omega (arith, smalls (in-loop (c .before .before .before .before .before .before)) .owner-below)
 
 element-write-present : tie.Need-element-write-present Inv-loop μ-loop
 unfolding windowOwner
-element-write-present c =
-    smalls (c .before .before .before .before .before .before .before .before .before .before .before .before .before
-    .before .before .before) .owner-below
+element-write-present c = smalls (in-loop (c .before .before .before .before .before .before)) .owner-below
 
 mul-present-2 : tie.Need-mul-present-2 Inv-loop μ-loop
 unfolding windowOwner
-mul-present-2 c =
-    omega (
-      arith,
-      smalls (c .before .before .before .before .before .before .before .before .before .before .before
-          .before .before .before .before .before) .owner-below,
-    )
+mul-present-2 c = omega (arith, smalls (in-loop (c .before .before .before .before .before .before)) .owner-below)
 
 element-write-present-2 : tie.Need-element-write-present-2 Inv-loop μ-loop
 unfolding windowOwner
-element-write-present-2 c =
-    smalls (c .before .before .before .before .before .before .before .before .before .before .before .before .before
-    .before .before .before) .owner-below
+element-write-present-2 c = smalls (in-loop (c .before .before .before .before .before .before)) .owner-below
 
 add-steps : tie.Need-add-steps Inv-loop μ-loop
 add-steps c =
-    omega (
-      arith,
-      more (c .before .before .before .before .before .before .before .before .before .before .before
-          .before .before .before .before .before .before) .0,
-      c .before .before .before .before .before .before .before .run-turn .ensures .0 .within,
-      c .before .before .before .before .before .before .before .before .before .before .before .before .before .before
-          .before .before .before .before .before .before .before .before .before .before .before .before .before .fits
-          .limit,
-    )
+    let ran = c .before .before .before .before .before .before .before in
+    omega (arith, more (in-loop ran) .0, ran .run-turn .ensures .0 .within, start (in-loop ran) .fits .limit)
 
 loop-less : tie.Need-loop-less Inv-loop μ-loop
-loop-less c =
-    omega (
-      arith,
-      more (c .before .before .before .before .before .before .before .before .before .before .before
-          .before .before .before .before .before .before) .0,
-      c .before .before .before .before .before .before .before .run-turn .ensures .0 .some,
-    )
+loop-less c = let ran = c .before .before .before .before .before .before .before in omega (arith, more (in-loop ran) .0, ran .run-turn .ensures .0 .some)
 
 loop-again : tie.Need-loop-again Inv-loop μ-loop
 unfolding windowOwner windowLength
 loop-again c =
-    let args = c .before .before .before .before .before .before .before .before .before .before .before .before
-    .before .before .before .before .before .before .before .before .before .before .before .before .before .before
-    .before .args in
-    let loop = c .before .before .before .before .before .before .before .before .before .before .before .before
-    .before .before .before .before .before .before .loop in
-    let turn = c .before .before .before .before .before .before .before .run-turn in
-    let did = turn .ensures in
-    let begins = here (c .before .before .before .before .before .before .before .before .before .before .before
-    .before .before .before .before .before .before) in
-    going-turn (args .t1) _ _ _ _ (loop .present) _ _ _ _ _
-    (turnFrom (args .t1) (args .quota) (loop .present) (loop .start)) (turn .result) _ _ _ (loop .inv)
-    (begins .end-is) (did .0) (did .1 _ _ begins refl)
-    (turn .kept .1 .1 .1 .1 .1 .1 .0) (turn .kept .1 .1 .1 .1 .1 .1 .1 .0) (turn .kept .1 .1 .1 .1 .1 .1 .1 .1 .0)
+    let ran = c .before .before .before .before .before .before .before in
+    let at = in-loop ran in
+    let did = ran .run-turn .ensures in
+    let kept = ran .run-turn .kept .1 .1 .1 .1 .1 .1 in
+    going-turn (start at .args .t1) _ _ _ _ (at .before .loop .present) _ _ _ _ _ (turn at) (ran .run-turn .result) _ _ _
+    (at .before .loop .inv) (here at .end-is) (did .0) (did .1 _ _ (here at) refl) (kept .0) (kept .1 .0) (kept .1 .1 .0)
 
 returns : tie.Need-returns Inv-loop μ-loop
 returns c =

@@ -7,20 +7,20 @@ use Rattle.machine.proofs.WholeTurns.{switch-runs, turn-stops, turn-swi
 use Rattle.machine.proofs.stepping.run_turn.Statement.{statement}
 use Rattle.machine.proofs.stepping.run_turn.Tie as tie
 
+abbrev start : tie.After-run-window → tie.Start
+start c = c .before .before .before .before .before .before .before .before
+
 returns : tie.Need-returns
 returns c =
-    let ran = c .before .before .before .before .before .before .before .before .run-window .ensures in (
-      turn-stops _ _ _ _ (ran .0) (ran .1)
-          (c .before .before .before .before .before .before .before .before .before .before .before .before .before .before
-          .before .before .pre .2) (c .if1 .taken),
-      λ plan state here pads. ran .3 plan state here .ran,
-    )
+    let at = c .before .before .before .before .before .before .before .before in
+    let ran = at .run-window .ensures in
+    (turn-stops _ _ _ _ (ran .0) (ran .1) (start at .pre .2) (c .if1 .taken), λ plan state here pads. ran .3 plan state here .ran)
 
 switch-requires : tie.Need-switch-requires
 switch-requires c κs =
-    let pre = c .before .before .before .before .before .before .before .before .before .before .before .before
-    .before .before .before .before .before .before .pre in
-    let ran = c .before .before .before .before .before .before .before .before .before .before .run-window in
+    let at = c .before .before .before .before .before .before .before .before .before .before in
+    let pre = start at .pre in
+    let ran = at .run-window in
     let end = ap (λ (t : Turn). t .end) (ran .ensures .1) in
     (ran .kept .1 .1 .1 .1 .1 .0 ∙ pre .8, omega (arith, end, ran .ensures .2), omega (arith, end, pre .6), omega (arith, pre .1))
 
@@ -29,33 +29,25 @@ add-t22 c =
     omega (
       arith,
       c .before .before .before .before .before .before .if1,
-      c .before .before .before .before .before .before .before .before .before .before .before .before .before .before
-          .before .before .before .before .before .before .before .before .fits,
+      start
+          (c .before .before .before .before .before .before .before .before .before .before .before .before .before
+          .before) .fits,
     )
 
 add-t23 : tie.Need-add-t23
 add-t23 c =
-    omega (
-      arith,
-      ap (λ (t : Turn). t .windows)
-          (c .before .before .before .before .before .before .before .before .before .before .before .before .before .before
-          .before .run-window .ensures .1),
-      c .before .before .before .before .before .before .before .before .before .before .before .before .before .before
-          .before .before .before .before .before .before .before .before .before .pre .3,
-    )
+    let at = c .before .before .before .before .before .before .before .before .before .before .before .before .before
+    .before .before in omega (arith, ap (λ (t : Turn). t .windows) (at .run-window .ensures .1), start at .pre .3)
 
 returns-2 : tie.Need-returns-2
 returns-2 c =
-    let pre = c .before .before .before .before .before .before .before .before .before .before .before .before
-    .before .before .before .before .before .before .before .before .before .before .before .pre in
-    let ran = c .before .before .before .before .before .before .before .before .before .before .before .before
-    .before .before .before .run-window .ensures in
+    let at = c .before .before .before .before .before .before .before .before .before .before .before .before .before .before .before in
+    let ran = at .run-window .ensures in
     let more = c .before .before .before .before .before .before .before .if1 .left in
     let switched = c .before .before .before .before .switch .ensures in (
-      turn-switches _ _ _ _ (ran .0) (ran .1) _ _ more (switched .0) (pre .0) (ran .2),
+      turn-switches _ _ _ _ (ran .0) (ran .1) _ _ more (switched .0) (start at .pre .0) (ran .2),
       λ plan state here pads.
-          switch-runs _ _ _ _ (ran .0) (ran .1) _ _ more (switched .0) plan _ _ _ state _ _ _ _ (ran .3 plan state here)
-          (switched .1) here pads,
+          switch-runs _ _ _ _ (ran .0) (ran .1) _ _ more (switched .0) plan _ _ _ state _ _ _ _ (ran .3 plan state here) (switched .1) here pads,
     )
 
 pub run-turn-spec : {M : Type 1} → statement M

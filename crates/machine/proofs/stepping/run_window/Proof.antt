@@ -28,11 +28,9 @@ next-step-requires c κs =
 
 op-step-requires : tie.Need-op-step-requires Inv-loop μ-loop
 op-step-requires c κs =
-    let pre = c .before .before .before .before .before .before .before .before .before .before .before .before
-    .before .pre in
+    let pre = c .before .before .before .before .before .before .before .before .before .before .before .before .before .pre in
     let inv = c .before .before .before .before .before .before .before .before .loop .inv in
-    let begins = op-next _ _ _ (sym (c .before .before .before .before .before .before .next-step .ensures) ∙
-    c .before .before .before .before .next .given .1) in (
+    let begins = op-next _ _ _ (sym (c .before .before .before .before .before .before .next-step .ensures) ∙ c .before .before .before .before .next .given .1) in (
       omega (arith, ap (λ (t : Turn). t .owner) (inv .moved), pre .0),
       fetched-within _ _ _ _ (begins .next),
       fetched-below _ _ _ _ (begins .next),
@@ -42,35 +40,24 @@ op-step-requires c κs =
       record-room _ _ _ _ _ _ _ _ _ _ _ _ _ inv (begins .room) (pre .6),
     )
 
+-- the loop, from the call of an op
+abbrev in-loop : tie.After-op-step Inv-loop μ-loop → tie.In-loop Inv-loop μ-loop
+in-loop c = c .before .before .before .before .before .before .before .before
+
 add-steps : tie.Need-add-steps Inv-loop μ-loop
-add-steps c =
-    omega (
-      arith,
-      c .before .before .before .before .before .before .before .before .before .before .before .before
-          .before .before .loop-test,
-      c .before .before .before .before .before .before .before .before .before .before .before .before .before .before
-          .before .before .before .before .before .before .fits,
-    )
+add-steps c = let at = in-loop (c .before .before .before .before .before .before) in omega (arith, at .loop-test, at .before .before .before .before .before .before .fits)
 
 loop-less : tie.Need-loop-less Inv-loop μ-loop
-loop-less c =
-    omega (
-      arith,
-      c .before .before .before .before .before .before .before .before .before .before .before .before
-          .before .before .loop-test,
-    )
+loop-less c = omega (arith, in-loop (c .before .before .before .before .before .before) .loop-test)
 
 loop-again : tie.Need-loop-again Inv-loop μ-loop
 loop-again c =
-    let chosen = sym (c .before .before .before .before .before .before .before .before .before .before .before .next
-    .given .1) ∙ c .before .before .before .before .before .before .before .before .before .before .before .before
-    .before .next-step .ensures in
-    let did = c .before .before .before .before .before .before .op-step in
-    turn-more _ _ _ _ _ _ _ _ _ _ _ _ _ _ _ _ _ _
-    (c .before .before .before .before .before .before .before .before .before .before .before .before .before .before
-    .before .loop .inv) (c .before .before .before .before .before .before .before .before .before .before .before
-    .before .before .before .loop-test .taken) chosen
-    (did .ensures) (did .kept .1 .1 .1 .1 .0) (did .kept .1 .1 .1 .1 .1 .0) (did .kept .1 .1 .1 .1 .1 .1 .0)
+    let ran = c .before .before .before .before .before .before in
+    let at = in-loop ran in
+    let chosen = sym (ran .before .before .before .before .before .next .given .1) ∙ ran .before .before .before .before .before .before .before .next-step .ensures in
+    let kept = ran .op-step .kept .1 .1 .1 .1 in
+    turn-more _ _ _ _ _ _ _ _ _ _ _ _ _ _ _ _ _ _ (at .before .loop .inv) (at .loop-test .taken) chosen
+    (ran .op-step .ensures) (kept .0) (kept .1 .0) (kept .1 .1 .0)
 
 returns : tie.Need-returns Inv-loop μ-loop
 returns c =
