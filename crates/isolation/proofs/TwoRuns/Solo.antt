@@ -19,11 +19,12 @@ use Rattle.plan.specs.Windows.{windowOwner, windowStart, windowsTotal}
 use Rattle.script.specs.Limits.{mostOps}
 use Rattle.records.specs.Records.{logPart, partRecords}
 use Rattle.ops.specs.Ops.{boxIndex, boxesLength}
-use Rattle.state.specs.World.{World, recordsAt}
+use Rattle.state.specs.World.{World, freshState, recordsAt}
 use Rattle.machine.specs.Fresh.{freshWorld}
 use Rattle.machine.specs.Steps.{runOf, stepOf}
 use Rattle.machine.specs.Switch.{switchOf}
 use Rattle.machine.proofs.Schedule.{Scheduled, switch-clock}
+use Rattle.reachable.proofs.Cells.{cell-zeros}
 use Rattle.reachable.proofs.Counts.{counted}
 use Rattle.reachable.proofs.Reached.{boxes-length}
 use Rattle.isolation.specs.Points.{FreshRun, InWindowOf, Starts, opsFor, opsOf, opsOfDomain, windowsAfter, worldAfter}
@@ -37,14 +38,13 @@ use Rattle.isolation.proofs.TwoRuns.OpCounts.{ops-so-far, past-the-last
 use Rattle.isolation.proofs.TwoRuns.OpStep.{Whole, switch-flushed}
 use Rattle.isolation.proofs.TwoRuns.Positions.{position-is-ops}
 use Rattle.isolation.proofs.TwoRuns.Progress.{first-start, lasts, no-fewer, stays-ended}
-use Rattle.isolation.proofs.TwoRuns.Ready.{Ready, fresh-ready}
 use Rattle.isolation.proofs.TwoRuns.Relations.{Alike, Close, alike-sym, same-position, same-records}
 use Rattle.isolation.proofs.TwoRuns.Windows.{Began, BoxTo, Completed, Watched, began, clock-at-start, completed, next-world, stays-near, whole}
 
 -- ---- waiting
 
 module _ (input : SoloInput) where
-  abbrev soloStep : World → World
+  abbrev pub soloStep : World → World
   soloStep = stepOf (input .plan) (input .scripts) (partRecords (input .plan) (input .logLength))
 
   -- a switch completes a window
@@ -80,6 +80,21 @@ module _ (input : SoloInput) where
   wait-over count world due (suc more) =
       rw add-suc (ap (waitStep input) (wait-over count world due more) ∙ wait-stays (waitSteps input count world) due)
 
+-- a window of the set begins on the boxes that were given
+abbrev pub soloFirst : SoloInput → ℕ → World
+soloFirst input window = withBoxes (input .mail window) (soloStart input window)
+
+-- any other passes idle, whatever its ops
+pub idle-same : (input : SoloInput) (window count count′ : ℕ) → (InSet input (windowOwner (input .plan) window) → ⊥)
+    → soloAt input window count ≡ soloAt input window count′
+unfolding soloFrom
+idle-same input window count count′ idle = go (input .inSet (windowOwner (input .plan) window)) refl
+  where
+    go : (test : Bool) → input .inSet (windowOwner (input .plan) window) ≡ test
+        → soloAt input window count ≡ soloAt input window count′
+    go true test = absurd (idle test)
+    go false test = rw test refl
+
 -- a switch of two worlds of one window
 module _ (plan : Plan) (quota : ℕ) (Named : ℕ → Type 0) where
   -- at a window's start
@@ -88,6 +103,19 @@ module _ (plan : Plan) (quota : ℕ) (Named : ℕ → Type 0) where
     pub windows : one .state .windows ≡ other .state .windows
     pub clock : one .state .clock ≡ other .state .clock
     pub flushed : Agree FlushedIndex (one .cache) (other .cache)
+
+  fresh-meets : (log log′ : List ℕ) → length log ≡ length log′ → Meets (freshWorld log) (freshWorld log′)
+  unfolding freshWorld freshState
+  fresh-meets log log′ same = record { near = near; windows = refl; clock = refl; flushed = agree-refl _ _ }
+    where
+      near : Near plan quota Named (freshWorld log) (freshWorld log′)
+      near domain named =
+          record {
+            positions = agree-refl _ _;
+            records = agree-refl _ _;
+            sets = agree-refl _ _;
+            log = record { len = same; at = λ index p. absurd (omega (arith, p .from, p .recorded, cell-zeros mostDomains domain)) };
+          }
 
   -- other boxes change nothing outside a window
   boxed-near : (one other : World) (boxes : List ℕ) → Near plan quota Named one other → Near plan quota Named one (withBoxes boxes other)
@@ -341,10 +369,7 @@ module _ (input : SoloInput) (scripts log : List ℕ) (count : ℕ) (possible : 
   first-meets : MeetsAt 0 (soloStart input 0)
   unfolding worldAfter runOf soloStart freshWorld
   first-meets =
-      let r =
-      fresh-ready plan quota Named log (replicate (input .logLength) 0) (m .logIs ∙ sym (length-replicate {A = ℕ} (input .logLength) 0))
-      in
-      record { near = r .near; windows = refl; clock = r .clock; flushed = r .flushed }
+      fresh-meets plan quota Named log (replicate (input .logLength) 0) (m .logIs ∙ sym (length-replicate {A = ℕ} (input .logLength) 0))
 
   -- every window so far starts at the world that was computed for its start
   meets : (window at : ℕ) → Starts run window at → at ≤ count → MeetsAt at (soloStart input window)
@@ -353,12 +378,21 @@ module _ (input : SoloInput) (scripts log : List ℕ) (count : ℕ) (possible : 
       let p = completed run possible count (started run possible count) window at soFar s in
       next-meets window at p soFar (meets window (p .at) (p .starts) (omega (arith, p .follows)))
 
+  -- in a window of the set the run completes one where the computed world does
+  pub next-is : (window at more : ℕ) → window < windowsTotal plan → Named (windowOwner plan window) → Starts run window at
+      → at ≤ count → windowsAfter run (at + more) ≡ window
+      → windowsAfter run (suc (at + more)) ≡ soloStep input (waitSteps input more (soloFirst input window)) .state .windows
+  next-is window at more room named s soFar there =
+      same-next window (at + more) _ named there
+      (follow window at (soloFirst input window) named (s .reached)
+      (begin window at room named s soFar (soloStart input window) (meets window at s soFar)) more there)
+
   -- ---- at the point
 
   abbrev now : ℕ
   now = windowsAfter run count
 
-  none-past : (window : ℕ) → windowsTotal plan ≤ window → (at : ℕ) → opsOf run window at ≡ 0
+  pub none-past : (window : ℕ) → windowsTotal plan ≤ window → (at : ℕ) → opsOf run window at ≡ 0
   unfolding opsOf
   none-past window over zero = refl
   none-past window over (suc at) = past-the-last run possible window at over ∙ none-past window over at
