@@ -1,14 +1,13 @@
 -- Every run agrees with the machine in which rivals' windows pass idle: for the domains of a set the worlds are the same at
 -- every point, and in a window of theirs also inside. By induction over the windows. Assumes nothing.
 use Prim.Native.Nat.{ℕ, zero, suc, _+_, _-_, _≤_, _<_}
-use mathlib.Core.Bool.{Bool, true, false, cond, false≢true}
+use mathlib.Core.Bool.{Bool, true, false, false≢true}
 use mathlib.Core.List.{List}
 use mathlib.Core.Path.{_≡_, refl, sym, ap, subst, _∙_}
 use native.Mathlib.Decide.{decLt}
 use native.Mathlib.Nat.{add-sub-of-le, add-suc, add-zero}
 use native.Mathlib.Omega.{arith}
 use borrow.Author.Tests.{eq-eqb, ne-eqb}
-use lib.Dec.{eqb}
 use lib.ListN.{length, length-replicate, replicate}
 use Rattle.lists.proofs.Agree.{Agree, agree-refl}
 use Rattle.plan.specs.declared.Plan.{Plan}
@@ -18,7 +17,7 @@ use Rattle.plan.specs.Validity.{planValid}
 use Rattle.plan.specs.Windows.{windowOwner, windowStart, windowsTotal}
 use Rattle.script.specs.Limits.{mostOps}
 use Rattle.records.specs.Records.{logPart, partRecords}
-use Rattle.ops.specs.Ops.{boxIndex, boxesLength}
+use Rattle.ops.specs.Ops.{boxesLength}
 use Rattle.state.specs.World.{World, freshState, recordsAt}
 use Rattle.machine.specs.Fresh.{freshWorld}
 use Rattle.machine.specs.Steps.{runOf, stepOf}
@@ -27,19 +26,19 @@ use Rattle.machine.proofs.Schedule.{Scheduled, switch-clock}
 use Rattle.reachable.proofs.Cells.{cell-zeros}
 use Rattle.reachable.proofs.Counts.{counted}
 use Rattle.reachable.proofs.Reached.{boxes-length}
-use Rattle.isolation.specs.Points.{FreshRun, InWindowOf, Starts, opsFor, opsOf, opsOfDomain, windowsAfter, worldAfter}
-use Rattle.isolation.specs.Solo.{AgreesWithSolo, InSet, Matches, SameInWindow, SameToMember, SoloInput, runUnder}
+use Rattle.isolation.specs.Points.{FreshRun, Starts, opsFor, opsOf, opsOfDomain, windowsAfter, worldAfter}
+use Rattle.isolation.specs.Solo.{AgreesWithSolo, InSet, Matches, SoloInput, runUnder}
 use Rattle.isolation.specs.Solo.{soloAt, soloFrom, soloHere, soloStart, waitStep, waitSteps, withBoxes}
 use Rattle.isolation.proofs.OneRun.OnTime.{scheduled-after, started}
 use Rattle.isolation.proofs.TwoRuns.Indices.{FlushedIndex, kernel, l1, own-set}
 use Rattle.isolation.proofs.TwoRuns.Log.{part-of-log}
-use Rattle.isolation.proofs.TwoRuns.Near.{Locked, Near, Paired, locked-step, near-both, near-refl, near-switch, near-trans, switched, worked}
+use Rattle.isolation.proofs.TwoRuns.Near.{Locked, Near, Paired, locked-step, near-both, near-refl, near-switch, switched, worked}
 use Rattle.isolation.proofs.TwoRuns.OpCounts.{ops-so-far, past-the-last}
 use Rattle.isolation.proofs.TwoRuns.OpStep.{Whole, switch-flushed}
 use Rattle.isolation.proofs.TwoRuns.Positions.{position-is-ops}
-use Rattle.isolation.proofs.TwoRuns.Progress.{first-start, lasts, no-fewer, stays-ended}
-use Rattle.isolation.proofs.TwoRuns.Relations.{Alike, Close, alike-sym, same-position, same-records}
-use Rattle.isolation.proofs.TwoRuns.Windows.{Began, BoxTo, Completed, Watched, began, clock-at-start, completed, next-world, stays-near, whole}
+use Rattle.isolation.proofs.TwoRuns.Progress.{first-start, lasts, stays-ended}
+use Rattle.isolation.proofs.TwoRuns.Relations.{same-position, same-records}
+use Rattle.isolation.proofs.TwoRuns.Windows.{Began, BoxTo, Completed, Watched, began, completed, next-world, stays-near, whole}
 
 -- ---- waiting
 
