@@ -65,9 +65,11 @@ pub record Same (observer : ℕ) (one : FreshRun) (count : ℕ) (other : FreshRu
       → window < windowsAfter one count
       → windowOwner (one .plan) window ≡ observer
       → opsOf one window count ≡ opsOf other window count′
-  pub clock : InWindowOf (Only observer) one count → worldAfter one count .state .clock ≡ worldAfter other count′ .state .clock
+  pub clock : InWindowOf (Only observer) one count
+      → worldAfter one count .state .clock ≡ worldAfter other count′ .state .clock
   pub l1 : InWindowOf (Only observer) one count → SameL1 (worldAfter one count .cache) (worldAfter other count′ .cache)
-  pub kernelSets : InWindowOf (Only observer) one count → SameKernelSets (worldAfter one count .cache) (worldAfter other count′ .cache)
+  pub kernelSets : InWindowOf (Only observer) one count
+      → SameKernelSets (worldAfter one count .cache) (worldAfter other count′ .cache)
   pub endedClock : windowsTotal (one .plan) ≤ windowsAfter one count
       → worldAfter one count .state .clock ≡ worldAfter other count′ .state .clock
 
@@ -154,7 +156,8 @@ module _ {Named : ℕ → Type 0} (plan : Plan) (scripts scripts′ log log′ :
             (mail-is window at (decLt window (windowsTotal plan)) room s);
       }
 
-  matches-other : (count count′ : ℕ) → windowsAfter other count′ ≤ windowsAfter one count → BoxesAgree Named one count other count′
+  matches-other : (count count′ : ℕ) → windowsAfter other count′ ≤ windowsAfter one count
+      → BoxesAgree Named one count other count′
       → Matches input scripts′ log′ count′
   matches-other count count′ windows boxes =
       record {
@@ -308,10 +311,12 @@ module _ {Named : ℕ → Type 0} (plan : Plan) (scripts scripts′ log log′ :
     agree′ = agrees-with-solo input scripts′ log′ count′ possible m′
 
     -- in a window of a named domain
-    in-window : InWindowOf Named one count → SameInWindow input (worldAfter one count) (soloHere input scripts log count)
+    in-window : InWindowOf Named one count
+        → SameInWindow input (worldAfter one count) (soloHere input scripts log count)
     in-window w = agree .inWindow (record { notEnded = w .notEnded; owner = in-set _ (w .owner) })
 
-    in-window′ : InWindowOf Named one count → SameInWindow input (worldAfter other count′) (soloHere input scripts log count)
+    in-window′ : InWindowOf Named one count
+        → SameInWindow input (worldAfter other count′) (soloHere input scripts log count)
     in-window′ w =
         subst (SameInWindow input (worldAfter other count′)) (sym same-solo)
         (agree′ .inWindow

@@ -53,12 +53,14 @@ module _ (input : SoloInput) where
   completes world e = ap (λ (w : World). w .state .windows) e
 
   -- a step within the window is taken
-  wait-goes : (world : World) → soloStep world .state .windows ≡ world .state .windows → waitStep input world ≡ soloStep world
+  wait-goes : (world : World) → soloStep world .state .windows ≡ world .state .windows
+      → waitStep input world ≡ soloStep world
   unfolding waitStep
   wait-goes world same = rw (eq-eqb _ _ same) refl
 
   -- a switch is not
-  wait-stays : (world : World) → soloStep world .state .windows ≡ world .state .windows + 1 → waitStep input world ≡ world
+  wait-stays : (world : World) → soloStep world .state .windows ≡ world .state .windows + 1
+      → waitStep input world ≡ world
   unfolding waitStep
   wait-stays world next = rw (ne-eqb (soloStep world .state .windows) (world .state .windows) (λ same. omega arith)) refl
 
@@ -66,7 +68,8 @@ module _ (input : SoloInput) where
   unfolding waitSteps
   wait-none world = refl
 
-  wait-more : (count : ℕ) (world : World) → waitSteps input (suc count) world ≡ waitStep input (waitSteps input count world)
+  wait-more : (count : ℕ) (world : World)
+      → waitSteps input (suc count) world ≡ waitStep input (waitSteps input count world)
   unfolding waitSteps
   wait-more count world = refl
 
@@ -117,12 +120,14 @@ module _ (plan : Plan) (quota : ℕ) (Named : ℕ → Type 0) where
           }
 
   -- other boxes change nothing outside a window
-  boxed-near : (one other : World) (boxes : List ℕ) → Near plan quota Named one other → Near plan quota Named one (withBoxes boxes other)
+  boxed-near : (one other : World) (boxes : List ℕ) → Near plan quota Named one other
+      → Near plan quota Named one (withBoxes boxes other)
   boxed-near one other boxes near domain n =
       let a = near domain n in
       record { positions = a .positions; records = a .records; sets = a .sets; log = a .log }
 
-  same-schedule : (one other : World) → one .state .windows ≡ other .state .windows → one .state .clock ≡ other .state .clock
+  same-schedule : (one other : World) → one .state .windows ≡ other .state .windows
+      → one .state .clock ≡ other .state .clock
       → Scheduled plan one → Scheduled plan other
   same-schedule one other windows clock s =
       record {
@@ -197,8 +202,10 @@ module _ (input : SoloInput) (scripts log : List ℕ) (count : ℕ) (possible : 
   full = whole run possible
 
   -- the set's own window begins on the boxes that were given
-  begin : (window at : ℕ) → window < windowsTotal plan → Named (windowOwner plan window) → Starts run window at → at ≤ count
-      → (other : World) → MeetsAt at other → LockedWith (windowOwner plan window) at (withBoxes (input .mail window) other)
+  begin : (window at : ℕ) → window < windowsTotal plan → Named (windowOwner plan window) → Starts run window at
+      → at ≤ count
+      → (other : World) → MeetsAt at other
+      → LockedWith (windowOwner plan window) at (withBoxes (input .mail window) other)
   begin window at room named s soFar other meets =
       record {
         near = near;
@@ -278,7 +285,8 @@ module _ (input : SoloInput) (scripts log : List ℕ) (count : ℕ) (possible : 
       (follow window at other named here lock more earlier) (rw add-suc at there))
 
   -- a window has no more ops than a script
-  few-ops : (window at more : ℕ) → window < windowsTotal plan → Starts run window at → windowsAfter run (at + more) ≡ window
+  few-ops : (window at more : ℕ) → window < windowsTotal plan → Starts run window at
+      → windowsAfter run (at + more) ≡ window
       → more ≤ mostOps
   unfolding worldAfter freshWorld opsOfDomain sumTo
   few-ops window at more room s there =
@@ -316,7 +324,8 @@ module _ (input : SoloInput) (scripts log : List ℕ) (count : ℕ) (possible : 
     schedule : Scheduled plan other
     whole′ : Whole other
 
-  named-switch : (at : ℕ) (other : World) (running : ℕ) → LockedWith running at other → AtSwitch (worldAfter run at) other
+  named-switch : (at : ℕ) (other : World) (running : ℕ) → LockedWith running at other
+      → AtSwitch (worldAfter run at) other
   named-switch at other running lock =
       record {
         near = lock .near;
@@ -329,7 +338,8 @@ module _ (input : SoloInput) (scripts log : List ℕ) (count : ℕ) (possible : 
 
   -- another's window: what the set has is left as it was
   idle-near : (window at more : ℕ) (other : World) → (Named (windowOwner plan window) → ⊥) → Starts run window at
-      → windowsAfter run (at + more) ≡ window → MeetsAt at other → Near plan quota Named (worldAfter run (at + more)) other
+      → windowsAfter run (at + more) ≡ window → MeetsAt at other
+      → Near plan quota Named (worldAfter run (at + more)) other
   idle-near window at more other unnamed s there meets =
       near-both plan quota Named (worldAfter run at) other (worldAfter run (at + more)) other (meets .near)
       (stays-near run watched quota quota-is window at unnamed (s .reached) more there) (near-refl plan quota Named other)
@@ -345,7 +355,8 @@ module _ (input : SoloInput) (scripts log : List ℕ) (count : ℕ) (possible : 
         whole′ = sym (meets .flushed .len) ∙ full at;
       }
 
-  at-switch : (window next : ℕ) (p : Completed run window next) → next ≤ count → MeetsAt (p .at) (soloStart input window)
+  at-switch : (window next : ℕ) (p : Completed run window next) → next ≤ count
+      → MeetsAt (p .at) (soloStart input window)
       → (test : Bool) → input .inSet (windowOwner plan window) ≡ test
       → AtSwitch (worldAfter run (p .at + p .more)) (soloAt input window mostOps)
   unfolding soloFrom
@@ -355,7 +366,8 @@ module _ (input : SoloInput) (scripts log : List ℕ) (count : ℕ) (possible : 
       rw test
       (idle-switch window (p .at) (p .more) (soloStart input window) (λ n. false≢true (sym test ∙ n)) (p .starts) (p .within) meets)
 
-  next-meets : (window next : ℕ) (p : Completed run window next) → next ≤ count → MeetsAt (p .at) (soloStart input window)
+  next-meets : (window next : ℕ) (p : Completed run window next) → next ≤ count
+      → MeetsAt (p .at) (soloStart input window)
       → MeetsAt next (soloStart input (suc window))
   unfolding soloStart
   next-meets window next p soFar meets =
@@ -378,7 +390,8 @@ module _ (input : SoloInput) (scripts log : List ℕ) (count : ℕ) (possible : 
       next-meets window at p soFar (meets window (p .at) (p .starts) (omega (arith, p .follows)))
 
   -- in a window of the set the run completes one where the computed world does
-  pub next-is : (window at more : ℕ) → window < windowsTotal plan → Named (windowOwner plan window) → Starts run window at
+  pub next-is : (window at more : ℕ) → window < windowsTotal plan → Named (windowOwner plan window)
+      → Starts run window at
       → at ≤ count → windowsAfter run (at + more) ≡ window
       → windowsAfter run (suc (at + more)) ≡ soloStep input (waitSteps input more (soloFirst input window)) .state .windows
   next-is window at more room named s soFar there =
@@ -398,7 +411,8 @@ module _ (input : SoloInput) (scripts log : List ℕ) (count : ℕ) (possible : 
 
   -- before its first op a window's world is the one at its start, but for the boxes
   at-no-op : (window : ℕ) (one : World) → Near plan quota Named one (soloStart input window)
-      → (test : Bool) → input .inSet (windowOwner plan window) ≡ test → Near plan quota Named one (soloAt input window 0)
+      → (test : Bool) → input .inSet (windowOwner plan window) ≡ test
+      → Near plan quota Named one (soloAt input window 0)
   unfolding soloFrom
   at-no-op window one near true test =
       rw (test, wait-none input (withBoxes (input .mail window) (soloStart input window)))
@@ -413,7 +427,8 @@ module _ (input : SoloInput) (scripts log : List ℕ) (count : ℕ) (possible : 
     within = ap (windowsAfter run) (sym (b .point))
 
     -- in a window of the set
-    locked-now : now < windowsTotal plan → Named (windowOwner plan now) → LockedWith (windowOwner plan now) count (soloHere input scripts log count)
+    locked-now : now < windowsTotal plan → Named (windowOwner plan now)
+        → LockedWith (windowOwner plan now) count (soloHere input scripts log count)
     unfolding soloFrom
     locked-now room named =
         let first = withBoxes (input .mail now) (soloStart input now) in

@@ -103,7 +103,8 @@ whole run possible count = cache-length (run .plan) (run .scripts) (run .log) co
 
 module _ {Named Kept : ℕ → Type 0} (run : FreshRun) (w : Watched (run .plan) Named Kept) (quota : ℕ)
     (quotaIs : partRecords (run .plan) (length (run .log)) ≡ quota) where
-  pub next-world : (count : ℕ) → worldAfter run (suc count) ≡ stepOf (run .plan) (run .scripts) quota (worldAfter run count)
+  pub next-world : (count : ℕ)
+      → worldAfter run (suc count) ≡ stepOf (run .plan) (run .scripts) quota (worldAfter run count)
   next-world count = one-more run count ∙ ap (λ (q : ℕ). stepOf (run .plan) (run .scripts) q (worldAfter run count)) quotaIs
 
   -- another's window leaves what the named domains have
