@@ -131,11 +131,13 @@ module _ (Named : ℕ → Type 0) (isNamed : (domain : ℕ) → Dec (Named domai
     seen-by = record { each = seen; boxes = same-boxes }
 
 -- (B) of any set of domains, and of the observer alone
-together : (Named : ℕ → Type 0) → ((domain : ℕ) → Dec (Named domain)) → (one other : CallList) → IsList one → IsList other
+together : (Named : ℕ → Type 0) → ((domain : ℕ) → Dec (Named domain)) → (one other : CallList) → IsList one
+    → IsList other
     → ComparableFor Named one other → SameSeenBy Named one other
 together Named isNamed one other is is′ c = seen-by Named isNamed one other is is′ (c .common) c
 
-isolated : (observer : ℕ) (one other : CallList) → IsList one → IsList other → Comparable observer one other → SameSeen observer one other
+isolated : (observer : ℕ) (one other : CallList) → IsList one → IsList other → Comparable observer one other
+    → SameSeen observer one other
 isolated observer one other is is′ c =
     together (Only observer) (λ domain. ℕ-discrete domain observer) one other is is′ c .each observer refl
 

@@ -28,7 +28,8 @@ accepted-list list is =
     }
 
 -- demand 3 of one kind of lists is demand 3 of any narrower kind
-narrower : {Narrow Kind : CallList → Type 0} → ((list : CallList) → Narrow list → Kind list) → IsolationOf Kind → IsolationOf Narrow
+narrower : {Narrow Kind : CallList → Type 0} → ((list : CallList) → Narrow list → Kind list) → IsolationOf Kind
+    → IsolationOf Narrow
 narrower is i =
     record {
       onTime = λ list n. i .onTime list (is list n);

@@ -135,8 +135,8 @@ Admissible plan scripts (runCall things limit) = length scripts ≡ scriptsLengt
 Admissible plan scripts (logCall things domain) = domain < plan .domains
 Admissible plan scripts (logStatus things domain) = domain < plan .domains
 
--- how a call on the list's own things is refused that is not admissible: the store's length is wrong,
--- or the domain is not declared
+-- how a call on the list's own things is refused that is not admissible: the store's length is
+-- wrong, or the domain is not declared
 abbrev pub refusedCode : Call → Code
 refusedCode (stepCall things) = codeWith 11 0
 refusedCode (runCall things limit) = codeWith 11 0

@@ -2,7 +2,7 @@
 -- scripts, the length of the log, and what the boxes addressed to it held at the start of each of
 -- its windows, and from nothing else: the machine with every other domain's window passing idle.
 -- Assumes nothing.
-use Prim.Native.Nat.{ℕ, zero, suc, _+_, _<_, _≤_}
+use Prim.Native.Nat.{ℕ, zero, suc, _<_, _≤_}
 use mathlib.Core.Bool.{Bool, true, cond}
 use mathlib.Core.List.{List}
 use mathlib.Core.Path.{_≡_}

@@ -1,7 +1,7 @@
 -- Document 01, "Two lists of calls": demand 3. (A) Windows start when the plan alone says. (B)
 -- Where two lists end at corresponding points, the domains of any set see the same, whatever their
--- rivals' scripts hold, if each of their windows began with the same in the boxes addressed to them.
--- Assumes nothing.
+-- rivals' scripts hold, if each of their windows began with the same in the boxes addressed to
+-- them. Assumes nothing.
 use Prim.Native.Nat.{ℕ, _+_, _*_, _<_, _≤_}
 use mathlib.Core.Bool.{true}
 use mathlib.Core.List.{List}
@@ -71,8 +71,8 @@ pub record Correspond
       → opsOf one (windowsAfter one count) count ≡ opsOf other (windowsAfter one count) count′
 
 -- whenever a named domain's window started, in both runs and no later than these points, the boxes
--- addressed to named domains were equal. A window starts exactly once in a run, so there is one such
--- pair of points for each window so far.
+-- addressed to named domains were equal. A window starts exactly once in a run, so there is one
+-- such pair of points for each window so far.
 abbrev pub BoxesAgree : (ℕ → Type 0) → FreshRun → ℕ → FreshRun → ℕ → Type 0
 BoxesAgree Named one count other count′ =
     (window at at′ : ℕ)
@@ -172,8 +172,8 @@ pub record SameSeen (observer : ℕ) (one other : CallList) : Type 0 where
   -- of two ended runs: the clock
   pub endedClock : windowsTotal (one .plan) ≤ leavesOf one .state .windows → SameClock one other
 
--- what the domains of a set see is equal after two lists, also where they put it together: each sees
--- the same, and in a window of one of them the boxes addressed to any of them are equal
+-- what the domains of a set see is equal after two lists, also where they put it together: each
+-- sees the same, and in a window of one of them the boxes addressed to any of them are equal
 pub record SameSeenBy (Named : ℕ → Type 0) (one other : CallList) : Type 0 where
   pub each : (member : ℕ) → Named member → SameSeen member one other
   pub boxes : EndsInWindowOf Named one → SameBoxesTo Named (leavesOf one) (leavesOf other)

@@ -40,7 +40,8 @@ module _ (run : FreshRun) (count : ℕ) (possible : planValid (run .plan) ≡ tr
       (sym (log-length (run .plan) (run .scripts) (run .log) count possible))
       (state-valid (run .plan) (run .scripts) (run .log) count possible)
 
-  pub run-verdict-accepted : length (run .scripts) ≡ scriptsLength → runVerdict (run .plan) (run .scripts) (worldAfter run count) ≡ Accepted
+  pub run-verdict-accepted : length (run .scripts) ≡ scriptsLength
+      → runVerdict (run .plan) (run .scripts) (worldAfter run count) ≡ Accepted
   unfolding worldAfter
   run-verdict-accepted store = reached-accepted (run .plan) (run .scripts) (run .log) count possible store
 
@@ -56,7 +57,8 @@ module _ (run : FreshRun) (count : ℕ) (possible : planValid (run .plan) ≡ tr
 
 -- its verdict on a world is that of the checks on that world
 module _ (plan : Plan) (scripts : List ℕ) (world : World) where
-  own-step : (things : RunThings) → AllOwn (stepCall things) → verdictOf plan scripts (stepCall things) world ≡ runVerdict plan scripts world
+  own-step : (things : RunThings) → AllOwn (stepCall things)
+      → verdictOf plan scripts (stepCall things) world ≡ runVerdict plan scripts world
   unfolding verdictOf stepAnswer stepCallOf
   own-step things owned =
       ap (λ handed-things. verdictOf plan scripts (stepCall handed-things) world) (all-own things owned) ∙ run-verdict plan scripts world 1
@@ -82,7 +84,8 @@ module _ (list : CallList) (is : IsList list) where
       subst (λ world. logStatusOf (list .plan) (world .state) (world .log) domain ≡ Accepted) (sym (leaves list is))
       (log-query-accepted (runOfList list) (pointOf list) (list-valid list is) domain declared)
 
-  own-verdict : length (list .scripts) ≡ scriptsLength → runVerdict (list .plan) (list .scripts) (leavesOf list) ≡ Accepted
+  own-verdict : length (list .scripts) ≡ scriptsLength
+      → runVerdict (list .plan) (list .scripts) (leavesOf list) ≡ Accepted
   own-verdict store =
       subst (λ world. runVerdict (list .plan) (list .scripts) world ≡ Accepted) (sym (leaves list is))
       (run-verdict-accepted (runOfList list) (pointOf list) (list-valid list is) store)
@@ -95,7 +98,8 @@ module _ (list : CallList) (is : IsList list) where
       (log-query-refused (runOfList list) (pointOf list) (list-valid list is) domain undeclared)
 
   -- an admissible call on the list's own things is not refused
-  pub own-accepted : (call : Call) → AllOwn call → Admissible (list .plan) (list .scripts) call → verdictAfter list call ≡ Accepted
+  pub own-accepted : (call : Call) → AllOwn call → Admissible (list .plan) (list .scripts) call
+      → verdictAfter list call ≡ Accepted
   unfolding verdictOf
   own-accepted (stepCall things) owned store = own-step (list .plan) (list .scripts) (leavesOf list) things owned ∙ own-verdict store
   own-accepted (runCall things limit) owned store = own-run (list .plan) (list .scripts) (leavesOf list) things limit owned ∙ own-verdict store

@@ -53,7 +53,8 @@ all-own-log things owned =
 module _ (plan : Plan) (scripts : List ℕ) where
   -- ---- a refused call leaves the list's own world
 
-  left-handed : (things : RunThings) (world left : World) → left ≡ handedWorld things world → leftWorld things world left ≡ world
+  left-handed : (things : RunThings) (world left : World) → left ≡ handedWorld things world
+      → leftWorld things world left ≡ world
   left-handed things world left same =
       ap (leftWorld things world) same
       ∙ (λ i.
@@ -64,7 +65,8 @@ module _ (plan : Plan) (scripts : List ℕ) where
         log = left-same (things .log) (world .log) i;
       })
 
-  pub refused-stays : (call : Call) (world : World) → isRefused (verdictOf plan scripts call world) ≡ true → afterCall plan scripts call world ≡ world
+  pub refused-stays : (call : Call) (world : World) → isRefused (verdictOf plan scripts call world) ≡ true
+      → afterCall plan scripts call world ≡ world
   unfolding afterCall verdictOf stepAnswer runAnswer stepCallOf
   refused-stays (stepCall things) world refused = left-handed things world _ (run-refused _ _ _ 1 refused)
   refused-stays (runCall things limit) world refused = left-handed things world _ (run-refused _ _ _ limit refused)

@@ -30,7 +30,8 @@ list-start list is = fresh-started (list .plan) (list .oldState) (list .oldCache
 
 module _ (run : FreshRun) (possible : planValid (run .plan) ≡ true) where
   -- the log keeps its length, and so do its parts
-  pub quota-kept : (count : ℕ) → partRecords (run .plan) (length (worldAfter run count .log)) ≡ partRecords (run .plan) (length (run .log))
+  pub quota-kept : (count : ℕ)
+      → partRecords (run .plan) (length (worldAfter run count .log)) ≡ partRecords (run .plan) (length (run .log))
   unfolding worldAfter freshWorld
   quota-kept count = ap (partRecords (run .plan)) (log-length (run .plan) (run .scripts) (run .log) count possible)
 

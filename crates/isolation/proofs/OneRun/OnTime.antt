@@ -48,7 +48,8 @@ module _ (run : FreshRun) (possible : planValid (run .plan) ≡ true) where
   windows-next : (count : ℕ) → windowsAfter run count ≤ windowsAfter run (suc count)
   windows-next count = go (next-window count)
     where
-      go : NextWindow (run .plan) (worldAfter run count) (worldAfter run (suc count)) → windowsAfter run count ≤ windowsAfter run (suc count)
+      go : NextWindow (run .plan) (worldAfter run count) (worldAfter run (suc count))
+          → windowsAfter run count ≤ windowsAfter run (suc count)
       go (inl same) = omega arith
       go (inr next) = omega arith
 
@@ -79,7 +80,8 @@ module _ (run : FreshRun) (possible : planValid (run .plan) ≡ true) where
       record { at = earlier .at; soFar = omega arith; starts = earlier .starts; onTime = earlier .onTime }
 
   -- the window after a switch starts there
-  next-starts : (count window : ℕ) → NextStarts (run .plan) (worldAfter run count) (worldAfter run (suc count)) → window ≡ windowsAfter run count + 1
+  next-starts : (count window : ℕ) → NextStarts (run .plan) (worldAfter run count) (worldAfter run (suc count))
+      → window ≡ windowsAfter run count + 1
       → StartedOnTime run (suc count) window
   next-starts count window next last =
       record {

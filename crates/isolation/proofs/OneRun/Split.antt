@@ -40,7 +40,8 @@ module _ (plan : Plan) (scripts : List ℕ) where
   -- ---- two runs, one after the other
 
   -- a refused one is refused again, on the same world
-  refused-twice : (world : World) (first second : ℕ) (refusal : Refusal) → runVerdict plan scripts world ≡ Refused refusal
+  refused-twice : (world : World) (first second : ℕ) (refusal : Refusal)
+      → runVerdict plan scripts world ≡ Refused refusal
       → runCallOf plan scripts world (first + second) ≡ runTwice plan scripts world first second
   unfolding runTwice
   refused-twice world first second refusal refused =

@@ -49,11 +49,13 @@ refused-number ImpossibleState = refl
 
 module _ (plan : Plan) (scripts : List ℕ) (world : World) (limit : ℕ) where
   -- a refused run leaves what it was handed
-  pub run-refused : isRefused (runCallOf plan scripts world limit .verdict) ≡ true → runCallOf plan scripts world limit .world ≡ world
+  pub run-refused : isRefused (runCallOf plan scripts world limit .verdict) ≡ true
+      → runCallOf plan scripts world limit .world ≡ world
   unfolding runCallOf ranFrom
   run-refused refused = go (runVerdict plan scripts world) refused
     where
-      go : (verdict : Verdict) → isRefused (runFrom verdict plan scripts world limit .verdict) ≡ true → runFrom verdict plan scripts world limit .world ≡ world
+      go : (verdict : Verdict) → isRefused (runFrom verdict plan scripts world limit .verdict) ≡ true
+          → runFrom verdict plan scripts world limit .world ≡ world
       go Accepted refused′ = absurd (false≢true refused′)
       go (Refused refusal) refused′ = refl
 
@@ -80,7 +82,8 @@ module _ (plan : Plan) (scripts : List ℕ) (world : World) (limit : ℕ) where
 -- ---- the checks
 
 -- a script store of another length is refused, whatever else is handed
-pub wrong-store : (plan : Plan) (scripts : List ℕ) (world : World) → (length scripts ≡ scriptsLength → ⊥) → runVerdict plan scripts world ≡ Refused WrongLength
+pub wrong-store : (plan : Plan) (scripts : List ℕ) (world : World) → (length scripts ≡ scriptsLength → ⊥)
+    → runVerdict plan scripts world ≡ Refused WrongLength
 unfolding runVerdict
 wrong-store plan scripts world differs = rw (ne-eqb (length scripts) scriptsLength differs, runVerdict)
 
@@ -99,17 +102,20 @@ abbrev beside : FreshOutcome → List ℕ → World
 beside fresh log = record { state = fresh .state; cache = fresh .cache; boxes = fresh .boxes; log = log }
 
 -- a fresh start that is not refused was handed a possible plan
-pub fresh-valid : (plan : Plan) (state : State) (cache boxes : List ℕ) → isRefused (freshStartOf plan state cache boxes .verdict) ≡ false → planValid plan ≡ true
+pub fresh-valid : (plan : Plan) (state : State) (cache boxes : List ℕ)
+    → isRefused (freshStartOf plan state cache boxes .verdict) ≡ false → planValid plan ≡ true
 unfolding freshStartOf freshVerdict
 fresh-valid plan state cache boxes started = go (tablesFit cache boxes) (planValid plan) started
   where
-    go : (fit possible : Bool) → isRefused (freshFrom (unless fit WrongLength (unless possible ImpossiblePlan Accepted)) state cache boxes .verdict) ≡ false → possible ≡ true
+    go : (fit possible : Bool)
+        → isRefused (freshFrom (unless fit WrongLength (unless possible ImpossiblePlan Accepted)) state cache boxes .verdict) ≡ false → possible ≡ true
     go true true accepted = refl
     go true false accepted = sym accepted
     go false possible accepted = absurd (false≢true (sym accepted))
 
 -- and it left the machine's fresh world, beside any log
-pub fresh-started : (plan : Plan) (state : State) (cache boxes log : List ℕ) → isRefused (freshStartOf plan state cache boxes .verdict) ≡ false
+pub fresh-started : (plan : Plan) (state : State) (cache boxes log : List ℕ)
+    → isRefused (freshStartOf plan state cache boxes .verdict) ≡ false
     → beside (freshStartOf plan state cache boxes) log ≡ freshWorld log
 unfolding freshStartOf freshWorld
 fresh-started plan state cache boxes log started = go (freshVerdict plan cache boxes) started

@@ -1,7 +1,7 @@
 -- An access of a line in two cache tables, and in one. Two tables that agree at the indices which the access touches
 -- answer alike and go on agreeing; indices that it does not touch stay as they are. Assumes nothing.
 use Prim.Native.Nat.{ℕ}
-use mathlib.Core.Bool.{Bool, true, false, cond}
+use mathlib.Core.Bool.{Bool}
 use mathlib.Core.List.{List}
 use mathlib.Core.Path.{_≡_, refl, sym, ap, subst, _∙_}
 use native.Mathlib.Omega.{arith}
@@ -9,8 +9,8 @@ use lib.ListN.{length, set}
 use lib.Seq.{sets}
 use Rattle.lists.proofs.Agree.{Agree, InRange, agree-fewer, agree-trans, part-alike, set-alike, set-away, sets-alike}
 use Rattle.lists.proofs.Agree.{sets-away, splice-sets}
-use Rattle.cache.specs.Access.{AccessOutcome, Lookup, accessOf, lookupAt, lookupL1, lookupL2, lookupOf}
-use Rattle.cache.specs.Lines.{holdsLine, l1Index, setOf, setIndex, tableLength, waysPerSet}
+use Rattle.cache.specs.Access.{AccessOutcome, Lookup, accessOf, lookupAt, lookupOf}
+use Rattle.cache.specs.Lines.{l1Index, setOf, setIndex, tableLength, waysPerSet}
 use Rattle.cache.proofs.Laws.{lookup-ways}
 
 -- the indices that an access of a line may touch: the line's L1 index and the ways of its set

@@ -14,10 +14,12 @@ use Rattle.records.specs.Records.{logPart, recordBytes, recordIndex, recordSize
 use Rattle.isolation.proofs.TwoRuns.Relations.{LogIndex}
 
 -- a count raised by one in a list is at most one more there: a index past the list's end keeps what it had
-pub raised : (counts : List ℕ) (domain : ℕ) → getD (set counts domain (getD counts domain 0 + 1)) domain 0 ≤ getD counts domain 0 + 1
+pub raised : (counts : List ℕ) (domain : ℕ)
+    → getD (set counts domain (getD counts domain 0 + 1)) domain 0 ≤ getD counts domain 0 + 1
 raised counts domain = go (decLt domain (length counts))
   where
-    go : Dec (domain < length counts) → getD (set counts domain (getD counts domain 0 + 1)) domain 0 ≤ getD counts domain 0 + 1
+    go : Dec (domain < length counts)
+        → getD (set counts domain (getD counts domain 0 + 1)) domain 0 ≤ getD counts domain 0 + 1
     go (yes h) = omega (arith, getD-set-same counts domain (getD counts domain 0 + 1) 0 h)
     go (no h) = rw (set-out counts domain (getD counts domain 0 + 1) (omega arith)) (omega arith)
 
@@ -43,13 +45,15 @@ module _ (quota domain count : ℕ) where
           go (no h) = absurd (p .outside (omega arith))
 
   -- a record of another domain, whose part is not full
-  pub stored-away : (running number : ℕ) (seen : Observation) (clock : ℕ) (log : List ℕ) → number < quota → (domain ≡ running → ⊥)
+  pub stored-away : (running number : ℕ) (seen : Observation) (clock : ℕ) (log : List ℕ) → number < quota
+      → (domain ≡ running → ⊥)
       → Agree (LogIndex quota domain count) log (recordStored quota running number seen clock log)
   unfolding recordStored recordBytes
   stored-away running number seen clock log room other =
       sets-away log (recordIndex quota running number) (recordBytes seen clock) (λ index h p. apart index h p (decLt domain running))
     where
-      apart : (index : ℕ) → InRange (recordIndex quota running number) recordSize index → LogIndex quota domain count index
+      apart : (index : ℕ) → InRange (recordIndex quota running number) recordSize index
+          → LogIndex quota domain count index
           → Dec (domain < running) → ⊥
       apart index h p (yes lower) = omega (arith, parts-follow quota domain running lower)
       apart index h p (no higher) = omega (arith, parts-follow quota running domain (omega arith))

@@ -59,8 +59,10 @@ module _ (plan : Plan) (quota : ℕ) (Named : ℕ → Type 0) where
     -- a step in the window of a named domain
     module _ (scripts scripts′ : List ℕ) (same : ScriptsAgree Named scripts scripts′) {Kept : ℕ → Type 0}
         (to : (domain : ℕ) → Named domain → (sender : ℕ) → sender < mostDomains → Kept (boxIndex sender domain)) where
-      pub locked-step : (running : ℕ) (one other : World) → Named running → runningOf plan (one .state) ≡ running → Whole one → Whole other
-          → Locked Kept running one other → Paired Kept running one other (stepOf plan scripts quota one) (stepOf plan scripts′ quota other)
+      pub locked-step : (running : ℕ) (one other : World) → Named running → runningOf plan (one .state) ≡ running
+          → Whole one → Whole other
+          → Locked Kept running one other
+          → Paired Kept running one other (stepOf plan scripts quota one) (stepOf plan scripts′ quota other)
       locked-step running one other named runs whole whole′ lock =
           go (step-alike plan quota running (to running named) (lock .close) runs scripts scripts′ (same running named) whole)
         where

@@ -26,7 +26,8 @@ not-still false begun still e = refl
 not-room : (room begun still : Bool) → room ≡ false → _≡_ {A = ℕ} (cond (room && begun && still) 1 0) 0
 not-room room begun still e = rw e
 
-all-three : (room begun still : Bool) → room ≡ true → begun ≡ true → still ≡ true → _≡_ {A = ℕ} (cond (room && begun && still) 1 0) 1
+all-three : (room begun still : Bool) → room ≡ true → begun ≡ true → still ≡ true
+    → _≡_ {A = ℕ} (cond (room && begun && still) 1 0) 1
 all-three room begun still e f g = rw (e, f, g)
 
 module _ (run : FreshRun) (possible : planValid (run .plan) ≡ true) (window : ℕ) where
@@ -47,7 +48,8 @@ module _ (run : FreshRun) (possible : planValid (run .plan) ≡ true) (window : 
         (le-ltb window (windowsTotal (run .plan)) over))
         ∙ add-zero (opsOf run window count)
 
-    pub at-its-switch : (windowsAfter run (suc count) ≡ window → ⊥) → opsOf run window (suc count) ≡ opsOf run window count
+    pub at-its-switch : (windowsAfter run (suc count) ≡ window → ⊥)
+        → opsOf run window (suc count) ≡ opsOf run window count
     unfolding opsOf
     at-its-switch other =
         ap (λ (n : ℕ). opsOf run window count + n)
@@ -55,7 +57,8 @@ module _ (run : FreshRun) (possible : planValid (run .plan) ≡ true) (window : 
         (ne-eqb (windowsAfter run (suc count)) window other))
         ∙ add-zero (opsOf run window count)
 
-    pub within-it : window < windowsTotal (run .plan) → windowsAfter run count ≡ window → windowsAfter run (suc count) ≡ window
+    pub within-it : window < windowsTotal (run .plan) → windowsAfter run count ≡ window
+        → windowsAfter run (suc count) ≡ window
         → opsOf run window (suc count) ≡ suc (opsOf run window count)
     unfolding opsOf
     within-it inRun here there =
@@ -65,7 +68,8 @@ module _ (run : FreshRun) (possible : planValid (run .plan) ≡ true) (window : 
         (eq-eqb (windowsAfter run (suc count)) window there))
         ∙ add-one (opsOf run window count)
 
-  pub none-so-far : (count : ℕ) → ((earlier : ℕ) → earlier < count → windowsAfter run earlier < window) → opsOf run window count ≡ 0
+  pub none-so-far : (count : ℕ) → ((earlier : ℕ) → earlier < count → windowsAfter run earlier < window)
+      → opsOf run window count ≡ 0
   unfolding opsOf
   none-so-far zero early = refl
   none-so-far (suc count) early =
@@ -81,7 +85,8 @@ module _ (run : FreshRun) (possible : planValid (run .plan) ≡ true) (window : 
       rw add-suc (within-it (start + count) inRun before (rw add-suc at here) ∙ ap suc (ops-so-far start s inRun count before))
 
   -- after its switch there are no more
-  no-more : (count more : ℕ) → window < windowsAfter run count → opsOf run window (count + more) ≡ opsOf run window count
+  no-more : (count more : ℕ) → window < windowsAfter run count
+      → opsOf run window (count + more) ≡ opsOf run window count
   no-more count zero past = rw add-zero
   no-more count (suc more) past =
       rw add-suc (before-or-after (count + more) (λ e. omega (arith, no-fewer run possible count (count + more) (omega arith))) ∙ no-more count more past)

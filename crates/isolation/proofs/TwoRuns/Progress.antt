@@ -23,7 +23,8 @@ use Rattle.isolation.proofs.OneRun.OnTime.{windows-grow}
 -- a step completes no window, or it is the switch that completes one
 data Turned (plan : Plan) (world next : World) : Type 0 where
   same : next .state .windows ≡ world .state .windows → Turned plan world next
-  turns : next .state .windows ≡ world .state .windows + 1 → world .state .windows < windowsTotal plan → next ≡ switchOf plan world
+  turns : next .state .windows ≡ world .state .windows + 1 → world .state .windows < windowsTotal plan
+      → next ≡ switchOf plan world
       → Turned plan world next
 
 -- the step before a later window's start: the switch of the window before
@@ -48,7 +49,8 @@ module _ (run : FreshRun) where
       (Turned (run .plan) (worldAfter run count)) (λ ended. same refl) (λ room. turns refl room refl) (λ op begins. same refl))
 
   -- an ended run stays as it is
-  pub stays-ended : (count more : ℕ) → windowsTotal (run .plan) ≤ windowsAfter run count → worldAfter run (count + more) ≡ worldAfter run count
+  pub stays-ended : (count more : ℕ) → windowsTotal (run .plan) ≤ windowsAfter run count
+      → worldAfter run (count + more) ≡ worldAfter run count
   unfolding worldAfter endedOf
   stays-ended count more over =
       steps-add (run .plan) (run .scripts) (partRecords (run .plan) (length (run .log))) count more (freshWorld (run .log))

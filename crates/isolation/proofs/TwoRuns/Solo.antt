@@ -1,14 +1,13 @@
 -- Every run agrees with the machine in which rivals' windows pass idle: for the domains of a set the worlds are the same at
 -- every point, and in a window of theirs also inside. By induction over the windows. Assumes nothing.
 use Prim.Native.Nat.{ℕ, zero, suc, _+_, _-_, _≤_, _<_}
-use mathlib.Core.Bool.{Bool, true, false, cond, false≢true}
+use mathlib.Core.Bool.{Bool, true, false, false≢true}
 use mathlib.Core.List.{List}
 use mathlib.Core.Path.{_≡_, refl, sym, ap, subst, _∙_}
 use native.Mathlib.Decide.{decLt}
 use native.Mathlib.Nat.{add-sub-of-le, add-suc, add-zero}
 use native.Mathlib.Omega.{arith}
 use borrow.Author.Tests.{eq-eqb, ne-eqb}
-use lib.Dec.{eqb}
 use lib.ListN.{length, length-replicate, replicate}
 use Rattle.lists.proofs.Agree.{Agree, agree-refl}
 use Rattle.plan.specs.declared.Plan.{Plan}
@@ -18,33 +17,33 @@ use Rattle.plan.specs.Validity.{planValid}
 use Rattle.plan.specs.Windows.{windowOwner, windowStart, windowsTotal}
 use Rattle.script.specs.Limits.{mostOps}
 use Rattle.records.specs.Records.{logPart, partRecords}
-use Rattle.ops.specs.Ops.{boxIndex, boxesLength}
-use Rattle.state.specs.World.{World, recordsAt}
+use Rattle.ops.specs.Ops.{boxesLength}
+use Rattle.state.specs.World.{World, freshState, recordsAt}
 use Rattle.machine.specs.Fresh.{freshWorld}
 use Rattle.machine.specs.Steps.{runOf, stepOf}
 use Rattle.machine.specs.Switch.{switchOf}
 use Rattle.machine.proofs.Schedule.{Scheduled, switch-clock}
+use Rattle.reachable.proofs.Cells.{cell-zeros}
 use Rattle.reachable.proofs.Counts.{counted}
 use Rattle.reachable.proofs.Reached.{boxes-length}
-use Rattle.isolation.specs.Points.{FreshRun, InWindowOf, Starts, opsFor, opsOf, opsOfDomain, windowsAfter, worldAfter}
-use Rattle.isolation.specs.Solo.{AgreesWithSolo, InSet, Matches, SameInWindow, SameToMember, SoloInput, runUnder}
+use Rattle.isolation.specs.Points.{FreshRun, Starts, opsFor, opsOf, opsOfDomain, windowsAfter, worldAfter}
+use Rattle.isolation.specs.Solo.{AgreesWithSolo, InSet, Matches, SoloInput, runUnder}
 use Rattle.isolation.specs.Solo.{soloAt, soloFrom, soloHere, soloStart, waitStep, waitSteps, withBoxes}
 use Rattle.isolation.proofs.OneRun.OnTime.{scheduled-after, started}
 use Rattle.isolation.proofs.TwoRuns.Indices.{FlushedIndex, kernel, l1, own-set}
 use Rattle.isolation.proofs.TwoRuns.Log.{part-of-log}
-use Rattle.isolation.proofs.TwoRuns.Near.{Locked, Near, Paired, locked-step, near-both, near-refl, near-switch, near-trans, switched, worked}
+use Rattle.isolation.proofs.TwoRuns.Near.{Locked, Near, Paired, locked-step, near-both, near-refl, near-switch, switched, worked}
 use Rattle.isolation.proofs.TwoRuns.OpCounts.{ops-so-far, past-the-last}
 use Rattle.isolation.proofs.TwoRuns.OpStep.{Whole, switch-flushed}
 use Rattle.isolation.proofs.TwoRuns.Positions.{position-is-ops}
-use Rattle.isolation.proofs.TwoRuns.Progress.{first-start, lasts, no-fewer, stays-ended}
-use Rattle.isolation.proofs.TwoRuns.Ready.{Ready, fresh-ready}
-use Rattle.isolation.proofs.TwoRuns.Relations.{Alike, Close, alike-sym, same-position, same-records}
-use Rattle.isolation.proofs.TwoRuns.Windows.{Began, BoxTo, Completed, Watched, began, clock-at-start, completed, next-world, stays-near, whole}
+use Rattle.isolation.proofs.TwoRuns.Progress.{first-start, lasts, stays-ended}
+use Rattle.isolation.proofs.TwoRuns.Relations.{same-position, same-records}
+use Rattle.isolation.proofs.TwoRuns.Windows.{Began, BoxTo, Completed, Watched, began, completed, next-world, stays-near, whole}
 
 -- ---- waiting
 
 module _ (input : SoloInput) where
-  abbrev soloStep : World → World
+  abbrev pub soloStep : World → World
   soloStep = stepOf (input .plan) (input .scripts) (partRecords (input .plan) (input .logLength))
 
   -- a switch completes a window
@@ -54,12 +53,14 @@ module _ (input : SoloInput) where
   completes world e = ap (λ (w : World). w .state .windows) e
 
   -- a step within the window is taken
-  wait-goes : (world : World) → soloStep world .state .windows ≡ world .state .windows → waitStep input world ≡ soloStep world
+  wait-goes : (world : World) → soloStep world .state .windows ≡ world .state .windows
+      → waitStep input world ≡ soloStep world
   unfolding waitStep
   wait-goes world same = rw (eq-eqb _ _ same) refl
 
   -- a switch is not
-  wait-stays : (world : World) → soloStep world .state .windows ≡ world .state .windows + 1 → waitStep input world ≡ world
+  wait-stays : (world : World) → soloStep world .state .windows ≡ world .state .windows + 1
+      → waitStep input world ≡ world
   unfolding waitStep
   wait-stays world next = rw (ne-eqb (soloStep world .state .windows) (world .state .windows) (λ same. omega arith)) refl
 
@@ -67,7 +68,8 @@ module _ (input : SoloInput) where
   unfolding waitSteps
   wait-none world = refl
 
-  wait-more : (count : ℕ) (world : World) → waitSteps input (suc count) world ≡ waitStep input (waitSteps input count world)
+  wait-more : (count : ℕ) (world : World)
+      → waitSteps input (suc count) world ≡ waitStep input (waitSteps input count world)
   unfolding waitSteps
   wait-more count world = refl
 
@@ -80,6 +82,21 @@ module _ (input : SoloInput) where
   wait-over count world due (suc more) =
       rw add-suc (ap (waitStep input) (wait-over count world due more) ∙ wait-stays (waitSteps input count world) due)
 
+-- a window of the set begins on the boxes that were given
+abbrev pub soloFirst : SoloInput → ℕ → World
+soloFirst input window = withBoxes (input .mail window) (soloStart input window)
+
+-- any other passes idle, whatever its ops
+pub idle-same : (input : SoloInput) (window count count′ : ℕ) → (InSet input (windowOwner (input .plan) window) → ⊥)
+    → soloAt input window count ≡ soloAt input window count′
+unfolding soloFrom
+idle-same input window count count′ idle = go (input .inSet (windowOwner (input .plan) window)) refl
+  where
+    go : (test : Bool) → input .inSet (windowOwner (input .plan) window) ≡ test
+        → soloAt input window count ≡ soloAt input window count′
+    go true test = absurd (idle test)
+    go false test = rw test refl
+
 -- a switch of two worlds of one window
 module _ (plan : Plan) (quota : ℕ) (Named : ℕ → Type 0) where
   -- at a window's start
@@ -89,13 +106,28 @@ module _ (plan : Plan) (quota : ℕ) (Named : ℕ → Type 0) where
     pub clock : one .state .clock ≡ other .state .clock
     pub flushed : Agree FlushedIndex (one .cache) (other .cache)
 
+  fresh-meets : (log log′ : List ℕ) → length log ≡ length log′ → Meets (freshWorld log) (freshWorld log′)
+  unfolding freshWorld freshState
+  fresh-meets log log′ same = record { near = near; windows = refl; clock = refl; flushed = agree-refl _ _ }
+    where
+      near : Near plan quota Named (freshWorld log) (freshWorld log′)
+      near domain named =
+          record {
+            positions = agree-refl _ _;
+            records = agree-refl _ _;
+            sets = agree-refl _ _;
+            log = record { len = same; at = λ index p. absurd (omega (arith, p .from, p .recorded, cell-zeros mostDomains domain)) };
+          }
+
   -- other boxes change nothing outside a window
-  boxed-near : (one other : World) (boxes : List ℕ) → Near plan quota Named one other → Near plan quota Named one (withBoxes boxes other)
+  boxed-near : (one other : World) (boxes : List ℕ) → Near plan quota Named one other
+      → Near plan quota Named one (withBoxes boxes other)
   boxed-near one other boxes near domain n =
       let a = near domain n in
       record { positions = a .positions; records = a .records; sets = a .sets; log = a .log }
 
-  same-schedule : (one other : World) → one .state .windows ≡ other .state .windows → one .state .clock ≡ other .state .clock
+  same-schedule : (one other : World) → one .state .windows ≡ other .state .windows
+      → one .state .clock ≡ other .state .clock
       → Scheduled plan one → Scheduled plan other
   same-schedule one other windows clock s =
       record {
@@ -170,8 +202,10 @@ module _ (input : SoloInput) (scripts log : List ℕ) (count : ℕ) (possible : 
   full = whole run possible
 
   -- the set's own window begins on the boxes that were given
-  begin : (window at : ℕ) → window < windowsTotal plan → Named (windowOwner plan window) → Starts run window at → at ≤ count
-      → (other : World) → MeetsAt at other → LockedWith (windowOwner plan window) at (withBoxes (input .mail window) other)
+  begin : (window at : ℕ) → window < windowsTotal plan → Named (windowOwner plan window) → Starts run window at
+      → at ≤ count
+      → (other : World) → MeetsAt at other
+      → LockedWith (windowOwner plan window) at (withBoxes (input .mail window) other)
   begin window at room named s soFar other meets =
       record {
         near = near;
@@ -251,7 +285,8 @@ module _ (input : SoloInput) (scripts log : List ℕ) (count : ℕ) (possible : 
       (follow window at other named here lock more earlier) (rw add-suc at there))
 
   -- a window has no more ops than a script
-  few-ops : (window at more : ℕ) → window < windowsTotal plan → Starts run window at → windowsAfter run (at + more) ≡ window
+  few-ops : (window at more : ℕ) → window < windowsTotal plan → Starts run window at
+      → windowsAfter run (at + more) ≡ window
       → more ≤ mostOps
   unfolding worldAfter freshWorld opsOfDomain sumTo
   few-ops window at more room s there =
@@ -289,7 +324,8 @@ module _ (input : SoloInput) (scripts log : List ℕ) (count : ℕ) (possible : 
     schedule : Scheduled plan other
     whole′ : Whole other
 
-  named-switch : (at : ℕ) (other : World) (running : ℕ) → LockedWith running at other → AtSwitch (worldAfter run at) other
+  named-switch : (at : ℕ) (other : World) (running : ℕ) → LockedWith running at other
+      → AtSwitch (worldAfter run at) other
   named-switch at other running lock =
       record {
         near = lock .near;
@@ -302,7 +338,8 @@ module _ (input : SoloInput) (scripts log : List ℕ) (count : ℕ) (possible : 
 
   -- another's window: what the set has is left as it was
   idle-near : (window at more : ℕ) (other : World) → (Named (windowOwner plan window) → ⊥) → Starts run window at
-      → windowsAfter run (at + more) ≡ window → MeetsAt at other → Near plan quota Named (worldAfter run (at + more)) other
+      → windowsAfter run (at + more) ≡ window → MeetsAt at other
+      → Near plan quota Named (worldAfter run (at + more)) other
   idle-near window at more other unnamed s there meets =
       near-both plan quota Named (worldAfter run at) other (worldAfter run (at + more)) other (meets .near)
       (stays-near run watched quota quota-is window at unnamed (s .reached) more there) (near-refl plan quota Named other)
@@ -318,7 +355,8 @@ module _ (input : SoloInput) (scripts log : List ℕ) (count : ℕ) (possible : 
         whole′ = sym (meets .flushed .len) ∙ full at;
       }
 
-  at-switch : (window next : ℕ) (p : Completed run window next) → next ≤ count → MeetsAt (p .at) (soloStart input window)
+  at-switch : (window next : ℕ) (p : Completed run window next) → next ≤ count
+      → MeetsAt (p .at) (soloStart input window)
       → (test : Bool) → input .inSet (windowOwner plan window) ≡ test
       → AtSwitch (worldAfter run (p .at + p .more)) (soloAt input window mostOps)
   unfolding soloFrom
@@ -328,7 +366,8 @@ module _ (input : SoloInput) (scripts log : List ℕ) (count : ℕ) (possible : 
       rw test
       (idle-switch window (p .at) (p .more) (soloStart input window) (λ n. false≢true (sym test ∙ n)) (p .starts) (p .within) meets)
 
-  next-meets : (window next : ℕ) (p : Completed run window next) → next ≤ count → MeetsAt (p .at) (soloStart input window)
+  next-meets : (window next : ℕ) (p : Completed run window next) → next ≤ count
+      → MeetsAt (p .at) (soloStart input window)
       → MeetsAt next (soloStart input (suc window))
   unfolding soloStart
   next-meets window next p soFar meets =
@@ -341,10 +380,7 @@ module _ (input : SoloInput) (scripts log : List ℕ) (count : ℕ) (possible : 
   first-meets : MeetsAt 0 (soloStart input 0)
   unfolding worldAfter runOf soloStart freshWorld
   first-meets =
-      let r =
-      fresh-ready plan quota Named log (replicate (input .logLength) 0) (m .logIs ∙ sym (length-replicate {A = ℕ} (input .logLength) 0))
-      in
-      record { near = r .near; windows = refl; clock = r .clock; flushed = r .flushed }
+      fresh-meets plan quota Named log (replicate (input .logLength) 0) (m .logIs ∙ sym (length-replicate {A = ℕ} (input .logLength) 0))
 
   -- every window so far starts at the world that was computed for its start
   meets : (window at : ℕ) → Starts run window at → at ≤ count → MeetsAt at (soloStart input window)
@@ -353,19 +389,30 @@ module _ (input : SoloInput) (scripts log : List ℕ) (count : ℕ) (possible : 
       let p = completed run possible count (started run possible count) window at soFar s in
       next-meets window at p soFar (meets window (p .at) (p .starts) (omega (arith, p .follows)))
 
+  -- in a window of the set the run completes one where the computed world does
+  pub next-is : (window at more : ℕ) → window < windowsTotal plan → Named (windowOwner plan window)
+      → Starts run window at
+      → at ≤ count → windowsAfter run (at + more) ≡ window
+      → windowsAfter run (suc (at + more)) ≡ soloStep input (waitSteps input more (soloFirst input window)) .state .windows
+  next-is window at more room named s soFar there =
+      same-next window (at + more) _ named there
+      (follow window at (soloFirst input window) named (s .reached)
+      (begin window at room named s soFar (soloStart input window) (meets window at s soFar)) more there)
+
   -- ---- at the point
 
   abbrev now : ℕ
   now = windowsAfter run count
 
-  none-past : (window : ℕ) → windowsTotal plan ≤ window → (at : ℕ) → opsOf run window at ≡ 0
+  pub none-past : (window : ℕ) → windowsTotal plan ≤ window → (at : ℕ) → opsOf run window at ≡ 0
   unfolding opsOf
   none-past window over zero = refl
   none-past window over (suc at) = past-the-last run possible window at over ∙ none-past window over at
 
   -- before its first op a window's world is the one at its start, but for the boxes
   at-no-op : (window : ℕ) (one : World) → Near plan quota Named one (soloStart input window)
-      → (test : Bool) → input .inSet (windowOwner plan window) ≡ test → Near plan quota Named one (soloAt input window 0)
+      → (test : Bool) → input .inSet (windowOwner plan window) ≡ test
+      → Near plan quota Named one (soloAt input window 0)
   unfolding soloFrom
   at-no-op window one near true test =
       rw (test, wait-none input (withBoxes (input .mail window) (soloStart input window)))
@@ -380,7 +427,8 @@ module _ (input : SoloInput) (scripts log : List ℕ) (count : ℕ) (possible : 
     within = ap (windowsAfter run) (sym (b .point))
 
     -- in a window of the set
-    locked-now : now < windowsTotal plan → Named (windowOwner plan now) → LockedWith (windowOwner plan now) count (soloHere input scripts log count)
+    locked-now : now < windowsTotal plan → Named (windowOwner plan now)
+        → LockedWith (windowOwner plan now) count (soloHere input scripts log count)
     unfolding soloFrom
     locked-now room named =
         let first = withBoxes (input .mail now) (soloStart input now) in

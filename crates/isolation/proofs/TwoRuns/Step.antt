@@ -109,7 +109,8 @@ module _ (plan : Plan) (quota domain : ℕ) {Kept : ℕ → Type 0} (to : (sende
 
 -- ---- one world in another's window
 
-pub step-away : (plan : Plan) (scripts : List ℕ) (quota domain : ℕ) (world : World) → planValid plan ≡ true → domain < plan .domains
+pub step-away : (plan : Plan) (scripts : List ℕ) (quota domain : ℕ) (world : World) → planValid plan ≡ true
+    → domain < plan .domains
     → (domain ≡ runningOf plan (world .state) → ⊥) → Whole world
     → Alike plan quota domain world (stepOf plan scripts quota world)
 step-away plan scripts quota domain world possible declared other whole =

@@ -96,13 +96,6 @@ module _ (run : FreshRun) (possible : planValid (run .plan) ≡ true) (count : �
         switched = rw (← (start .point)) (b .switched);
       }
 
-  -- the clock at a window's start
-  pub clock-at-start : (window start : ℕ) → start ≤ count → Starts run window start
-      → worldAfter run start .state .clock ≡ windowStart (run .plan) window
-  clock-at-start window start soFar s =
-      let t = onTime window (omega (arith, s .reached, no-fewer run possible start count soFar)) in
-      rw (one-start run window start (t .at) s (t .starts)) (t .onTime)
-
 -- the cache table keeps its length
 pub whole : (run : FreshRun) → planValid (run .plan) ≡ true → (count : ℕ) → Whole (worldAfter run count)
 unfolding worldAfter freshWorld
@@ -110,7 +103,8 @@ whole run possible count = cache-length (run .plan) (run .scripts) (run .log) co
 
 module _ {Named Kept : ℕ → Type 0} (run : FreshRun) (w : Watched (run .plan) Named Kept) (quota : ℕ)
     (quotaIs : partRecords (run .plan) (length (run .log)) ≡ quota) where
-  pub next-world : (count : ℕ) → worldAfter run (suc count) ≡ stepOf (run .plan) (run .scripts) quota (worldAfter run count)
+  pub next-world : (count : ℕ)
+      → worldAfter run (suc count) ≡ stepOf (run .plan) (run .scripts) quota (worldAfter run count)
   next-world count = one-more run count ∙ ap (λ (q : ℕ). stepOf (run .plan) (run .scripts) q (worldAfter run count)) quotaIs
 
   -- another's window leaves what the named domains have
