@@ -1,5 +1,7 @@
 // The refusals of the entry points: 11, 12, 13, 14, in this order, each only where the call takes
 // that thing.
+use cache::limits::TABLE_LENGTH;
+use ops::limits::BOXES_LENGTH;
 use plan::Plan;
 use plan::validity::is_valid;
 use records::part_records;
@@ -30,7 +32,7 @@ fn state_fits(plan: Plan, state: State, log_length: usize) -> bool
 pub fn check_fresh(plan: Plan, cache: &[u16], boxes: &[u32]) -> Verdict
     ensures { λ r. ⌜ r ≡ freshVerdict plan (now (cache .entry)) (now (boxes .entry)) ⌝ }
 {
-    if (cache.len() == 272) & (boxes.len() == 64) {
+    if (cache.len() == TABLE_LENGTH) & (boxes.len() == BOXES_LENGTH) {
         if is_valid(plan) {
             Verdict::Accepted
         } else {
@@ -53,7 +55,8 @@ pub fn check_run(
     ensures { λ r. ⌜ r ≡ runVerdict plan (now (scripts .entry))
         (worldWith state (now (cache .entry)) (now (boxes .entry)) (now (log .entry))) ⌝ }
 {
-    if !((scripts.len() == SCRIPTS_LENGTH) & ((cache.len() == 272) & (boxes.len() == 64))) {
+    if !((scripts.len() == SCRIPTS_LENGTH)
+        & ((cache.len() == TABLE_LENGTH) & (boxes.len() == BOXES_LENGTH))) {
         return Verdict::Refused(Refusal::WrongLength);
     }
     if !is_valid(plan) {

@@ -3,12 +3,15 @@ use crate::limits::LARGEST_LIMIT;
 use crate::limits::PLANRUN_LOG;
 use crate::write_refusal;
 use crate::write_run;
+use cache::limits::TABLE_LENGTH;
 use engine::running::run;
 use engine::starting::fresh_start;
+use ops::limits::BOXES_LENGTH;
 use plan::Plan;
 use reader::read_plan;
 use refusal::Verdict;
 use refusal::code_of;
+use script::limits::SCRIPTS_LENGTH;
 use state::fresh_state;
 ghost use mathlib.Core.Path.{_≡_};
 ghost use mathlib.Core.Bool.{true};
@@ -24,8 +27,8 @@ fn run_lines(plan: Plan, scripts: &[u32], out: &mut [u8]) -> usize
         ⌜ Wrote (now (out .entry)) 0 (ranLines plan (planrunRun plan (now (scripts .entry)) .world))
         (now (out .exit)) r ⌝ }
 {
-    let mut cache = [0u16; 272];
-    let mut boxes = [0u32; 64];
+    let mut cache = [0u16; TABLE_LENGTH];
+    let mut boxes = [0u32; BOXES_LENGTH];
     let mut log = [0u8; PLANRUN_LOG];
     let nothing = fresh_state();
     let started = fresh_start(plan, nothing, &mut cache, &mut boxes);
@@ -47,7 +50,7 @@ fn run_lines(plan: Plan, scripts: &[u32], out: &mut [u8]) -> usize
 pub fn plan_lines(text: &[u8], out: &mut [u8]) -> usize
     ensures { λ r. ⌜ PlanrunWrote (now (text .entry)) (now (out .entry)) (now (out .exit)) r ⌝ }
 {
-    let mut scripts = [0u32; 2_048];
+    let mut scripts = [0u32; SCRIPTS_LENGTH];
     let reading = read_plan(text, &mut scripts);
     let plan = reading.plan;
     let verdict = reading.verdict;
