@@ -487,7 +487,7 @@ module _ (input : SoloInput) (scripts log : List ℕ) (count : ℕ) (possible : 
                 kernelSets = λ set way inTable inSet colour. close .flushed .at _ (kernel (omega arith));
                 boxes = λ sender recipient known named.
                     close .boxes .at _
-                    (record { sender = sender; recipient = recipient; known = known; named = named; addressed = refl });
+                    (record { sender = sender; recipient = recipient; known = omega arith; named = named; addressed = refl });
               };
         }
 
