@@ -284,7 +284,7 @@ def _token(text, offset):
     return tokens(text[offset:offset + TEXT_BYTES], offset)[0]
 
 
-def _forms(text, word, end=None):
+def forms(text, word, end=None):
     """The lines of a form before an offset, each as its tokens."""
     found, start = [], 0
     for line in text[:len(text) if end is None else end].split(b"\n"):
@@ -297,11 +297,11 @@ def _forms(text, word, end=None):
 
 def _undeclared(offset, text):
     before, named = _before(text, offset), int(_token(text, offset).text)
-    declared = len(_forms(text, "domain", line_of(text, offset)[0]))
+    declared = len(forms(text, "domain", line_of(text, offset)[0]))
     above = "no domain is declared above" if not declared else \
         "declared above: domain 0" if declared == 1 else f"declared above: domains 0 to {declared - 1}"
     if len(before) > 2:
-        last = len(_forms(text, "domain")) - 1
+        last = len(forms(text, "domain")) - 1
         return offset, f"the recipient {named} is declared nowhere", \
             f"declare domain {named}, or leave it out (the last domain is {last})"
     if before[1] == "domain":
@@ -316,23 +316,23 @@ def _missing(offset, text):
     # a second pad or run is named at its bracket; a form that is missing, at the text's end
     if offset < len(text) and text[offset:offset + 1] == b"(" and not before_end:
         word = str(tokens(line_of(text, offset)[1])[1])
-        first = _forms(text, word)[0][0].offset
+        first = forms(text, word)[0][0].offset
         return offset, f"a second {word}; the first is in line {place(text, first)[0]}", \
             f"keep one {word} line"
-    lacking = [word for word in ("pad", "domain", "window", "run") if not _forms(text, word)]
+    lacking = [word for word in ("pad", "domain", "window", "run") if not forms(text, word)]
     said = lacking[0] if len(lacking) == 1 else ", ".join(lacking[:-1]) + " or " + lacking[-1]
     return offset, f"the plan has no {said}", "add " + " and ".join(SHAPES[word] for word in lacking)
 
 
 def _no_colour(domain, text):
-    token = _forms(text, "domain")[domain][5]
+    token = forms(text, "domain")[domain][5]
     return token.offset, f"domain {domain}: the share {int(token.text)} gives no colour", \
         f"give it at least {LEAST_SHARE}, the least share that gives one"
 
 
 def _oversold(total, text):
     so_far = 0
-    for line in _forms(text, "domain"):
+    for line in forms(text, "domain"):
         so_far += int(line[5].text)
         if so_far > SHARES:
             break
@@ -354,8 +354,8 @@ def _too_long(_, text):
 
 
 def _too_many_ticks(_, text):
-    pad, run = int(_forms(text, "pad")[0][2].text), _forms(text, "run")[0][2]
-    once = sum(int(line[5].text) + pad for line in _forms(text, "window"))
+    pad, run = int(forms(text, "pad")[0][2].text), forms(text, "run")[0][2]
+    once = sum(int(line[5].text) + pad for line in forms(text, "window"))
     return run.offset, \
         f"the run takes {once} ticks {int(run.text)} times, over {TICKS} in all", \
         f"shorter windows, a shorter pad, or at most (run {TICKS // once})"
