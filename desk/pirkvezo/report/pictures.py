@@ -1,0 +1,65 @@
+"""The pictures of a plan in SVG: who holds which colour, and one round of windows to scale."""
+from ..layout import count
+from .markup import escape
+
+COLOURS = 16
+KERNEL = 15
+
+
+def svg(name, width, height, body, label):
+    """A picture that takes the page's width and no more than its own."""
+    return (f'<svg xmlns="http://www.w3.org/2000/svg" class="picture" role="img" '
+            f'aria-label="{escape(label)}" viewBox="0 0 {width} {height}" '
+            f'style="max-width:{width}px">\n<defs><pattern id="hatch-{name}" width="6" height="6" '
+            f'patternUnits="userSpaceOnUse" patternTransform="rotate(45)">'
+            f'<path class="hatch" d="M0 0V6"/></pattern></defs>\n{body}</svg>\n')
+
+
+def owners(plan):
+    """Who holds each of the sixteen colours by the library's masks: lists of domains."""
+    return [[d for d in range(plan.domains) if c in plan.colours(d)] for c in range(COLOURS)]
+
+
+def share_picture(plan):
+    """Sixteen squares, one for each colour."""
+    size, step, body = 54, 60, []
+    for colour, holders in enumerate(owners(plan)):
+        x = 2 + colour * step
+        if colour == KERNEL:
+            style, word, tip = "kernel", "kernel", "the kernel's"
+        elif holders:
+            style, word = f"d{holders[0]}", " ".join(f"d{d}" for d in holders)
+            tip = " and ".join(f"domain {d}" for d in holders)
+        else:
+            style, word, tip = "unsold", "", "nobody's: not sold, or lost in rounding"
+        fill = ' fill="url(#hatch-share)"' if style == "unsold" else ""
+        first = 4 * colour
+        body.append(
+            f'<g data-colour="{colour}"><title>colour {colour}: {tip}; sets {first} to {first + 3}'
+            f'</title><rect class="{style}" x="{x}" y="2" width="{size}" height="{size}" rx="4"'
+            f'{fill}/><text class="big" x="{x + size // 2}" y="26">{colour}</text>'
+            f'<text class="small" x="{x + size // 2}" y="44">{word}</text></g>\n')
+    return svg("share", 2 + COLOURS * step, size + 6, "".join(body),
+               "The sixteen colours of the cache and who holds each")
+
+
+def round_picture(plan):
+    """The declared windows and their pads, with widths that are proportional to ticks."""
+    width, body = 960, []
+    ticks = sum(w.length + plan.pad for w in plan.windows)
+    scale, at = width / ticks, 0
+    for k, window in enumerate(plan.windows):
+        x, w, p = at * scale, window.length * scale, plan.pad * scale
+        body.append(
+            f'<rect class="d{window.owner}" x="{x:.2f}" y="2" width="{max(w, 0.5):.2f}" height="34">'
+            f'<title>window {k} of a round: domain {window.owner}, {count(window.length, "tick")} '
+            f'from {at}</title></rect>')
+        body.append(
+            f'<rect class="pad" x="{x + w:.2f}" y="2" width="{max(p, 0.5):.2f}" height="34" '
+            f'fill="url(#hatch-round)"><title>pad after window {k}: {plan.pad} ticks</title></rect>\n')
+        if w > 22:
+            body.append(f'<text class="small" x="{x + w / 2:.2f}" y="23">d{window.owner}</text>')
+        at += window.length + plan.pad
+    body.append(f'<text class="axis" x="0" y="50">0</text>'
+                f'<text class="axis end" x="{width}" y="50">{ticks} ticks</text>\n')
+    return svg("round", width, 54, "".join(body), "One round of windows and pads, to scale")
