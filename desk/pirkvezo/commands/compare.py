@@ -21,9 +21,9 @@ def add_arguments(parser):
     parser.add_argument("a", metavar="A", type=plan_file, help="a plan's file, or - for standard input")
     parser.add_argument("b", metavar="B", type=plan_file, help="the plan to compare it with")
     parser.add_argument("--log-length", metavar="BYTES", default=LOG_LENGTH,
-                        type=number_of("--log-length", 0, 1 << 24),
+                        type=number_of(0, 1 << 24),
                         help="the log of each run (default 16384)")
-    parser.add_argument("--windows", metavar="N", type=number_of("--windows", 0, 32000),
+    parser.add_argument("--windows", metavar="N", type=number_of(0, 32000),
                         help="end both runs after N windows")
     parser.add_argument("--json", action="store_true", help="print JSON, for programs")
 

@@ -29,7 +29,7 @@ def add_arguments(parser):
     parser.add_argument("--windows", metavar="A..B", type=window_range,
                         help="draw and list windows A to B alone (both included, from 0)")
     parser.add_argument("--log-length", metavar="BYTES", default=LOG_LENGTH,
-                        type=number_of("--log-length", 0, 1 << 24),
+                        type=number_of(0, 1 << 24),
                         help="the log of the run (default 16384)")
 
 
@@ -53,12 +53,12 @@ def window_range(said):
     """
     found = re.fullmatch(r"([0-9]{1,6})\.\.([0-9]{1,6})", said)
     if not found:
-        raise argparse.ArgumentTypeError("--windows is A..B, such as 0..9")
+        raise argparse.ArgumentTypeError("A..B is due, such as 0..9")
     first, last = int(found.group(1)), int(found.group(2))
     if first > last:
-        raise argparse.ArgumentTypeError(f"--windows: {first} comes after {last}")
+        raise argparse.ArgumentTypeError(f"window {first} comes after {last}")
     if last - first >= MOST_WINDOWS:
-        raise argparse.ArgumentTypeError(f"--windows: at most {MOST_WINDOWS} windows in one page")
+        raise argparse.ArgumentTypeError(f"at most {MOST_WINDOWS} windows in one page")
     return range(first, last + 1)
 
 
