@@ -34,13 +34,29 @@ def refused_page(name, refused, text):
     body = [head, f"<p>At <code>{escape(where)}</code>. Nothing is run.</p>\n"]
     if line:
         seen, caret = excerpt(text, refused.offset)
-        body.append(f'<pre class="fault">{escape(seen)}\n<span class="at">{caret}</span></pre>\n')
+        body.append(f'<pre class="fault">{_bytes(seen)}\n<span class="at">{caret}</span></pre>\n')
     if refused.fix:
         body.append(f"<h2>What would fix it</h2>\n<p>{escape(refused.fix)}</p>\n")
     body.append(f'<p class="note">The library answered <code>(refused {refused.number} '
                 f'{refused.companion})</code>; docs/PLANS.md lists the numbers.</p>\n')
     body.append(_text(text[:40000], line))
     return _whole(name, body)
+
+
+# what stands for a byte that cannot be seen: few fonts have the pictures that a terminal shows
+LETTERS = {"\u2409": ("t", "tab"), "\u240d": ("r", "carriage return"), "\u2400": ("0", "NUL")}
+
+
+def _bytes(line):
+    """A shown line as markup, with a marked letter for each byte that cannot be seen."""
+    out = []
+    for character in line:
+        if "\u2400" <= character <= "\u2421" or character == "\ufffd":
+            letter, name = LETTERS.get(character, ("?", "a byte that no plan has"))
+            out.append(f'<b class="byte" title="{name}">{letter}</b>')
+        else:
+            out.append(escape(character))
+    return "".join(out)
 
 
 def _whole(name, parts):
@@ -138,7 +154,7 @@ def _timeline(plan, run, drawn, folded):
     note = ("Widths are not to scale: short ops are widened, idle time and pads are shortened. "
             "Above each window stand its index and its start. Hold the pointer over anything for its "
             "numbers; the tables below have them all. A red line marks a window's end that an op "
-            "ran past.")
+            "ran past. An arrow that leaves its strip names the window of its other end.")
     fold = f"<p>{_fold_words(folded)}</p>\n" if folded else ""
     return (f"<h2>Timeline</h2>\n{legend()}{timeline(plan, drawn, messages(plan, run))}{fold}"
             f'<p class="note">{note}</p>\n')
@@ -214,7 +230,7 @@ def _text(text, mark=None):
     out = []
     for n, line in enumerate(lines, 1):
         style = "at" if n == mark else "n"
-        out.append(f'<span class="{style}">{n:>{wide}}</span>  {escape(shown(line))}')
+        out.append(f'<span class="{style}">{n:>{wide}}</span>  {_bytes(shown(line))}')
     open_ = _open(len(lines)) if mark is None else ' open="open"'
     return (f"<h2>The plan</h2>\n<details{open_}><summary>{count(len(lines), 'line')}, "
             f'{count(len(text), "byte")}</summary>\n<pre>' + "\n".join(out) + "</pre></details>\n")

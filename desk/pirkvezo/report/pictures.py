@@ -45,21 +45,23 @@ def share_picture(plan):
 
 def round_picture(plan):
     """The declared windows and their pads, with widths that are proportional to ticks."""
-    width, body = 960, []
+    width, pads, windows = 960, [], []
     ticks = sum(w.length + plan.pad for w in plan.windows)
     scale, at = width / ticks, 0
     for k, window in enumerate(plan.windows):
         x, w, p = at * scale, window.length * scale, plan.pad * scale
-        body.append(
-            f'<rect class="d{window.owner}" x="{x:.2f}" y="2" width="{max(w, 0.5):.2f}" height="34">'
-            f'<title>window {k} of a round: domain {window.owner}, {count(window.length, "tick")} '
-            f'from {at}</title></rect>')
-        body.append(
+        pads.append(
             f'<rect class="pad" x="{x + w:.2f}" y="2" width="{max(p, 0.5):.2f}" height="34" '
             f'fill="url(#hatch-round)"><title>pad after window {k}: {plan.pad} ticks</title></rect>\n')
+        # a window of one tick is still to be seen
+        windows.append(
+            f'<rect class="d{window.owner}" x="{x:.2f}" y="2" width="{max(w, 1.5):.2f}" height="34">'
+            f'<title>window {k} of a round: domain {window.owner}, {count(window.length, "tick")} '
+            f'from {at}</title></rect>')
         if w > 22:
-            body.append(f'<text class="small" x="{x + w / 2:.2f}" y="23">d{window.owner}</text>')
+            windows.append(f'<text class="small" x="{x + w / 2:.2f}" y="23">d{window.owner}</text>')
         at += window.length + plan.pad
+    body = pads + windows
     body.append(f'<text class="axis" x="0" y="50">0</text>'
                 f'<text class="axis end" x="{width}" y="50">{ticks} ticks</text>\n')
     return svg("round", width, 54, "".join(body), "One round of windows and pads, to scale")

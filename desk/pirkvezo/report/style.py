@@ -27,6 +27,7 @@ th { background: var(--band); font-weight: 600; }
 .records th:nth-child(4), td:first-child, th:first-child { text-align: left; }
 pre { background: var(--band); padding: .6rem; overflow-x: auto; font-size: .8125rem;
   line-height: 1.4; margin: .4rem 0; } pre .n { color: var(--soft); user-select: none; }
+.byte { background: var(--bad); color: var(--paper); font-weight: 400; }
 pre .at { color: var(--bad); font-weight: 700; } code { font-size: .875rem; }
 details { margin: .4rem 0; } summary { cursor: pointer; }
 .picture { display: block; width: 100%; height: auto; margin: .4rem 0; }
@@ -50,7 +51,8 @@ details { margin: .4rem 0; } summary { cursor: pointer; }
 .miss { fill: #c4401f; background: #c4401f; } .sent { fill: #1f5fc4; background: #1f5fc4; }
 .got { fill: #7136c4; background: #7136c4; } .empty { fill: #74747e; background: #74747e; }
 .denied { fill: #a80f63; background: #a80f63; } .ran { fill: #47627a; background: #47627a; }
-.barred { fill: #2a2a2a; background: #2a2a2a; }
+.barred { fill: #2a2a2a; background: #2a2a2a; stroke: var(--soft); }
+.key.barred { outline: 1px solid var(--soft); }
 .legend { display: flex; flex-wrap: wrap; gap: .2rem 1rem; font-size: .8125rem; }
 .chip { white-space: nowrap; } .key { display: inline-block; width: 1.2em; height: 1.2em;
   line-height: 1.2em; text-align: center; color: #ffffff; font-weight: 700; border-radius: 2px; }

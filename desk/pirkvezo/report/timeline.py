@@ -4,6 +4,7 @@ Widths are not to scale: an op of one tick must be seen beside a window of a mil
 least as wide as its letter, and idle time and pads grow with the logarithm of their ticks.
 """
 from dataclasses import dataclass, field
+from itertools import groupby
 from math import log10
 from typing import Dict, List, Tuple
 
@@ -60,11 +61,19 @@ class _Sheet:
     def height(self):
         return TOP + self.lanes * LANE + 8
 
+    def keep(self, width):
+        """Leaves the strip for the next where so much does not fit here but does fit there."""
+        if self.x + width > WIDTH + 0.01 and LEFT + width <= WIDTH + 0.01 and self.x > LEFT:
+            self._next()
+
+    def _next(self):
+        self.x, self.strip, self.free = LEFT, self.strip + 1, 0
+
     def take(self, width):
         """Room for a thing of that width: its x. A full strip is left for the next."""
         # a hair of room keeps a stretched timeline in its one strip
         if self.x + width > WIDTH + 0.01:
-            self.x, self.strip, self.free = LEFT, self.strip + 1, 0
+            self._next()
         x, self.x = self.x, self.x + width
         return x
 
@@ -74,20 +83,21 @@ class _Sheet:
 
 def timeline(plan, windows, sent):
     """The timeline of these windows (of pirkvezo.history) and of the messages `sent`."""
-    natural = sum(width for window in windows for width, _, _ in _things(window))
-    stretch = min(MOST_STRETCH, max(1.0, (WIDTH - LEFT) / max(natural, 1)))
+    groups, stretch = _groups(windows, len(plan.windows))
     sheet = _Sheet(plan.domains, stretch)
     scripts = [plan.ops(d) for d in range(plan.domains)]
-    for window in windows:
-        sheet.body.append(f'<g data-window="{window.index}">')
-        _window(sheet, window, scripts[window.owner])
-        sheet.body.append("</g>\n")
+    for group in groups:
+        sheet.keep(sum(map(_width, group)) * stretch)
+        for window in group:
+            sheet.body.append(f'<g data-window="{window.index}">')
+            _window(sheet, window, scripts[window.owner])
+            sheet.body.append("</g>\n")
     arrows = "".join(_arrow(sheet, m) for m in sent)
     lanes = "".join(_lanes(sheet, strip, plan.domains) for strip in range(sheet.strip + 1))
     head = ('<defs><marker id="tip" viewBox="0 0 8 8" refX="7" refY="4" markerWidth="7" '
             'markerHeight="7" orient="auto"><path class="tip" d="M0 0L8 4L0 8Z"/></marker></defs>\n')
     return svg("time", WIDTH + 4, (sheet.strip + 1) * sheet.height,
-               head + lanes + "".join(sheet.body) + arrows, "Timeline of the run")
+               head + lanes + arrows + "".join(sheet.body), "Timeline of the run")
 
 
 def _lanes(sheet, strip, domains):
@@ -111,6 +121,21 @@ def _things(window):
         things.append((6 + 7 * log10(1 + idle), "idle", None))
     pad = window.padded_end - max(_ran_to(window), window.end)
     return things + [(6 + 4 * log10(1 + pad), "pad", None)]
+
+
+def _width(window):
+    return sum(width for width, _, _ in _things(window))
+
+
+def _groups(windows, per_round):
+    """What a strip does not part, and the stretch: whole rounds where each fits, else windows."""
+    rounds = [list(group) for _, group in groupby(windows, lambda w: w.index // per_round)]
+    widest = max((sum(map(_width, group)) for group in rounds), default=1)
+    room = WIDTH - LEFT
+    if widest <= room:
+        in_a_strip = min(int(room // widest), max(len(rounds), 1))
+        return rounds, min(MOST_STRETCH, room / (in_a_strip * widest))
+    return [[window] for window in windows], 1.0
 
 
 def _window(sheet, window, script):
@@ -192,19 +217,22 @@ def _arrow(sheet, message):
         x, y = _edge(sheet, here, down)
         out += _message(f"M{x:.1f} {y:g}l8 {down * 9}", tip)
         out += (f'<text class="axis" x="{x + 10:.1f}" y="{y + (14 if down > 0 else -8):g}">'
-                f'to w{message.got[0]}</text>')
+                f'w{message.got[0]}</text>')
     if there:
         x, y = _edge(sheet, there, -down)
         out += _message(f"M{x - 8:.1f} {y - down * 9:g}L{x:.1f} {y:g}", tip)
         out += (f'<text class="axis end" x="{x - 10:.1f}" y="{y - (8 if down > 0 else -14):g}">'
-                f'from w{message.sent[0]}</text>')
+                f'w{message.sent[0]}</text>')
     return out
 
 
 def _edge(sheet, place, side):
-    """The middle of an op's lower (side 1) or upper (side -1) edge."""
+    """The middle of a bar's lower (side 1) or upper (side -1) edge at an op.
+
+    Arrows are drawn before the ops, so that one which passes a lane hides no letter there.
+    """
     strip, x, lane = place
-    return x, sheet.lane_top(strip, lane) + BAR / 2 + side * (BAR / 2 - 2)
+    return x, sheet.lane_top(strip, lane) + BAR / 2 + side * (BAR / 2)
 
 
 def _message(path, tip):
