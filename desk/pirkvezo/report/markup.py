@@ -35,12 +35,12 @@ def escape(text):
 def table(heads, rows, name=""):
     """A table; cells are markup already. A row is cells, or a pair of attributes and cells."""
     style = f' class="{name}"' if name else ""
-    out = [f"<table{style}><thead><tr>"]
+    out = [f'<div class="scroll"><table{style}><thead><tr>']
     out += [f"<th>{head}</th>" for head in heads]
     out.append("</tr></thead><tbody>\n")
     for row in rows:
         attributes, cells = row if isinstance(row, tuple) else ("", row)
         out.append(f"<tr{attributes}>" + "".join(f"<td>{c}</td>" for c in cells) + "</tr>\n")
-    out.append("</tbody></table>\n")
+    out.append("</tbody></table></div>\n")
     return "".join(out)
 

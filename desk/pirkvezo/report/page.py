@@ -126,8 +126,8 @@ def _shares(plan):
              "Counted: no colour is let twice, and none of the kernel's is let."]
     heads = ("Domain", "Share", "Colours", "Held", "Sets = line mod 64", "Lines", "Lost colours",
              "May send to")
-    return ("<h2>Shares of the cache</h2>\n" + share_picture(plan) + '<div class="scroll">'
-            + table(heads, rows) + f'</div>\n<p>{" ".join(notes)}</p>\n<p class="note">Lines: how many '
+    return ("<h2>Shares of the cache</h2>\n" + share_picture(plan) + table(heads, rows)
+            + f'<p>{" ".join(notes)}</p>\n<p class="note">Lines: how many '
             'of 0 to 4095 the domain may touch. Lost colours: share &#215; 15 / 1000, less what it '
             'holds.</p>\n')
 
@@ -181,7 +181,7 @@ def _domains(plan, run, log_length):
                      kinds["ran"], idle, f"{left}{why}"])
     heads = ("Domain", "Ops done", "hit1", "hit2", "miss", "barred", "sent", "got", "empty",
              "denied", "ran", "Idle ticks", "Never reached")
-    return '<h2>What each domain did</h2>\n<div class="scroll">' + table(heads, rows) + "</div>\n"
+    return "<h2>What each domain did</h2>\n" + table(heads, rows)
 
 
 def _windows(drawn, folded):

@@ -7,12 +7,12 @@ KERNEL = 15
 
 
 def svg(name, width, height, body, label):
-    """A picture that takes the page's width and no more than its own."""
-    return (f'<svg xmlns="http://www.w3.org/2000/svg" class="picture" role="img" '
+    """A picture that takes the page's width and no more than its own; a narrow page scrolls it."""
+    return (f'<div class="scroll"><svg xmlns="http://www.w3.org/2000/svg" class="picture" role="img" '
             f'aria-label="{escape(label)}" viewBox="0 0 {width} {height}" '
             f'style="max-width:{width}px">\n<defs><pattern id="hatch-{name}" width="6" height="6" '
             f'patternUnits="userSpaceOnUse" patternTransform="rotate(45)">'
-            f'<path class="hatch" d="M0 0V6"/></pattern></defs>\n{body}</svg>\n')
+            f'<path class="hatch" d="M0 0V6"/></pattern></defs>\n{body}</svg></div>\n')
 
 
 def owners(plan):

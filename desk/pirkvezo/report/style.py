@@ -21,7 +21,7 @@ p { margin: .4rem 0; } .note { color: var(--soft); font-size: .875rem; }
 .scroll { overflow-x: auto; }
 table { border-collapse: collapse; font-size: .875rem; font-variant-numeric: tabular-nums; }
 th, td { padding: .2rem .6rem; border-bottom: 1px solid var(--line); text-align: right;
-  vertical-align: top; }
+  vertical-align: top; white-space: nowrap; }
 th { background: var(--band); font-weight: 600; }
 .records td:nth-child(3), .records th:nth-child(3), .records td:nth-child(4),
 .records th:nth-child(4), td:first-child, th:first-child { text-align: left; }
@@ -30,7 +30,7 @@ pre { background: var(--band); padding: .6rem; overflow-x: auto; font-size: .812
 .byte { background: var(--bad); color: var(--paper); font-weight: 400; }
 pre .at { color: var(--bad); font-weight: 700; } code { font-size: .875rem; }
 details { margin: .4rem 0; } summary { cursor: pointer; }
-.picture { display: block; width: 100%; height: auto; margin: .4rem 0; }
+.picture { display: block; width: 100%; min-width: 44rem; height: auto; margin: .4rem 0; }
 .picture text { fill: var(--ink); font: 11px system-ui, sans-serif; }
 .picture .big { font-size: 17px; text-anchor: middle; }
 .picture .small { font-size: 11px; text-anchor: middle; }
@@ -61,5 +61,6 @@ details { margin: .4rem 0; } summary { cursor: pointer; }
 @media print { body { max-width: none; padding: 0; font-size: 11pt; }
   * { print-color-adjust: exact; -webkit-print-color-adjust: exact; }
   tr, h2, h3 { break-inside: avoid; break-after: auto; } h2, h3 { break-after: avoid; }
-  .scroll, pre { overflow: visible; } pre { white-space: pre-wrap; } }
+  .scroll, pre { overflow: visible; } .picture { min-width: 0; } table { font-size: 8pt; }
+  pre { white-space: pre-wrap; } }
 """
