@@ -6,13 +6,13 @@ COLOURS = 16
 KERNEL = 15
 
 
-def svg(name, width, height, body, label):
+def svg(name, width, height, body, label, hatch=True):
     """A picture that takes the page's width and no more than its own; a narrow page scrolls it."""
+    pattern = (f'<defs><pattern id="hatch-{name}" width="6" height="6" patternUnits="userSpaceOnUse" '
+               'patternTransform="rotate(45)"><path class="hatch" d="M0 0V6"/></pattern></defs>\n')
     return (f'<div class="scroll"><svg xmlns="http://www.w3.org/2000/svg" class="picture" role="img" '
             f'aria-label="{escape(label)}" viewBox="0 0 {width} {height}" '
-            f'style="max-width:{width}px">\n<defs><pattern id="hatch-{name}" width="6" height="6" '
-            f'patternUnits="userSpaceOnUse" patternTransform="rotate(45)">'
-            f'<path class="hatch" d="M0 0V6"/></pattern></defs>\n{body}</svg></div>\n')
+            f'style="max-width:{width}px">\n{pattern if hatch else ""}{body}</svg></div>\n')
 
 
 def owners(plan):

@@ -60,7 +60,7 @@ details { margin: .4rem 0; } summary { cursor: pointer; }
   vertical-align: -.1em; margin-right: .35em; border: 1px solid var(--line); }
 @media print { body { max-width: none; padding: 0; font-size: 11pt; }
   * { print-color-adjust: exact; -webkit-print-color-adjust: exact; }
-  tr, h2, h3 { break-inside: avoid; break-after: auto; } h2, h3 { break-after: avoid; }
+  tr, h2, h3, svg { break-inside: avoid; } h2, h3, .legend { break-after: avoid; }
   .scroll, pre { overflow: visible; } .picture { min-width: 0; } table { font-size: 8pt; }
   pre { white-space: pre-wrap; } }
 """

@@ -48,18 +48,21 @@ def messages(plan, windows):
 
 @dataclass
 class _Sheet:
-    """Where the next thing goes, and where the ops already stand (strip, x, lane)."""
+    """Where the next thing goes, what each strip holds, and where the ops stand (strip, x, lane).
+
+    Each strip is a picture of its own, so that paper breaks between strips.
+    """
     lanes: int
     stretch: float
     x: float = LEFT
-    strip: int = 0
     free: float = 0
-    body: List[str] = field(default_factory=list)
+    strips: List[List[str]] = field(default_factory=lambda: [[]])
+    arrows: List[List[str]] = field(default_factory=lambda: [[]])
     placed: Dict[Tuple[int, int], Tuple[int, float, int]] = field(default_factory=dict)
 
     @property
-    def height(self):
-        return TOP + self.lanes * LANE + 8
+    def strip(self):
+        return len(self.strips) - 1
 
     def keep(self, width):
         """Leaves the strip for the next where so much does not fit here but does fit there."""
@@ -67,7 +70,9 @@ class _Sheet:
             self._next()
 
     def _next(self):
-        self.x, self.strip, self.free = LEFT, self.strip + 1, 0
+        self.strips.append([])
+        self.arrows.append([])
+        self.x, self.free = LEFT, 0
 
     def take(self, width):
         """Room for a thing of that width: its x. A full strip is left for the next."""
@@ -77,8 +82,9 @@ class _Sheet:
         x, self.x = self.x, self.x + width
         return x
 
-    def lane_top(self, strip, lane):
-        return strip * self.height + TOP + lane * LANE
+
+def _lane_top(lane):
+    return TOP + lane * LANE
 
 
 def timeline(plan, windows, sent):
@@ -89,23 +95,27 @@ def timeline(plan, windows, sent):
     for group in groups:
         sheet.keep(sum(map(_width, group)) * stretch)
         for window in group:
-            sheet.body.append(f'<g data-window="{window.index}">')
             _window(sheet, window, scripts[window.owner])
-            sheet.body.append("</g>\n")
-    arrows = "".join(_arrow(sheet, m) for m in sent)
-    lanes = "".join(_lanes(sheet, strip, plan.domains) for strip in range(sheet.strip + 1))
-    head = ('<defs><marker id="tip" viewBox="0 0 8 8" refX="7" refY="4" markerWidth="7" '
-            'markerHeight="7" orient="auto"><path class="tip" d="M0 0L8 4L0 8Z"/></marker></defs>\n')
-    return svg("time", WIDTH + 4, (sheet.strip + 1) * sheet.height,
-               head + lanes + arrows + "".join(sheet.body), "Timeline of the run")
+    for message in sent:
+        _arrow(sheet, message)
+    lanes = _lanes(plan.domains)
+    return "".join(
+        svg(f"time-{n}", WIDTH + 4, TOP + plan.domains * LANE + 4,
+            (TIP if n == 0 else "") + lanes + "".join(sheet.arrows[n]) + "".join(drawn),
+            "Timeline of the run", hatch=n == 0)
+        for n, drawn in enumerate(sheet.strips))
 
 
-def _lanes(sheet, strip, domains):
+TIP = ('<defs><marker id="tip" viewBox="0 0 8 8" refX="7" refY="4" markerWidth="7" markerHeight="7" '
+       'orient="auto"><path class="tip" d="M0 0L8 4L0 8Z"/></marker></defs>\n')
+
+
+def _lanes(domains):
     out = []
     for d in range(domains):
-        y = sheet.lane_top(strip, d) + BAR / 2
-        out.append(f'<text class="lane" x="0" y="{y + 4:g}">domain {d}</text>'
-                   f'<path class="lane" d="M{LEFT} {y:g}H{WIDTH}"/>')
+        y = _lane_top(d) + BAR // 2
+        out.append(f'<text class="lane" x="0" y="{y + 4}">domain {d}</text>'
+                   f'<path class="lane" d="M{LEFT} {y}H{WIDTH}"/>')
     return "".join(out) + "\n"
 
 
@@ -139,36 +149,36 @@ def _groups(windows, per_round):
 
 
 def _window(sheet, window, script):
-    lane, bars, ops, pad = window.owner, [], [], None
+    """Draws a window; one that a strip cannot hold is drawn in parts."""
+    parts = {}
     for natural, kind, event in _things(window):
         width = natural * sheet.stretch
-        x, begins = sheet.take(width), not bars and not ops
-        y = sheet.lane_top(sheet.strip, lane)
-        if begins and pad is None:
-            _label(sheet, x, window)
-        if kind == "pad":
-            pad = x, y, width
-            continue
-        if bars and bars[-1][2] == y:
-            bars[-1][1] = x + width
-        else:
-            bars.append([x, x + width, y])
-        if kind == "op":
-            sheet.placed[(window.index, len(ops))] = (sheet.strip, x + width / 2, lane)
-            ops.append((x, y, width, event))
-    tip = (f"window {window.index}, domain {lane}: starts at {window.start}, ends at {window.end}, "
-           f"pad to {window.padded_end}, {count(len(ops), 'op')}")
-    for left, right, y in bars:
-        sheet.body.append(f'<rect class="d{lane}" x="{left:.1f}" y="{y}" width="{right - left:.1f}" '
-                          f'height="{BAR}"><title>{tip}</title></rect>')
-    for k, (x, y, width, event) in enumerate(ops):
-        sheet.body.append(_op(window, k, event, script, x, y, width))
-    for y in sorted({y for _, y, _, _ in ops}):
-        row = [op for op in ops if op[1] == y]
-        at = " ".join(f"{x + width / 2:.1f}" for x, _, width, _ in row)
-        sheet.body.append(f'<text class="op" x="{at}" y="{y + 16}">'
-                          f'{"".join(LETTERS[event.record.kind] for _, _, _, event in row)}</text>')
-    sheet.body.append(_pad(window, *pad))
+        x = sheet.take(width)
+        if not parts:
+            label = _label(sheet, x, window)
+        parts.setdefault(sheet.strip, []).append((x, width, kind, event))
+    k, y = 0, _lane_top(window.owner)
+    for n, (strip, things) in enumerate(parts.items()):
+        out = [f'<g data-window="{window.index}">{label}' if n == 0 else "<g>"]
+        busy = [(x, width) for x, width, kind, _ in things if kind != "pad"]
+        if busy:
+            out.append(_bar(window, busy[0][0], sum(busy[-1]), y))
+        for x, width, kind, event in things:
+            if kind == "pad":
+                out.append(_pad(window, x, y, width))
+            elif kind == "op":
+                sheet.placed[(window.index, k)] = (strip, x + width / 2, window.owner)
+                out.append(_op(window, k, event, script, x, y, width))
+                k += 1
+        out.append(_letters([t for t in things if t[2] == "op"], y) + "</g>\n")
+        sheet.strips[strip].append("".join(out))
+
+
+def _bar(window, left, right, y):
+    return (f'<rect class="d{window.owner}" x="{left:.1f}" y="{y}" width="{right - left:.1f}" '
+            f'height="{BAR}"><title>window {window.index}, domain {window.owner}: starts at '
+            f'{window.start}, ends at {window.end}, pad to {window.padded_end}, '
+            f'{count(len(window.ops), "op")}</title></rect>')
 
 
 def _op(window, k, event, script, x, y, width):
@@ -184,21 +194,29 @@ def _op(window, k, event, script, x, y, width):
             f'{edge}')
 
 
+def _letters(ops, y):
+    """The letters of a row of ops, as one text."""
+    if not ops:
+        return ""
+    at = " ".join(f"{x + width / 2:.1f}" for x, width, _, _ in ops)
+    letters = "".join(LETTERS[event.record.kind] for _, _, _, event in ops)
+    return f'<text class="op" x="{at}" y="{y + 16}">{letters}</text>'
+
+
 def _pad(window, x, y, width):
     begin = max(_ran_to(window), window.end)
     return (f'<rect class="pad" x="{x:.1f}" y="{y}" width="{width:.1f}" height="{BAR}" '
-            f'fill="url(#hatch-time)"><title>switch and pad after window {window.index}: {begin} to '
-            f'{window.padded_end}</title></rect>')
+            f'fill="url(#hatch-time-0)"><title>switch and pad after window {window.index}: {begin} '
+            f'to {window.padded_end}</title></rect>')
 
 
 def _label(sheet, x, window):
     """The window's index and start, where the label before leaves room."""
     if x < sheet.free:
-        return
-    y = sheet.strip * sheet.height
-    sheet.body.append(f'<text class="axis" x="{x:.1f}" y="{y + 12}">w{window.index}</text>'
-                      f'<text class="axis" x="{x:.1f}" y="{y + 24}">{window.start}</text>')
+        return ""
     sheet.free = x + 6 + 6 * max(len(str(window.index)) + 1, len(str(window.start)))
+    return (f'<text class="axis" x="{x:.1f}" y="12">w{window.index}</text>'
+            f'<text class="axis" x="{x:.1f}" y="24">{window.start}</text>')
 
 
 def _arrow(sheet, message):
@@ -208,31 +226,32 @@ def _arrow(sheet, message):
     tip = (f"<title>word {message.word} from domain {message.sender} (window {message.sent[0]}) to "
            f"domain {message.recipient} (window {message.got[0]})</title>")
     if here and there and here[0] == there[0]:
-        (x, y), (x2, y2) = _edge(sheet, here, down), _edge(sheet, there, -down)
-        half = (y2 - y) / 2
-        return _message(f"M{x:.1f} {y:g}C{x:.1f} {y + half:g} {x2:.1f} {y2 - half:g} {x2:.1f} {y2:g}",
-                        tip)
-    out = ""
+        (x, y), (x2, y2) = _edge(here, down), _edge(there, -down)
+        half = (y2 - y) // 2
+        sheet.arrows[here[0]].append(_message(
+            f"M{x:.1f} {y}C{x:.1f} {y + half} {x2:.1f} {y2 - half} {x2:.1f} {y2}", tip))
+        return
     if here:
-        x, y = _edge(sheet, here, down)
-        out += _message(f"M{x:.1f} {y:g}l8 {down * 9}", tip)
-        out += (f'<text class="axis" x="{x + 10:.1f}" y="{y + (14 if down > 0 else -8):g}">'
-                f'w{message.got[0]}</text>')
+        x, y = _edge(here, down)
+        sheet.arrows[here[0]].append(
+            _message(f"M{x:.1f} {y}l8 {down * 9}", tip)
+            + f'<text class="axis" x="{x + 10:.1f}" y="{y + (14 if down > 0 else -6)}">'
+              f'w{message.got[0]}</text>\n')
     if there:
-        x, y = _edge(sheet, there, -down)
-        out += _message(f"M{x - 8:.1f} {y - down * 9:g}L{x:.1f} {y:g}", tip)
-        out += (f'<text class="axis end" x="{x - 10:.1f}" y="{y - (8 if down > 0 else -14):g}">'
-                f'w{message.sent[0]}</text>')
-    return out
+        x, y = _edge(there, -down)
+        sheet.arrows[there[0]].append(
+            _message(f"M{x - 8:.1f} {y - down * 9}L{x:.1f} {y}", tip)
+            + f'<text class="axis end" x="{x - 10:.1f}" y="{y - (6 if down > 0 else -14)}">'
+              f'w{message.sent[0]}</text>\n')
 
 
-def _edge(sheet, place, side):
+def _edge(place, side):
     """The middle of a bar's lower (side 1) or upper (side -1) edge at an op.
 
     Arrows are drawn before the ops, so that one which passes a lane hides no letter there.
     """
-    strip, x, lane = place
-    return x, sheet.lane_top(strip, lane) + BAR / 2 + side * (BAR / 2)
+    _, x, lane = place
+    return x, _lane_top(lane) + BAR // 2 + side * (BAR // 2)
 
 
 def _message(path, tip):
@@ -247,5 +266,6 @@ def legend():
              ("barred", "not the domain's line"))
     chips = "".join(f'<span class="chip"><span class="key {kind}">{LETTERS[kind]}</span> {kind}: '
                     f'{escape(words)}</span> ' for kind, words in kinds)
-    return f'<p class="legend">{chips}<span class="chip"><span class="key pad">&#160;</span> switch and pad' \
-           f'</span> <span class="chip"><span class="key arrow">&#8594;</span> message</span></p>\n'
+    return (f'<p class="legend">{chips}<span class="chip"><span class="key pad">&#160;</span> '
+            f'switch and pad</span> <span class="chip"><span class="key arrow">&#8594;</span> '
+            f'message</span></p>\n')
