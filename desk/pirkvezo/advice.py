@@ -8,7 +8,7 @@ from typing import List, Optional
 
 from .layout import count, ranges
 from .plans import Plan
-from .refusals import forms, place
+from .refusals import forms, line_and_column
 from .worlds import World
 
 LINES, KERNEL_COLOUR, COLOURS = 4096, 15, 15
@@ -67,7 +67,7 @@ def warnings(plan: Plan) -> List[Warning]:
     world.run()
     for domain in range(plan.domains):
         ops, owned = plan.ops(domain), any(window.owner == domain for window in plan.windows)
-        at = place(plan.text, domain_lines[domain])
+        at = line_and_column(plan.text, domain_lines[domain])
         if not owned:
             left = f", so its {count(len(ops), 'op')} never run" if ops else ""
             found.append(Warning("no window", f"domain {domain} has no window{left}", *at))
@@ -75,7 +75,7 @@ def warnings(plan: Plan) -> List[Warning]:
             done = world.positions[domain]
             found.append(Warning("unfinished", f"domain {domain}: the run is over when {done} of "
                                  f"{count(len(ops), 'op')} are done",
-                                 *place(plan.text, op_lines[domain][done])))
+                                 *line_and_column(plan.text, op_lines[domain][done])))
         seen = collections.Counter()
         for op in ops:
             seen[op] += 1
@@ -85,7 +85,7 @@ def warnings(plan: Plan) -> List[Warning]:
                 times = seen.pop(op)
                 more = "" if times == 1 else f" ({times} times in the script)"
                 found.append(Warning("never allowed", f"domain {domain}: {op} {why}{more}",
-                                     *place(plan.text, op_lines[domain][position])))
+                                     *line_and_column(plan.text, op_lines[domain][position])))
     return sorted(found, key=lambda warning: (warning.line or 0, warning.column or 0))
 
 

@@ -50,13 +50,14 @@ def parser():
 
 def main(arguments=None):
     """Runs the command line; the exit status."""
+    if sys.stdout is None:
+        return _fail("standard output is closed")
     for stream in (sys.stdout, sys.stderr):
         if hasattr(stream, "reconfigure"):
             stream.reconfigure(errors="backslashreplace")
     try:
         status = _main(arguments)
-        if sys.stdout is not None:
-            sys.stdout.flush()
+        sys.stdout.flush()
         return status
     except BrokenPipeError:
         # whoever read has gone: nothing is left to say, and nothing more to flush
@@ -87,5 +88,6 @@ def _main(arguments):
 
 
 def _fail(message, status=2):
-    print(f"pirkvezo: {message}", file=sys.stderr)
+    if sys.stderr is not None:
+        print(f"pirkvezo: {message}", file=sys.stderr)
     return status

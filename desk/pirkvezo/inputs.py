@@ -50,17 +50,17 @@ def plan_file(name: str) -> PlanFile:
     return PlanFile(said, text)
 
 
-def number_of(name, low, high):
+def number_of(low, high):
     """The type of an option that takes a number within limits."""
     def number(said):
         if not said.isascii() or not said.isdigit() or len(said) > 12 or not low <= int(said) <= high:
-            raise argparse.ArgumentTypeError(f"{name} is a number from {low} to {high}")
+            raise argparse.ArgumentTypeError(f"a number from {low} to {high} is due")
         return int(said)
     return number
 
 
 def refusal_lines(name, refused):
-    """A refusal as a compiler would say it: place and words, the line with a caret, and the fix."""
+    """A refusal as a compiler would say it: line, column and words, the line with a caret, and the fix."""
     line, caret = excerpt(refused.text, refused.offset)
     lines = [f"{name}:{refused.line}:{refused.column}: {refused.words} [{refused.number}]"]
     if line.strip():

@@ -116,10 +116,10 @@ def tokens(text: bytes, start: int = 0) -> List[Token]:
             for found in re.finditer(rb"[()]|[^() \n]+", text)]
 
 
-def place(text: bytes, offset: int) -> Tuple[int, int]:
+def line_and_column(text: bytes, offset: int) -> Tuple[int, int]:
     """Line and column of an offset, as an editor counts them.
 
-    >>> place(b"(pad 276)\\n(run 1)", 15)
+    >>> line_and_column(b"(pad 276)\\n(run 1)", 15)
     (2, 6)
     """
     start = text.rfind(b"\n", 0, offset) + 1
@@ -160,7 +160,7 @@ def explain(number: int, companion: int, text: Optional[bytes]) -> Explanation:
     if text is None or number > 10:
         return Explanation(None, None, None, CALLS.get(number, "refused"), "")
     offset, words, fix = _READING[number](companion, text)
-    line, column = place(text, offset)
+    line, column = line_and_column(text, offset)
     return Explanation(offset, line, column, words, fix)
 
 
@@ -317,7 +317,7 @@ def _missing(offset, text):
     if offset < len(text) and text[offset:offset + 1] == b"(" and not before_end:
         word = str(tokens(line_of(text, offset)[1])[1])
         first = forms(text, word)[0][0].offset
-        return offset, f"a second {word}; the first is in line {place(text, first)[0]}", \
+        return offset, f"a second {word}; the first is in line {line_and_column(text, first)[0]}", \
             f"keep one {word} line"
     lacking = [word for word in ("pad", "domain", "window", "run") if not forms(text, word)]
     said = lacking[0] if len(lacking) == 1 else ", ".join(lacking[:-1]) + " or " + lacking[-1]

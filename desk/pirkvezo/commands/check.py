@@ -1,4 +1,4 @@
-"""check: accepted with warnings, or refused with place, cause and fix."""
+"""check: accepted with warnings, or refused with line, cause and fix."""
 import json
 
 from ..advice import warnings

@@ -23,9 +23,9 @@ Where a run is stopped by --windows, its last line is (stopped WINDOWS CLOCK) an
 def add_arguments(parser):
     parser.add_argument("plan", metavar="PLAN", type=plan_file, help="a plan's file, or - for standard input")
     parser.add_argument("--log-length", metavar="BYTES", default=16384, help="the log's bytes (16384)",
-                        type=number_of("a log's length", 0, 1 << 24))
+                        type=number_of(0, 1 << 24))
     parser.add_argument("--windows", metavar="N", help="stop when N windows are completed",
-                        type=number_of("--windows", 0, 32000))
+                        type=number_of(0, 32000))
     form = parser.add_mutually_exclusive_group()
     form.add_argument("--table", action="store_true", help="for people: by domain, with windows and sums")
     form.add_argument("--csv", action="store_true", help="one line for each record")
@@ -62,22 +62,23 @@ def _refused(args, refused):
     elif args.table:
         print(words)
     else:
-        print(f"(refused {refused.number} {refused.companion})", flush=True)
+        if not args.csv:
+            print(f"(refused {refused.number} {refused.companion})", flush=True)
         print(words, file=sys.stderr)
     return 1
 
 
 def summary(plan, log_length, windows=None):
-    """What each domain saw, with window and place in it, and sums, as values."""
+    """What each domain saw, with window and index in it, and sums, as values."""
     passed = history(plan, log_length, windows)
     room = log_length // (8 * plan.domains)
     domains = []
     for domain in range(plan.domains):
         own = [window for window in passed if window.owner == domain]
-        records = [dict(window=window.index, place=place, position=event.position,
+        records = [dict(window=window.index, index=index, position=event.position,
                         begin=event.begin, clock=event.end, kind=event.record.kind,
                         value=event.record.value)
-                   for window in own for place, event in enumerate(window.ops)]
+                   for window in own for index, event in enumerate(window.ops)]
         kinds = collections.Counter(record["kind"] for record in records)
         ops = plan.ops(domain)
         domains.append(dict(
@@ -109,8 +110,8 @@ def summary_lines(name, made):
         lines += ["", f"Domain {entry['domain']}"]
         if entry["records"]:
             lines += columns(
-                ["window", "place", "op", "begin", "clock", "saw"],
-                [[record["window"], record["place"], record["position"], record["begin"],
+                ["window", "index", "op", "begin", "clock", "saw"],
+                [[record["window"], record["index"], record["position"], record["begin"],
                   record["clock"], f"({record['kind']} {record['value']})"] for record in entry["records"]],
                 left=["saw"])
         left = entry["never_reached"]
@@ -130,8 +131,8 @@ def summary_lines(name, made):
 
 def _csv(made):
     rows = csv.writer(sys.stdout, lineterminator="\n")
-    rows.writerow(["domain", "window", "place", "position", "begin", "clock", "kind", "value"])
+    rows.writerow(["domain", "window", "index", "position", "begin", "clock", "kind", "value"])
     for entry in made["domains"]:
         for record in entry["records"]:
             rows.writerow([entry["domain"]] + [record[name] for name in
-                          ("window", "place", "position", "begin", "clock", "kind", "value")])
+                          ("window", "index", "position", "begin", "clock", "kind", "value")])

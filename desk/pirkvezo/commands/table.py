@@ -66,20 +66,19 @@ def table_lines(name, plan, made):
     held = sum(made["let"])
     lines = [name, "", "Shares"]
     lines += columns(
-        ["domain", "share", "holding", "colours", "squares", "sets", "lines", "lost", "may send to"],
+        ["domain", "share", "holding", "colours", "squares", "sets", "lines", "lost", "spare",
+         "may send to"],
         [[entry["domain"], entry["share"], entry["holding"], ranges(entry["colours"]),
           squares(entry["colours"]), ranges(entry["sets"]), entry["lines"],
-          f"{entry['lost_colour'] / 1000:.3f}", ranges(entry["may"])] for entry in domains]
+          f"{entry['lost_colour'] / 1000:.3f}", entry["lost_share"], ranges(entry["may"])] for entry in domains]
         + [["all", sum(plan.shares), held, "", "", "", sum(entry["lines"] for entry in domains),
-            f"{sum(entry['lost_colour'] for entry in domains) / 1000:.3f}", ""]],
+            f"{sum(entry['lost_colour'] for entry in domains) / 1000:.3f}",
+            sum(entry["lost_share"] for entry in domains), ""]],
         left=["colours", "squares", "sets", "may send to"])
     lines += [
         "holding: colours held. lines: how many of the lines 0 to 4095 the domain may touch, those with",
-        "(line mod 64) in its sets. lost: the part of a colour that rounding down took."]
-    spare = [f"{entry['domain']} ({entry['lost_share']} less gives the same)" for entry in domains
-             if entry["lost_share"]]
-    if spare:
-        lines.append("Shares that could be smaller: domain " + ", ".join(spare) + ".")
+        "(line mod 64) in its sets. lost: the part of a colour that rounding down took. spare: by how",
+        "much the share could be smaller and give as many colours."]
     lines += ["", f"Unsold colours: {ranges(made['unsold'])}. Colour {KERNEL_COLOUR} is the kernel's."]
     if twice or made["let"][KERNEL_COLOUR]:
         lines.append(f"Counted colour by colour: WRONG, let twice or the kernel's: {ranges(twice)}.")
