@@ -66,13 +66,14 @@ class Pairs(unittest.TestCase):
                          (1, 1000, 0, 500, 600))
         self.assertEqual(found.broken(), ())
         _, out, _ = said(FILTER, other)
-        self.assertIn("the box from domain 0, when window 1 began at 1000: word 500 in A, word 600 in B",
-                      out)
+        self.assertIn("the box from domain 0, when window 1 began at 1000: word 500 in A, "
+                      "word 600 in B", out)
 
     def test_an_empty_box_against_a_word(self):
         other = FILTER.replace(b"(op 0 (send 1 500))\n", b"")
         found = compare(read(FILTER), read(other))
-        self.assertEqual((found.domains[1].crossed[0].a, found.domains[1].crossed[0].b), (500, None))
+        crossing = found.domains[1].crossed[0]
+        self.assertEqual((crossing.a, crossing.b), (500, None))
 
     def test_one_run_with_fewer_records(self):
         other = FILTER.replace(b"(op 1 (send 0 1))\n", b"")

@@ -35,7 +35,8 @@ class Page(unittest.TestCase):
             with self.subTest(command):
                 self.assertIn("./pirkvezo ", command)
                 ran = subprocess.run(["bash", "-c", command], cwd=ROOT, env=environment,
-                                     stdout=subprocess.PIPE, stderr=subprocess.STDOUT, encoding="utf-8")
+                                     stdout=subprocess.PIPE, stderr=subprocess.STDOUT,
+                                     encoding="utf-8")
                 self.assertEqual(ran.stdout.split(), words)
 
     def test_every_command_is_on_the_page(self):

@@ -18,7 +18,8 @@ MOST_CROSSINGS = 8
 
 
 def add_arguments(parser):
-    parser.add_argument("a", metavar="A", type=plan_file, help="a plan's file, or - for standard input")
+    parser.add_argument("a", metavar="A", type=plan_file,
+                        help="a plan's file, or - for standard input")
     parser.add_argument("b", metavar="B", type=plan_file, help="the plan to compare it with")
     parser.add_argument("--log-length", metavar="BYTES", default=LOG_LENGTH,
                         type=number_of(0, 1 << 24),

@@ -6,13 +6,16 @@ COLOURS = 16
 KERNEL = 15
 
 
-def svg(name, width, height, body, label, hatch=True):
+# what unsold colours and pads are filled with; the page's first picture brings it for all
+HATCH = ('<defs><pattern id="hatch" width="6" height="6" patternUnits="userSpaceOnUse" '
+         'patternTransform="rotate(45)"><path class="hatch" d="M0 0V6"/></pattern></defs>\n')
+
+
+def svg(width, height, body, label):
     """A picture that takes the page's width and no more than its own; a narrow page scrolls it."""
-    pattern = (f'<defs><pattern id="hatch-{name}" width="6" height="6" patternUnits="userSpaceOnUse" '
-               'patternTransform="rotate(45)"><path class="hatch" d="M0 0V6"/></pattern></defs>\n')
-    return (f'<div class="scroll"><svg xmlns="http://www.w3.org/2000/svg" class="picture" role="img" '
+    return ('<div class="scroll"><svg xmlns="http://www.w3.org/2000/svg" class="picture" role="img" '
             f'aria-label="{escape(label)}" viewBox="0 0 {width} {height}" '
-            f'style="max-width:{width}px">\n{pattern if hatch else ""}{body}</svg></div>\n')
+            f'style="max-width:{width}px">\n{body}</svg></div>\n')
 
 
 def owners(plan):
@@ -32,14 +35,13 @@ def share_picture(plan):
             tip = " and ".join(f"domain {d}" for d in holders)
         else:
             style, word, tip = "unsold", "", "nobody's: not sold, or lost in rounding"
-        fill = ' fill="url(#hatch-share)"' if style == "unsold" else ""
         first = 4 * colour
         body.append(
             f'<g data-colour="{colour}"><title>colour {colour}: {tip}; sets {first} to {first + 3}'
-            f'</title><rect class="{style}" x="{x}" y="2" width="{size}" height="{size}" rx="4"'
-            f'{fill}/><text class="big" x="{x + size // 2}" y="26">{colour}</text>'
+            f'</title><rect class="{style}" x="{x}" y="2" width="{size}" height="{size}" rx="4"/>'
+            f'<text class="big" x="{x + size // 2}" y="26">{colour}</text>'
             f'<text class="small" x="{x + size // 2}" y="44">{word}</text></g>\n')
-    return svg("share", 2 + COLOURS * step, size + 6, "".join(body),
+    return svg(2 + COLOURS * step, size + 6, HATCH + "".join(body),
                "The sixteen colours of the cache and who holds each")
 
 
@@ -51,12 +53,12 @@ def round_picture(plan):
     for k, window in enumerate(plan.windows):
         x, w, p = at * scale, window.length * scale, plan.pad * scale
         pads.append(
-            f'<rect class="pad" x="{x + w:.2f}" y="2" width="{max(p, 0.5):.2f}" height="34" '
-            f'fill="url(#hatch-round)"><title>pad after window {k}: {plan.pad} ticks</title></rect>\n')
+            f'<rect class="pad" x="{x + w:.2f}" y="2" width="{max(p, 0.5):.2f}" height="34">'
+            f'<title>pad after window {k}: {plan.pad} ticks</title></rect>\n')
         # a window of one tick is still to be seen
         windows.append(
-            f'<rect class="d{window.owner}" x="{x:.2f}" y="2" width="{max(w, 1.5):.2f}" height="34">'
-            f'<title>window {k} of a round: domain {window.owner}, {count(window.length, "tick")} '
+            f'<rect class="d{window.owner}" x="{x:.2f}" y="2" width="{max(w, 1.5):.2f}" '
+            f'height="34"><title>window {k} of a round: domain {window.owner}, {count(window.length, "tick")} '
             f'from {at}</title></rect>')
         if w > 22:
             windows.append(f'<text class="small" x="{x + w / 2:.2f}" y="23">d{window.owner}</text>')
@@ -64,4 +66,4 @@ def round_picture(plan):
     body = pads + windows
     body.append(f'<text class="axis" x="0" y="50">0</text>'
                 f'<text class="axis end" x="{width}" y="50">{ticks} ticks</text>\n')
-    return svg("round", width, 54, "".join(body), "One round of windows and pads, to scale")
+    return svg(width, 54, "".join(body), "One round of windows and pads, to scale")

@@ -41,7 +41,7 @@ details { margin: .4rem 0; } summary { cursor: pointer; }
 .hatch { stroke: var(--soft); stroke-width: 2; opacity: .55; }
 .message { fill: none; stroke: var(--arrow); stroke-width: 1.6; } .tip { fill: var(--arrow); }
 .edge { stroke: var(--bad); stroke-width: 2; }
-.unsold, .picture rect.pad { stroke: var(--line); }
+.unsold, .picture rect.pad { fill: url(#hatch); stroke: var(--line); }
 .key.pad { background: repeating-linear-gradient(45deg, var(--soft) 0 2px, transparent 2px 5px); }
 .key.arrow { color: var(--arrow); background: none; }
 .kernel { fill: var(--kernel); background: var(--kernel); }

@@ -100,14 +100,14 @@ def timeline(plan, windows, sent):
         _arrow(sheet, message)
     lanes = _lanes(plan.domains)
     return "".join(
-        svg(f"time-{n}", WIDTH + 4, TOP + plan.domains * LANE + 4,
+        svg(WIDTH + 4, TOP + plan.domains * LANE + 4,
             (TIP if n == 0 else "") + lanes + "".join(sheet.arrows[n]) + "".join(drawn),
-            "Timeline of the run", hatch=n == 0)
+            "Timeline of the run")
         for n, drawn in enumerate(sheet.strips))
 
 
-TIP = ('<defs><marker id="tip" viewBox="0 0 8 8" refX="7" refY="4" markerWidth="7" markerHeight="7" '
-       'orient="auto"><path class="tip" d="M0 0L8 4L0 8Z"/></marker></defs>\n')
+TIP = ('<defs><marker id="tip" viewBox="0 0 8 8" refX="7" refY="4" markerWidth="7" '
+       'markerHeight="7" orient="auto"><path class="tip" d="M0 0L8 4L0 8Z"/></marker></defs>\n')
 
 
 def _lanes(domains):
@@ -159,13 +159,15 @@ def _window(sheet, window, script):
         parts.setdefault(sheet.strip, []).append((x, width, kind, event))
     k, y = 0, _lane_top(window.owner)
     for n, (strip, things) in enumerate(parts.items()):
-        out = [f'<g data-window="{window.index}">{label}' if n == 0 else "<g>"]
+        out = [f'<g data-window="{window.index}">' if n == 0 else "<g>", _tip(window)]
+        out.append(label if n == 0 else "")
         busy = [(x, width) for x, width, kind, _ in things if kind != "pad"]
         if busy:
             out.append(_bar(window, busy[0][0], sum(busy[-1]), y))
         for x, width, kind, event in things:
             if kind == "pad":
-                out.append(_pad(window, x, y, width))
+                out.append(f'<rect class="pad" x="{x:.1f}" y="{y}" width="{width:.1f}" '
+                           f'height="{BAR}"/>')
             elif kind == "op":
                 sheet.placed[(window.index, k)] = (strip, x + width / 2, window.owner)
                 out.append(_op(window, k, event, script, x, y, width))
@@ -176,9 +178,13 @@ def _window(sheet, window, script):
 
 def _bar(window, left, right, y):
     return (f'<rect class="d{window.owner}" x="{left:.1f}" y="{y}" width="{right - left:.1f}" '
-            f'height="{BAR}"><title>window {window.index}, domain {window.owner}: starts at '
-            f'{window.start}, ends at {window.end}, pad to {window.padded_end}, '
-            f'{count(len(window.ops), "op")}</title></rect>')
+            f'height="{BAR}"/>')
+
+
+def _tip(window):
+    """The window's numbers: what the pointer shows over its bar and its pad."""
+    return (f"<title>window {window.index}, domain {window.owner}: {window.start} to {window.end}, "
+            f"pad to {window.padded_end}, {count(len(window.ops), 'op')}</title>")
 
 
 def _op(window, k, event, script, x, y, width):
@@ -201,13 +207,6 @@ def _letters(ops, y):
     at = " ".join(f"{x + width / 2:.1f}" for x, width, _, _ in ops)
     letters = "".join(LETTERS[event.record.kind] for _, _, _, event in ops)
     return f'<text class="op" x="{at}" y="{y + 16}">{letters}</text>'
-
-
-def _pad(window, x, y, width):
-    begin = max(_ran_to(window), window.end)
-    return (f'<rect class="pad" x="{x:.1f}" y="{y}" width="{width:.1f}" height="{BAR}" '
-            f'fill="url(#hatch-time-0)"><title>switch and pad after window {window.index}: {begin} '
-            f'to {window.padded_end}</title></rect>')
 
 
 def _label(sheet, x, window):
