@@ -3,7 +3,7 @@ import json
 import sys
 
 from ..compare import LOG_LENGTH, compare
-from ..inputs import number_of, plan_file, refusal_lines
+from ..inputs import number_of, plan_file, refusal_lines, refusal_values
 from ..layout import count, ranges
 from ..plans import read
 from ..refusals import Refused
@@ -35,11 +35,15 @@ def run(args):
         try:
             plans.append(read(file.text))
         except Refused as refused:
-            print("\n".join(refusal_lines(file.name, refused)), file=sys.stderr)
+            if args.json:
+                print(json.dumps({"file": file.name, "refusal": refusal_values(refused)}, indent=2))
+            else:
+                print("\n".join(refusal_lines(file.name, refused)), file=sys.stderr)
             return 1
     found = compare(*plans, args.log_length, args.windows)
     if args.json:
-        print(json.dumps(values(found), indent=2))
+        named = {"a": args.a.name, "b": args.b.name, "refusal": None}
+        print(json.dumps({**named, **values(found)}, indent=2))
     else:
         print(f"A: {args.a.name}\nB: {args.b.name}")
         print("\n".join(lines(found)))
@@ -58,8 +62,8 @@ def lines(found):
 
 def _heading(found):
     if found.beyond:
-        return ["The plans differ in more than scripts, so the promise does not cover this pair:"] + \
-            [f"  {words}" for words in found.beyond] + _scripts(found)
+        head = "The plans differ in more than scripts, so the promise does not cover this pair:"
+        return [head] + [f"  {words}" for words in found.beyond] + _scripts(found)
     if not found.scripts:
         return ["The two plans say the same, scripts and all."]
     return ["The plans differ in scripts alone, so the promise covers this pair."] + _scripts(found)
@@ -83,8 +87,9 @@ def _domain(found, domain):
     if not domain.script:
         out.append("  its own script differs, so the promise does not speak of it")
     for crossing in domain.crossed[:MOST_CROSSINGS]:
-        out.append(f"  crossed: the box from domain {crossing.sender}, when window {crossing.window} "
-                   f"began at {crossing.start}: {_box(crossing.a)} in A, {_box(crossing.b)} in B")
+        out.append(f"  crossed: the box from domain {crossing.sender}, when window "
+                   f"{crossing.window} began at {crossing.start}: {_box(crossing.a)} in A, "
+                   f"{_box(crossing.b)} in B")
     rest = len(domain.crossed) - MOST_CROSSINGS
     if rest > 0:
         out.append(f"  and {count(rest, 'difference')} more of boxes at later starts")
@@ -110,7 +115,7 @@ def _verdict(found):
         return (f"THIS MUST NOT HAPPEN: domain {bad} saw a difference before any box differed. The "
                 "promise is proved, so the desk or its library is at fault.")
     if found.beyond:
-        return "The promise is about one plan with two sets of scripts: it says nothing of this pair."
+        return "The promise is about one plan with two sets of scripts; it is silent on this pair."
     rivals = [d for d in found.domains if d.script]
     if all(d.same for d in rivals):
         return "Every domain whose own script is the same sees the same."

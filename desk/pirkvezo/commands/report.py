@@ -75,8 +75,12 @@ def run(args):
                   file=sys.stderr)
             return 2
         written = page(args.plan.name, plan, args.log_length, args.windows,
-                       [w.words for w in warnings(plan)])
+                       [_worded(w) for w in warnings(plan)])
     return _write(args, written) or status
+
+
+def _worded(warning):
+    return warning.words if warning.line is None else f"line {warning.line}: {warning.words}"
 
 
 def _write(args, written):
@@ -88,7 +92,8 @@ def _write(args, written):
             sys.stdout.buffer.flush()
             return 0
         if _holds(args.output, args.plan.text):
-            print(f"pirkvezo report: {shown_name(args.output)}: is the plan itself", file=sys.stderr)
+            print(f"pirkvezo report: {shown_name(args.output)}: is the plan itself",
+                  file=sys.stderr)
             return 2
         with open(args.output, "wb") as out:
             out.write(data)

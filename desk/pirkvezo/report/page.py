@@ -64,8 +64,9 @@ def _whole(name, parts):
             '<meta charset="utf-8"/><meta name="viewport" content="width=device-width, '
             f'initial-scale=1"/>\n<title>{escape(name)}: plan report</title>\n'
             f'<style>{STYLE}</style></head>\n<body>\n{"".join(parts)}'
-            '<p class="note">Verdict, colours, clocks and records come from the proved library; this '
-            'page lays them out and draws them, and is not itself proved.</p>\n</body></html>\n')
+            '<p class="note">Verdict, colours, clocks and records come from the proved library; '
+            'this page lays them out and draws them, and is not itself proved.</p>\n'
+            '</body></html>\n')
 
 
 def _drawn(plan, run, chosen):
@@ -152,17 +153,17 @@ def _percent(part, plan):
 
 def _timeline(plan, run, drawn, folded):
     note = ("Widths are not to scale: short ops are widened, idle time and pads are shortened. "
-            "Above each window stand its index and its start. Hold the pointer over anything for its "
-            "numbers; the tables below have them all. A red line marks a window's end that an op "
-            "ran past. An arrow that leaves its strip names the window of its other end.")
+            "Above each window stand its index and its start. Hold the pointer over anything for "
+            "its numbers; the tables below have them all. A red line marks a window's end that an "
+            "op ran past. An arrow that leaves its strip names the window of its other end.")
     fold = f"<p>{_fold_words(folded)}</p>\n" if folded else ""
     return (f"<h2>Timeline</h2>\n{legend()}{timeline(plan, drawn, messages(plan, run))}{fold}"
             f'<p class="note">{note}</p>\n')
 
 
 def _fold_words(folded):
-    return (f"Windows {folded[0].index} to {folded[-1].index} pass idle like the round before them, "
-            f"from {folded[0].start} to {folded[-1].padded_end}.")
+    return (f"Windows {folded[0].index} to {folded[-1].index} pass idle like the round before "
+            f"them, from {folded[0].start} to {folded[-1].padded_end}.")
 
 
 def _domains(plan, run, log_length):

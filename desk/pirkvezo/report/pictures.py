@@ -13,8 +13,8 @@ HATCH = ('<defs><pattern id="hatch" width="6" height="6" patternUnits="userSpace
 
 def svg(width, height, body, label):
     """A picture that takes the page's width and no more than its own; a narrow page scrolls it."""
-    return ('<div class="scroll"><svg xmlns="http://www.w3.org/2000/svg" class="picture" role="img" '
-            f'aria-label="{escape(label)}" viewBox="0 0 {width} {height}" '
+    return ('<div class="scroll"><svg xmlns="http://www.w3.org/2000/svg" class="picture" '
+            f'role="img" aria-label="{escape(label)}" viewBox="0 0 {width} {height}" '
             f'style="max-width:{width}px">\n{body}</svg></div>\n')
 
 
@@ -58,8 +58,8 @@ def round_picture(plan):
         # a window of one tick is still to be seen
         windows.append(
             f'<rect class="d{window.owner}" x="{x:.2f}" y="2" width="{max(w, 1.5):.2f}" '
-            f'height="34"><title>window {k} of a round: domain {window.owner}, {count(window.length, "tick")} '
-            f'from {at}</title></rect>')
+            f'height="34"><title>window {k} of a round: domain {window.owner}, '
+            f'{count(window.length, "tick")} from {at}</title></rect>')
         if w > 22:
             windows.append(f'<text class="small" x="{x + w / 2:.2f}" y="23">d{window.owner}</text>')
         at += window.length + plan.pad
