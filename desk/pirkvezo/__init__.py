@@ -1,0 +1,20 @@
+"""Pirkvezo from Python: read a plan, run it, look at what each domain saw.
+
+    >>> import pirkvezo
+    >>> plan = pirkvezo.read(b"(pad 276)\\n(domain 0 (share 400) (may))\\n"
+    ...                      b"(window 0 (length 300))\\n(run 1)\\n(op 0 (read 3))\\n")
+    >>> world = pirkvezo.World.fresh(plan)
+    >>> world.run()
+    Run(steps=2, ended=True)
+    >>> [str(record) for record in world.log(0)]
+    ['(miss 3)']
+
+Every number that decides anything comes from the proved library through its C interface. This
+package lays it out as Python values and puts words to it; the package itself is not proved.
+"""
+from .library import LibraryMissing
+from .plans import Op, Plan, Window, read
+from .refusals import Refused
+from .worlds import Record, Run, World
+
+__all__ = ["read", "Plan", "Op", "Window", "Refused", "World", "Record", "Run", "LibraryMissing"]

@@ -1,0 +1,93 @@
+"""The command line. A command is a module of pirkvezo/commands with NAME, HELP,
+add_arguments(parser) and run(args) -> exit status, and perhaps EXAMPLE for its help."""
+import argparse
+import importlib
+import os
+import pkgutil
+import sys
+
+from . import build, commands
+from .library import LibraryMissing
+
+ABOUT = """Check, see, compare and report plans.
+
+Every number that decides anything (verdict, masks, clocks, records) comes from the proved library.
+What is around it only words, lays out and draws, and is not proved.
+"""
+EXIT = """exit status: 0 done, 1 a plan was refused, 2 bad arguments, a file that cannot be read, or a
+library that cannot be built"""
+
+
+class Parser(argparse.ArgumentParser):
+    """Says what is wrong with arguments in one line."""
+
+    def __init__(self, *given, **options):
+        super().__init__(*given, formatter_class=argparse.RawDescriptionHelpFormatter,
+                         allow_abbrev=False, **options)
+
+    def error(self, message):
+        self.exit(2, f"{self.prog}: {' '.join(message.split())} (see {self.prog} --help)\n")
+
+
+def modules():
+    """The command modules, by name."""
+    found = (importlib.import_module(f"{commands.__name__}.{module.name}")
+             for module in pkgutil.iter_modules(commands.__path__))
+    return sorted(found, key=lambda module: module.NAME)
+
+
+def parser():
+    top = Parser(prog="pirkvezo", description=ABOUT, epilog=EXIT)
+    chosen = top.add_subparsers(metavar="COMMAND", dest="command")
+    for module in modules():
+        example = getattr(module, "EXAMPLE", None)
+        sub = chosen.add_parser(module.NAME, help=module.HELP, description=module.HELP,
+                                epilog="\n\n".join(filter(None, [example, EXIT])), prog=f"pirkvezo {module.NAME}")
+        module.add_arguments(sub)
+        sub.set_defaults(run_command=module.run)
+    return top
+
+
+def main(arguments=None):
+    """Runs the command line; the exit status."""
+    if sys.stdout is None:
+        return _fail("standard output is closed")
+    for stream in (sys.stdout, sys.stderr):
+        if hasattr(stream, "reconfigure"):
+            stream.reconfigure(errors="backslashreplace")
+    try:
+        status = _main(arguments)
+        sys.stdout.flush()
+        return status
+    except BrokenPipeError:
+        # whoever read has gone: nothing is left to say, and nothing more to flush
+        os.dup2(os.open(os.devnull, os.O_WRONLY), 1)
+        return 2
+    except OSError as why:
+        os.dup2(os.open(os.devnull, os.O_WRONLY), 1)
+        return _fail(f"cannot write or read: {(why.strerror or str(why)).lower()}")
+
+
+def _main(arguments):
+    top = parser()
+    try:
+        args = top.parse_args(arguments)
+        if not args.command:
+            top.error("a command is missing: " + ", ".join(module.NAME for module in modules()))
+    except SystemExit as left:
+        return left.code
+    try:
+        build.ensure()
+        return args.run_command(args)
+    except (LibraryMissing, build.CannotBuild) as why:
+        return _fail(str(why))
+    except MemoryError:
+        return _fail("not enough memory")
+    except KeyboardInterrupt:
+        return _fail("stopped", 130)
+
+
+def _fail(message, status=2):
+    if sys.stderr is not None:
+        print(f"pirkvezo: {message}", file=sys.stderr)
+    return status

@@ -1,0 +1,1 @@
+"""One module for each command: adding a command is adding a file here."""

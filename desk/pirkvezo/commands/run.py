@@ -1,0 +1,138 @@
+"""run: what each domain saw, as planrun prints it, as a table, as CSV or as JSON."""
+import collections
+import csv
+import json
+import sys
+
+from ..history import history
+from ..inputs import number_of, plan_file, refusal_lines, refusal_values
+from ..layout import columns, count
+from ..plans import read
+from ..refusals import Refused
+from ..worlds import RECORD_KINDS, World
+
+NAME = "run"
+HELP = "run a plan and print what each domain saw"
+EXAMPLE = """example:
+  pirkvezo run examples/worked_example.plan
+  pirkvezo run --table --windows 1 examples/worked_example.plan
+
+Where a run is stopped by --windows, its last line is (stopped WINDOWS CLOCK) and not (end ..)."""
+
+
+def add_arguments(parser):
+    parser.add_argument("plan", metavar="PLAN", type=plan_file, help="a plan's file, or - for standard input")
+    parser.add_argument("--log-length", metavar="BYTES", default=16384, help="the log's bytes (16384)",
+                        type=number_of(0, 1 << 24))
+    parser.add_argument("--windows", metavar="N", help="stop when N windows are completed",
+                        type=number_of(0, 32000))
+    form = parser.add_mutually_exclusive_group()
+    form.add_argument("--table", action="store_true", help="for people: by domain, with windows and sums")
+    form.add_argument("--csv", action="store_true", help="one line for each record")
+    form.add_argument("--json", action="store_true", help="for programs")
+
+
+def run(args):
+    try:
+        plan = read(args.plan.text)
+    except Refused as refused:
+        return _refused(args, refused)
+    if args.table or args.csv or args.json:
+        made = summary(plan, args.log_length, args.windows)
+        if args.json:
+            print(json.dumps(dict(file=args.plan.name, refusal=None, **made), indent=2))
+        elif args.csv:
+            _csv(made)
+        else:
+            print("\n".join(summary_lines(args.plan.name, made)))
+        return 0
+    world = World.fresh(plan, args.log_length)
+    ended = (world.run() if args.windows is None else world.run_windows(args.windows)).ended
+    for domain in range(plan.domains):
+        for record in world.log(domain):
+            print(f"(seen {domain} {record.clock} {record})")
+    print(f"({'end' if ended else 'stopped'} {world.windows} {world.clock})")
+    return 0
+
+
+def _refused(args, refused):
+    words = "\n".join(refusal_lines(args.plan.name, refused))
+    if args.json:
+        print(json.dumps(dict(file=args.plan.name, refusal=refusal_values(refused)), indent=2))
+    elif args.table:
+        print(words)
+    else:
+        if not args.csv:
+            print(f"(refused {refused.number} {refused.companion})", flush=True)
+        print(words, file=sys.stderr)
+    return 1
+
+
+def summary(plan, log_length, windows=None):
+    """What each domain saw, with window and index in it, and sums, as values."""
+    passed = history(plan, log_length, windows)
+    room = log_length // (8 * plan.domains)
+    domains = []
+    for domain in range(plan.domains):
+        own = [window for window in passed if window.owner == domain]
+        records = [dict(window=window.index, index=index, position=event.position,
+                        begin=event.begin, clock=event.end, kind=event.record.kind,
+                        value=event.record.value)
+                   for window in own for index, event in enumerate(window.ops)]
+        kinds = collections.Counter(record["kind"] for record in records)
+        ops = plan.ops(domain)
+        domains.append(dict(
+            domain=domain, records=records, kinds={kind: kinds[kind] for kind in RECORD_KINDS},
+            windows=len(own), ticks=sum(window.end - window.start for window in own),
+            idle=sum(max(0, window.end - (window.ops[-1].end if window.ops else window.start))
+                     for window in own),
+            ops=len(ops), never_reached=[str(op) for op in ops[len(records):]],
+            why=_why(plan, domain, len(records), room, len(passed)) if len(records) < len(ops) else None))
+    clock = passed[-1].padded_end if passed else 0
+    return dict(windows=len(passed), clock=clock, ended=len(passed) == plan.windows_total,
+                log_length=log_length, records_room=room, domains=domains)
+
+
+def _why(plan, domain, done, room, passed):
+    if done >= room:
+        return "log full"
+    if not any(window.owner == domain for window in plan.windows):
+        return "no window"
+    return "run over" if passed == plan.windows_total else "run stopped"
+
+
+def summary_lines(name, made):
+    """The summary for people."""
+    state = "ended" if made["ended"] else "stopped"
+    lines = [f"{name}: {state} after {count(made['windows'], 'window')} at tick {made['clock']}; "
+             f"room for {count(made['records_room'], 'record')} a domain"]
+    for entry in made["domains"]:
+        lines += ["", f"Domain {entry['domain']}"]
+        if entry["records"]:
+            lines += columns(
+                ["window", "index", "op", "begin", "clock", "saw"],
+                [[record["window"], record["index"], record["position"], record["begin"],
+                  record["clock"], f"({record['kind']} {record['value']})"] for record in entry["records"]],
+                left=["saw"])
+        left = entry["never_reached"]
+        if left:
+            shown = " ".join(left[:4]) + (" .." if len(left) > 4 else "")
+            lines.append(f"never reached ({entry['why']}): {count(len(left), 'op')} of {entry['ops']}: {shown}")
+        elif not entry["ops"]:
+            lines.append("no ops")
+    lines += ["", "Sums"]
+    lines += columns(
+        ["domain", "windows", "ticks", "idle", "ops done", "left"] + list(RECORD_KINDS),
+        [[entry["domain"], entry["windows"], entry["ticks"], entry["idle"], len(entry["records"]),
+          len(entry["never_reached"])] + [entry["kinds"][kind] for kind in RECORD_KINDS]
+         for entry in made["domains"]])
+    return lines
+
+
+def _csv(made):
+    rows = csv.writer(sys.stdout, lineterminator="\n")
+    rows.writerow(["domain", "window", "index", "position", "begin", "clock", "kind", "value"])
+    for entry in made["domains"]:
+        for record in entry["records"]:
+            rows.writerow([entry["domain"]] + [record[name] for name in
+                          ("window", "index", "position", "begin", "clock", "kind", "value")])

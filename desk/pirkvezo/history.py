@@ -1,0 +1,59 @@
+"""A run window by window: which op began and ended when, and what the boxes held at each start.
+
+The library is stepped one op or switch at a time, and every number is read off its state and log.
+"""
+import dataclasses
+from typing import List, Optional, Tuple
+
+from .plans import Plan
+from .worlds import Record, World
+
+
+@dataclasses.dataclass(frozen=True)
+class Event:
+    """An op that was done: its record, the clock before and after it, and its script position."""
+    record: Record
+    begin: int
+    end: int
+    position: int
+
+
+@dataclasses.dataclass(frozen=True)
+class WindowHistory:
+    """A window of the run. No op begins from `end` on; the pad lasts to `padded_end`."""
+    index: int
+    owner: int
+    start: int
+    end: int
+    padded_end: int
+    ops: List[Event]
+    boxes_at_start: Tuple[int, ...]
+
+
+def history(plan: Plan, log_length: int = 16384, windows: Optional[int] = None) -> List[WindowHistory]:
+    """The run's windows, from a fresh start; at most the first `windows` of them.
+
+        >>> first, second = history(read(open("examples/worked_example.plan", "rb").read()))
+        >>> first.start, first.end, first.padded_end, len(first.ops)
+        (0, 400, 676, 3)
+        >>> second.ops[0]
+        Event(record=Record(kind='got', value=77, clock=881), begin=676, end=881, position=0)
+    """
+    world, found = World.fresh(plan, log_length), []
+    limit = plan.windows_total if windows is None else min(windows, plan.windows_total)
+    boxes = world.boxes
+    while world.windows < limit:
+        index, start = world.windows, world.clock
+        window, ops = plan.window(index), []
+        # windows share one tuple while no box changes: a run has up to 32,000 windows
+        now = world.boxes
+        boxes = boxes if now == boxes else now
+        while True:
+            begin, position = world.clock, world.positions[window.owner]
+            world.step()
+            if world.windows != index:
+                break
+            ops.append(Event(world.last_record(window.owner), begin, world.clock, position))
+        end = start + window.length
+        found.append(WindowHistory(index, window.owner, start, end, end + plan.pad, ops, boxes))
+    return found

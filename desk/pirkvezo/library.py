@@ -1,0 +1,98 @@
+"""The C interface (include/pirkvezo.h) through ctypes.
+
+Each call here takes buffers that this module made, so that their lengths are right by construction,
+and answers the four numbers of the library's answer.
+"""
+import ctypes
+import functools
+import os
+import pathlib
+
+PLAN, STATE, ANSWER, SCRIPTS, CACHE, BOXES = 92, 18, 4, 2048, 272, 64
+
+ROOT = pathlib.Path(__file__).resolve().parents[2]
+
+PlanNumbers = ctypes.c_uint32 * PLAN
+StateNumbers = ctypes.c_uint64 * STATE
+Answer = ctypes.c_uint64 * ANSWER
+Scripts = ctypes.c_uint32 * SCRIPTS
+CacheTable = ctypes.c_uint16 * CACHE
+Boxes = ctypes.c_uint32 * BOXES
+
+_SIZE = ctypes.c_size_t
+_ENTRY_POINTS = {
+    "pirkvezo_read_plan": [ctypes.c_char_p, _SIZE, Scripts, _SIZE, PlanNumbers, _SIZE],
+    "pirkvezo_fresh_start": [PlanNumbers, _SIZE, StateNumbers, _SIZE, CacheTable, _SIZE, Boxes, _SIZE],
+    "pirkvezo_step": [PlanNumbers, _SIZE, Scripts, _SIZE, StateNumbers, _SIZE, CacheTable, _SIZE,
+                      Boxes, _SIZE, ctypes.c_void_p, _SIZE],
+    "pirkvezo_run": [PlanNumbers, _SIZE, Scripts, _SIZE, StateNumbers, _SIZE, CacheTable, _SIZE,
+                     Boxes, _SIZE, ctypes.c_void_p, _SIZE, ctypes.c_uint64],
+    "pirkvezo_log": [PlanNumbers, _SIZE, StateNumbers, _SIZE, ctypes.c_void_p, _SIZE, ctypes.c_uint32],
+}
+
+
+class LibraryMissing(Exception):
+    """The shared library is not there, or is not the library."""
+
+
+def path():
+    """Where the shared library is looked for: $PIRKVEZO_SHARED, or target/desk at the root."""
+    named = os.environ.get("PIRKVEZO_SHARED")
+    return pathlib.Path(named) if named else ROOT / "target" / "desk" / "libpirkvezo.so"
+
+
+@functools.lru_cache(maxsize=None)
+def _load(where):
+    if not os.path.isfile(where):
+        raise LibraryMissing(f"{where} is not there: ./pirkvezo builds it on first use")
+    try:
+        library = ctypes.CDLL(where)
+        for name, arguments in _ENTRY_POINTS.items():
+            function = getattr(library, name)
+            function.argtypes = arguments + [Answer, _SIZE]
+            function.restype = ctypes.c_uint32
+    except (OSError, AttributeError) as why:
+        raise LibraryMissing(f"{where} is not Pirkvezo's shared library ({why})") from None
+    return library
+
+
+def load():
+    """The loaded library; LibraryMissing where it is not there."""
+    return _load(os.path.abspath(path()))
+
+
+def read_plan(text, scripts, plan):
+    """Reads the bytes of a text into scripts and plan; the answer's four numbers."""
+    answer = Answer()
+    load().pirkvezo_read_plan(text, len(text), scripts, SCRIPTS, plan, PLAN, answer, ANSWER)
+    return tuple(answer)
+
+
+def fresh_start(plan, state, cache, boxes):
+    """Zeroes state, cache table and boxes; the answer's four numbers."""
+    answer = Answer()
+    load().pirkvezo_fresh_start(plan, PLAN, state, STATE, cache, CACHE, boxes, BOXES, answer, ANSWER)
+    return tuple(answer)
+
+
+def step(plan, scripts, state, cache, boxes, log, log_length):
+    """One op or one switch; the answer's four numbers."""
+    answer = Answer()
+    load().pirkvezo_step(plan, PLAN, scripts, SCRIPTS, state, STATE, cache, CACHE, boxes, BOXES,
+                         log, log_length, answer, ANSWER)
+    return tuple(answer)
+
+
+def run(plan, scripts, state, cache, boxes, log, log_length, limit):
+    """At most `limit` steps; the answer's four numbers."""
+    answer = Answer()
+    load().pirkvezo_run(plan, PLAN, scripts, SCRIPTS, state, STATE, cache, CACHE, boxes, BOXES,
+                        log, log_length, limit, answer, ANSWER)
+    return tuple(answer)
+
+
+def log_query(plan, state, log, log_length, domain):
+    """Where a domain's records stand in the log; the answer's four numbers."""
+    answer = Answer()
+    load().pirkvezo_log(plan, PLAN, state, STATE, log, log_length, domain, answer, ANSWER)
+    return tuple(answer)

@@ -1,0 +1,156 @@
+"""A plan as Python values, read by the proved library."""
+import dataclasses
+from typing import List, Tuple
+
+from . import library
+from .refusals import Refused
+
+OP_KINDS = ("read", "write", "send", "receive", "compute")
+SCRIPT_LENGTH = 256
+
+
+@dataclasses.dataclass(frozen=True)
+class Window:
+    """A window of time as the plan declares it: the domain that owns it, and its ticks."""
+    owner: int
+    length: int
+
+
+@dataclasses.dataclass(frozen=True)
+class Op:
+    """An op of a script: its word, the other domain (send and receive), and its value.
+
+    >>> str(Op("send", 1, 77)), str(Op("read", 0, 3)), str(Op("receive", 1, 0))
+    ('(send 1 77)', '(read 3)', '(receive 1)')
+    """
+    kind: str
+    other: int
+    value: int
+
+    def __str__(self):
+        if self.kind == "send":
+            return f"(send {self.other} {self.value})"
+        return f"({self.kind} {self.other if self.kind == 'receive' else self.value})"
+
+
+def decode(number):
+    """The op that a number of a script stands for, or None where it ends the script.
+
+    >>> decode(3211341)
+    Op(kind='send', other=1, value=77)
+    >>> decode(0) is None
+    True
+    """
+    kind, other, value = number >> 20, number >> 16 & 15, number & 65535
+    if not 1 <= kind <= 5:
+        return None
+    word = OP_KINDS[kind - 1]
+    if word in ("send", "receive"):
+        known = other <= 7 and (word == "send" or value == 0)
+    else:
+        known = other == 0 and (word != "compute" or 1 <= value <= 200)
+    return Op(word, other, value) if known else None
+
+
+@dataclasses.dataclass(frozen=True)
+class Plan:
+    """An accepted plan. `read` makes it; `numbers` and `scripts` are what the library wrote.
+
+    Windows count from 0 over all repeats. Sums that a plan implies are worked out here from the
+    library's numbers; they decide nothing.
+
+        >>> plan = read(open("examples/worked_example.plan", "rb").read())
+        >>> plan.pad, plan.run, plan.shares, plan.recipients
+        (276, 1, (400, 300), ((1,), ()))
+        >>> plan.colours(0), plan.holding(1)
+        ([0, 1, 2, 3, 4, 5], 4)
+        >>> plan.window_start(1), plan.window_end(1), plan.windows_total, plan.ticks_total
+        (676, 976, 2, 1252)
+        >>> [str(op) for op in plan.ops(1)]
+        ['(receive 0)', '(read 100)']
+    """
+    text: bytes = dataclasses.field(repr=False)
+    numbers: Tuple[int, ...] = dataclasses.field(repr=False)
+    scripts: Tuple[int, ...] = dataclasses.field(repr=False)
+    pad: int
+    run: int
+    shares: Tuple[int, ...]
+    recipients: Tuple[Tuple[int, ...], ...]
+    windows: Tuple[Window, ...]
+    masks: Tuple[int, ...]
+
+    @property
+    def domains(self) -> int:
+        """How many domains the plan declares."""
+        return len(self.shares)
+
+    def colours(self, domain) -> List[int]:
+        """The colours that the domain's mask holds."""
+        return [colour for colour in range(16) if self.masks[domain] >> colour & 1]
+
+    def holding(self, domain) -> int:
+        """How many colours the domain holds."""
+        return len(self.colours(domain))
+
+    @property
+    def windows_total(self) -> int:
+        """How many windows the whole run has, repeats included."""
+        return self.run * len(self.windows)
+
+    @property
+    def ticks_total(self) -> int:
+        """The tick at which the run ends."""
+        return self.window_start(self.windows_total)
+
+    def window(self, k) -> Window:
+        """The window with index k of the run."""
+        if not 0 <= k < self.windows_total:
+            raise IndexError(f"window {k} of {self.windows_total}")
+        return self.windows[k % len(self.windows)]
+
+    def window_start(self, k) -> int:
+        """The tick at which window k starts; for k = windows_total, the end of the run."""
+        if not 0 <= k <= self.windows_total:
+            raise IndexError(f"window {k} of {self.windows_total}")
+        repeats, rest = divmod(k, len(self.windows))
+        once = sum(window.length + self.pad for window in self.windows)
+        return repeats * once + sum(window.length + self.pad for window in self.windows[:rest])
+
+    def window_end(self, k) -> int:
+        """The tick from which no op of window k begins; the pad follows."""
+        return self.window_start(k) + self.window(k).length
+
+    def ops(self, domain) -> List[Op]:
+        """The domain's ops, up to the end of its script."""
+        if not 0 <= domain < self.domains:
+            raise IndexError(f"domain {domain} of {self.domains}")
+        found = []
+        for number in self.scripts[SCRIPT_LENGTH * domain:SCRIPT_LENGTH * (domain + 1)]:
+            op = decode(number)
+            if op is None:
+                break
+            found.append(op)
+        return found
+
+
+def read(text) -> Plan:
+    """Reads a plan text (bytes), or raises Refused.
+
+        >>> read(b"(pad 276)")
+        Traceback (most recent call last):
+        ...
+        pirkvezo.refusals.Refused: 1:10: the plan has no domain, window or run [5]
+    """
+    text = text.encode("utf-8") if isinstance(text, str) else bytes(text)
+    scripts, numbers = library.Scripts(), library.PlanNumbers()
+    number, companion = library.read_plan(text, scripts, numbers)[:2]
+    if number:
+        raise Refused(number, companion, text)
+    plan = tuple(numbers)
+    domains, windows = plan[2], plan[3]
+    return Plan(
+        text=text, numbers=plan, scripts=tuple(scripts), pad=plan[0], run=plan[1],
+        shares=plan[4:4 + domains],
+        recipients=tuple(tuple(b for b in range(8) if mask >> b & 1) for mask in plan[12:12 + domains]),
+        windows=tuple(Window(plan[20 + k], plan[52 + k]) for k in range(windows)),
+        masks=plan[84:84 + domains])

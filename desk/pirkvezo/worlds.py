@@ -1,0 +1,159 @@
+"""A run of a plan: state, cache table, boxes and log, in buffers that the object owns."""
+import ctypes
+import dataclasses
+from typing import List, Tuple
+
+from . import library
+from .plans import Plan
+from .refusals import Refused
+
+RECORD_KINDS = ("hit1", "hit2", "miss", "sent", "got", "empty", "denied", "ran", "barred")
+RECORD_BYTES = 8
+MOST_STEPS = 2**64 - 1
+
+
+@dataclasses.dataclass(frozen=True)
+class Record:
+    """What a domain saw of one op: the kind's word, its value, and the clock when the op was done.
+
+    >>> str(Record("miss", 3, 100))
+    '(miss 3)'
+    """
+    kind: str
+    value: int
+    clock: int
+
+    def __str__(self):
+        return f"({self.kind} {self.value})"
+
+
+@dataclasses.dataclass(frozen=True)
+class Run:
+    """How far a call came: the steps done, and whether the run has ended."""
+    steps: int
+    ended: bool
+
+
+class World:
+    """A run in progress. Make one with World.fresh.
+
+        >>> world = World.fresh(read(open("examples/worked_example.plan", "rb").read()))
+        >>> world.step()
+        Run(steps=1, ended=False)
+        >>> world.log(0)
+        [Record(kind='miss', value=3, clock=100)]
+        >>> world.run_windows(1)
+        Run(steps=3, ended=False)
+        >>> world.windows, world.clock, world.positions[:2]
+        (1, 676, (3, 0))
+        >>> world.boxes[8 * 0 + 1]
+        78
+        >>> world.run().ended
+        True
+    """
+
+    def __init__(self, plan: Plan, log_length: int = 16384):
+        if not isinstance(log_length, int) or log_length < 0:
+            raise ValueError("a log's length is 0 or more bytes")
+        self.plan, self.log_length = plan, log_length
+        self._plan = library.PlanNumbers(*plan.numbers)
+        self._scripts = library.Scripts(*plan.scripts)
+        self._state = library.StateNumbers()
+        self._cache = library.CacheTable()
+        self._boxes = library.Boxes()
+        # an empty log still has an address
+        self._log = (ctypes.c_uint8 * max(log_length, 1))()
+        _accepted(library.fresh_start(self._plan, self._state, self._cache, self._boxes))
+
+    @classmethod
+    def fresh(cls, plan: Plan, log_length: int = 16384) -> "World":
+        """A run at its fresh start, with a log of that many bytes for all domains together."""
+        return cls(plan, log_length)
+
+    def step(self) -> Run:
+        """One step: an op, or a switch."""
+        answer = _accepted(library.step(self._plan, self._scripts, self._state, self._cache,
+                                        self._boxes, self._log, self.log_length))
+        return Run(answer[2], answer[3] == 1)
+
+    def run(self, limit: int = MOST_STEPS) -> Run:
+        """At most `limit` steps; without a limit, to the end."""
+        if not isinstance(limit, int) or not 0 <= limit <= MOST_STEPS:
+            raise ValueError("a limit is a number of steps from 0 to 2**64 - 1")
+        answer = _accepted(library.run(self._plan, self._scripts, self._state, self._cache,
+                                       self._boxes, self._log, self.log_length, limit))
+        return Run(answer[2], answer[3] == 1)
+
+    def run_windows(self, n: int) -> Run:
+        """Single steps until n windows of the run are completed, or to the end.
+
+        Where it stops depends on the plan alone, so each domain's log may be shown to its owner.
+        """
+        steps, ended = 0, self.run(0).ended
+        while not ended and self.windows < n:
+            done = self.step()
+            steps, ended = steps + done.steps, done.ended
+        return Run(steps, ended)
+
+    def log(self, domain: int) -> List[Record]:
+        """The domain's records so far."""
+        if not isinstance(domain, int) or not 0 <= domain < 2**32:
+            raise ValueError("a domain is a number from 0 on")
+        offset, length = _accepted(library.log_query(self._plan, self._state, self._log,
+                                                     self.log_length, domain))[2:]
+        part = bytes(memoryview(self._log)[offset:offset + length])
+        return [_record(part[at:at + RECORD_BYTES]) for at in range(0, length, RECORD_BYTES)]
+
+    def last_record(self, domain: int) -> Record:
+        """The last of the domain's records; IndexError where it has none."""
+        offset, length = _accepted(library.log_query(self._plan, self._state, self._log,
+                                                     self.log_length, domain))[2:]
+        if length < RECORD_BYTES:
+            raise IndexError(f"domain {domain} has no record")
+        end = offset + length
+        return _record(bytes(memoryview(self._log)[end - RECORD_BYTES:end]))
+
+    @property
+    def records_room(self) -> int:
+        """How many records each domain's part of the log has room for."""
+        return self.log_length // (RECORD_BYTES * self.plan.domains)
+
+    @property
+    def windows(self) -> int:
+        """Windows completed."""
+        return self._state[0]
+
+    @property
+    def clock(self) -> int:
+        return self._state[1]
+
+    @property
+    def positions(self) -> Tuple[int, ...]:
+        """The script positions of the eight domains."""
+        return tuple(self._state[2:10])
+
+    @property
+    def counts(self) -> Tuple[int, ...]:
+        """The record counts of the eight domains."""
+        return tuple(self._state[10:18])
+
+    @property
+    def boxes(self) -> Tuple[int, ...]:
+        """The 64 boxes, from a to b at 8 * a + b: 0 for empty, else the word plus one."""
+        return tuple(self._boxes)
+
+    @property
+    def cache(self) -> Tuple[int, ...]:
+        """The 272 numbers of the cache table, L1 then L2."""
+        return tuple(self._cache)
+
+
+def _record(part):
+    return Record(RECORD_KINDS[part[0] - 1], int.from_bytes(part[2:4], "little"),
+                  int.from_bytes(part[4:8], "little"))
+
+
+def _accepted(answer):
+    if answer[0]:
+        raise Refused(answer[0], answer[1])
+    return answer
