@@ -83,6 +83,8 @@ def _prove():
                 _say(f"  {done:2} of {total}  {said[1]}" + (" (as before)" if "unchanged" in line else ""))
     if rt.returncode:
         raise CannotBuild(f"rt could not build the library: {last} (more in target/desk/build.log)")
+    # rt says no such line of the crate that it makes the library from
+    _say(f"  {total:2} of {total}  pirkvezo")
 
 
 def _link(shared):

@@ -7,10 +7,10 @@ whether it saw the same, the first difference, and the boxes that differed at it
 
     >>> from pirkvezo import read
     >>> from pirkvezo.compare import compare
-    >>> head = b'(pad 276)(domain 0 (share 500) (may))'.replace(b')(', b')\\n(')
-    >>> text = head + b'\\n(window 0 (length 50))\\n(run 1)\\n(op 0 (read 0))'
-    >>> compare(read(text), read(text)).all_same
-    True
+    >>> text = open("examples/filter.plan", "rb").read()
+    >>> other = text.replace(b"(send 1 500)", b"(send 1 600)")
+    >>> [domain.same for domain in compare(read(text), read(other)).domains]
+    [True, False, True]
 """
 from dataclasses import dataclass
 from itertools import zip_longest
