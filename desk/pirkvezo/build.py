@@ -7,6 +7,8 @@ import os
 import shutil
 import subprocess
 import sys
+import threading
+import time
 
 from .library import ROOT
 
@@ -63,14 +65,36 @@ def ensure():
 
 
 def _say(line):
-    print(line, file=sys.stderr, flush=True)
+    # on a terminal the line replaces the seconds that were counted there
+    print(("\r\033[K" if sys.stderr.isatty() else "") + line, file=sys.stderr, flush=True)
+
+
+@contextlib.contextmanager
+def _seconds():
+    """Counts seconds on a terminal, since one crate alone can take a minute."""
+    ended, began = threading.Event(), time.monotonic()
+
+    def count():
+        while not ended.wait(1):
+            print(f"\r  {time.monotonic() - began:.0f} s", end="", file=sys.stderr, flush=True)
+
+    counting = threading.Thread(target=count, daemon=True)
+    if sys.stderr.isatty():
+        counting.start()
+    try:
+        yield
+    finally:
+        ended.set()
+        if counting.is_alive():
+            counting.join()
+            print("\r\033[K", end="", file=sys.stderr, flush=True)
 
 
 def _prove():
     total, done = len(crates()), 0
     _say(f"pirkvezo: proving and building the library, {total} crates. The first time takes about "
          "five minutes; later only what changed.")
-    with open(FOLDER / "build.log", "w") as kept, subprocess.Popen(
+    with _seconds(), open(FOLDER / "build.log", "w") as kept, subprocess.Popen(
             ["rt", "staticlib", "pirkvezo"], cwd=ROOT, stdin=subprocess.DEVNULL,
             stdout=subprocess.PIPE, stderr=subprocess.STDOUT, text=True, errors="replace") as rt:
         last = ""
