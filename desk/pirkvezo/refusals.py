@@ -230,7 +230,7 @@ def _odd_byte(token):
         if whole == "\u00a0":
             return offset, "a no-break space", "use plain spaces"
         if whole == "\ufffd":
-            return offset, f"the byte {byte}, which is no text", "save the file as plain ASCII text"
+            return offset, f"the byte {byte}, which is no text,", "save the file as plain ASCII text"
         return offset, f"the character U+{ord(whole):04X}", "a plan is plain ASCII text"
     return None
 
