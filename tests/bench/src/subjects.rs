@@ -1,7 +1,8 @@
-//! What is timed: the reference and the library behind the plain interface, and
-//! the reference with its own types.
+//! What is timed: the reference, the library and the C peer behind the plain
+//! interface, and the reference with its own types.
 
-use pirkvezo_differential::engine::{under_test, Engine, Reference, BOXES, CACHE, SCRIPTS};
+use crate::peer::Peer;
+use pirkvezo_differential::engine::{Engine, Reference, BOXES, CACHE, SCRIPTS};
 use pirkvezo_differential::generate::sketch::Sketch;
 use pirkvezo_differential::world::{Call, World};
 use pirkvezo_reference::flat::plan_from_flat;
@@ -23,13 +24,17 @@ pub trait Subject {
     fn steps(&mut self, most: u64) -> u64;
 }
 
-/// The reference and the linked library behind the same plain interface, and
-/// the reference with its own types. Without a library the reference stands in
-/// for it.
-pub fn all() -> Vec<Box<dyn Subject>> {
+/// Where each stands in the list of all.
+pub const REFERENCE: usize = 0;
+pub const LIBRARY: usize = 1;
+pub const PEER: usize = 2;
+
+/// All that is timed beside this library, in the order of their turns.
+pub fn all(library: Box<dyn Engine>) -> Vec<Box<dyn Subject>> {
     vec![
         Box::new(Plain::new(Box::new(Reference))),
-        Box::new(Plain::new(under_test())),
+        Box::new(Plain::new(library)),
+        Box::new(Plain::new(Box::new(Peer))),
         Box::new(Native::new()),
     ]
 }

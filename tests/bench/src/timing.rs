@@ -6,9 +6,9 @@ use std::hint::black_box;
 use std::time::{Duration, Instant};
 
 pub struct Settings {
-    rounds: usize,
+    pub rounds: usize,
     /// How long one engine works in one round, at least.
-    turn: Duration,
+    pub turn: Duration,
 }
 
 impl Settings {
@@ -29,16 +29,17 @@ impl fmt::Display for Settings {
     }
 }
 
-/// Nanoseconds for one unit of work, over all rounds.
-#[derive(Clone, Copy, Debug)]
-pub struct Figure {
+/// Numbers of many rounds: the median, and where the lowest and the highest
+/// tenth of them end.
+#[derive(Clone, Copy, Debug, PartialEq)]
+pub struct Spread {
     pub median: f64,
-    /// Each round's own ratio to the first engine: the median, and where the
-    /// lowest and the highest tenth of the rounds end.
-    pub ratio: f64,
     pub low: f64,
     pub high: f64,
 }
+
+/// Nanoseconds for one unit of work: for each engine its times, round by round.
+pub struct Times(Vec<Vec<f64>>);
 
 /// Times a piece of work with every engine, each time after something that is
 /// not timed. The work gives how many units it came to.
@@ -47,7 +48,7 @@ pub fn measure(
     subjects: &mut [Box<dyn Subject>],
     mut prepare: impl FnMut(&mut dyn Subject),
     mut work: impl FnMut(&mut dyn Subject) -> u64,
-) -> Vec<Figure> {
+) -> Times {
     let mut once = |subject: &mut dyn Subject| {
         prepare(subject);
         let begin = Instant::now();
@@ -75,25 +76,31 @@ pub fn measure(
             times.push(time.as_nanos() as f64 / units.max(1) as f64);
         }
     }
-    times.iter().map(|own| Figure::of(own, &times[0])).collect()
+    Times(times)
 }
 
-impl Figure {
-    fn of(times: &[f64], first: &[f64]) -> Self {
-        let ratios = times.iter().zip(first).map(|(own, first)| own / first);
-        let (ratios, times) = (sorted(ratios), sorted(times.iter().copied()));
-        let tenth = ratios.len() / 10;
-        Figure {
-            median: times[times.len() / 2],
-            ratio: ratios[ratios.len() / 2],
-            low: ratios[tenth],
-            high: ratios[ratios.len() - 1 - tenth],
-        }
+impl Times {
+    /// The middle time of one engine.
+    pub fn median(&self, engine: usize) -> f64 {
+        Spread::of(self.0[engine].iter().copied()).median
+    }
+
+    /// How one engine compares with another, each round by itself.
+    pub fn ratio(&self, engine: usize, other: usize) -> Spread {
+        let rounds = self.0[engine].iter().zip(&self.0[other]);
+        Spread::of(rounds.map(|(own, others)| own / others))
     }
 }
 
-fn sorted(numbers: impl Iterator<Item = f64>) -> Vec<f64> {
-    let mut numbers: Vec<f64> = numbers.collect();
-    numbers.sort_by(f64::total_cmp);
-    numbers
+impl Spread {
+    pub fn of(numbers: impl Iterator<Item = f64>) -> Self {
+        let mut numbers: Vec<f64> = numbers.collect();
+        numbers.sort_by(f64::total_cmp);
+        let tenth = numbers.len() / 10;
+        Spread {
+            median: numbers[numbers.len() / 2],
+            low: numbers[tenth],
+            high: numbers[numbers.len() - 1 - tenth],
+        }
+    }
 }

@@ -73,7 +73,7 @@ pub fn growth() -> Vec<Workload> {
         .into_iter()
         .chain(windows)
         .map(|(windows, run)| {
-            let name = format!("{windows} windows, run {run}");
+            let name = format!("{}, run {run}", counted(windows));
             workload(&name, empty(windows, run))
         })
         .collect()
@@ -119,7 +119,7 @@ pub fn texts() -> Vec<Text> {
 /// runs.
 pub fn steps() -> Vec<Workload> {
     let windows = [1, 2, 4, 8, 16, 32].map(|windows| {
-        let name = format!("{windows} windows, run 1000, early");
+        let name = format!("{}, run 1000, early", counted(windows));
         Workload {
             name,
             most: 500,
@@ -127,7 +127,7 @@ pub fn steps() -> Vec<Workload> {
         }
     });
     let late = [1, 32].map(|windows| Workload {
-        name: format!("{windows} windows, run 1000, late"),
+        name: format!("{}, run 1000, late", counted(windows)),
         skip: u64::from(windows) * 1_000 - 500,
         most: 500,
         ..workload("", empty(windows, 1_000))
@@ -154,6 +154,13 @@ pub fn steps() -> Vec<Workload> {
         .chain(runs)
         .chain(ops)
         .collect()
+}
+
+fn counted(windows: u32) -> String {
+    match windows {
+        1 => "1 window".into(),
+        _ => format!("{windows} windows"),
+    }
 }
 
 fn workload(name: &str, sketch: Sketch) -> Workload {

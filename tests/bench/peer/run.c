@@ -1,0 +1,254 @@
+/* Ops, switches, and runs of both. */
+#include <string.h>
+
+#include "parts.h"
+
+/* What a record says of an op. */
+enum seen {
+    SEEN_HIT1 = 1,
+    SEEN_HIT2,
+    SEEN_MISS,
+    SEEN_SENT,
+    SEEN_GOT,
+    SEEN_EMPTY,
+    SEEN_DENIED,
+    SEEN_RAN,
+    SEEN_BARRED
+};
+
+/* The kernel's lines that a message touches: its own, and one for each box. */
+enum { MESSAGE_LINE = 60, FIRST_BOX_LINE = 61 };
+
+enum {
+    HIT1_TICKS = 1,
+    HIT2_TICKS = 10,
+    MISS_TICKS = 100,
+    WRITE_BACK_TICKS = 4,
+    BARRED_TICKS = 5,
+    MESSAGE_TICKS = 5,
+    FLUSH_TICKS = 8,
+    FLUSH_DIRTY_TICKS = 2
+};
+
+struct outcome {
+    uint32_t ticks;
+    enum seen seen;
+    uint32_t value;
+};
+
+/* Puts an entry first in its set. Each before it moves one way back, up to where it stood or to
+ * the first empty; of a full set without it the last drops out. Gives whether it was there. */
+static inline bool put_first(uint16_t *set, uint16_t entry)
+{
+    uint16_t moved = entry;
+    for (int way = 0; way < WAYS; way++) {
+        uint16_t held = set[way];
+        set[way] = moved;
+        if (held == entry) {
+            return true;
+        }
+        if (held == 0) {
+            return false;
+        }
+        moved = held;
+    }
+    return false;
+}
+
+/* One access; dirty is DIRTY for a write and 0 for a read. Adds its ticks. */
+static inline enum seen access_line(uint16_t *cache, uint32_t line, uint32_t dirty,
+                                    uint32_t *ticks)
+{
+    uint16_t *slot = &cache[line % L1];
+    uint16_t entry = (uint16_t)(line + 1);
+    uint16_t held = *slot;
+    if ((held & ~DIRTY) == entry) {
+        *slot = (uint16_t)(held | dirty);
+        *ticks += HIT1_TICKS;
+        return SEEN_HIT1;
+    }
+    *slot = (uint16_t)(entry | dirty);
+    *ticks += held & DIRTY ? WRITE_BACK_TICKS : 0;
+    if (put_first(cache + L1 + WAYS * (line % SETS), entry)) {
+        *ticks += HIT2_TICKS;
+        return SEEN_HIT2;
+    }
+    *ticks += MISS_TICKS;
+    return SEEN_MISS;
+}
+
+static inline void touch(const struct machine *machine, uint32_t domain, uint32_t line,
+                         uint32_t dirty, struct outcome *outcome)
+{
+    outcome->value = line;
+    if (line >= LINES || !(machine->plan->colours[domain] >> colour_of_line(line) & 1)) {
+        outcome->ticks = BARRED_TICKS;
+        outcome->seen = SEEN_BARRED;
+        return;
+    }
+    outcome->ticks = 0;
+    outcome->seen = access_line(machine->cache, line, dirty, &outcome->ticks);
+}
+
+/* The part of a message that sender and recipient share; false where it is denied. */
+static inline bool open_box(const struct machine *machine, uint32_t sender, uint32_t recipient,
+                            struct outcome *outcome)
+{
+    outcome->ticks = MESSAGE_TICKS;
+    access_line(machine->cache, MESSAGE_LINE, 0, &outcome->ticks);
+    if (!may_send(machine->plan, sender, recipient)) {
+        outcome->seen = SEEN_DENIED;
+        return false;
+    }
+    uint32_t line = FIRST_BOX_LINE + SETS * box_of(sender, recipient);
+    access_line(machine->cache, line, DIRTY, &outcome->ticks);
+    return true;
+}
+
+static inline void send_word(const struct machine *machine, uint32_t domain, uint32_t recipient,
+                             uint32_t word, struct outcome *outcome)
+{
+    outcome->value = recipient;
+    if (open_box(machine, domain, recipient, outcome)) {
+        machine->boxes[box_of(domain, recipient)] = word + 1;
+        outcome->seen = SEEN_SENT;
+    }
+}
+
+static inline void receive_word(const struct machine *machine, uint32_t domain, uint32_t sender,
+                                struct outcome *outcome)
+{
+    outcome->value = sender;
+    if (!open_box(machine, sender, domain, outcome)) {
+        return;
+    }
+    uint32_t *box = &machine->boxes[box_of(sender, domain)];
+    if (*box == 0) {
+        outcome->seen = SEEN_EMPTY;
+        return;
+    }
+    outcome->seen = SEEN_GOT;
+    outcome->value = *box - 1;
+    *box = 0;
+}
+
+/* Does the op that a number stands for; false where it stands for none, which ends the script. */
+static inline bool do_op(const struct machine *machine, uint32_t domain, uint32_t number,
+                         struct outcome *outcome)
+{
+    uint32_t other = number >> 16 & 15;
+    uint32_t value = number & MOST_VALUE;
+    switch (number >> 20) {
+    case OP_READ:
+    case OP_WRITE:
+        if (other != 0) {
+            return false;
+        }
+        touch(machine, domain, value, number >> 20 == OP_WRITE ? DIRTY : 0, outcome);
+        return true;
+    case OP_SEND:
+        if (other >= DOMAINS) {
+            return false;
+        }
+        send_word(machine, domain, other, value, outcome);
+        return true;
+    case OP_RECEIVE:
+        if (other >= DOMAINS || value != 0) {
+            return false;
+        }
+        receive_word(machine, domain, other, outcome);
+        return true;
+    case OP_COMPUTE:
+        if (other != 0 || value == 0 || value > MOST_COMPUTE) {
+            return false;
+        }
+        outcome->ticks = value;
+        outcome->seen = SEEN_RAN;
+        outcome->value = value;
+        return true;
+    default:
+        return false;
+    }
+}
+
+/* Kind, 0, value and clock, low bytes first whatever the processor's order. */
+static inline void write_record(uint8_t *at, const struct outcome *outcome, uint64_t clock)
+{
+    uint64_t record = (uint64_t)outcome->seen | (uint64_t)outcome->value << 16 | clock << 32;
+    for (int byte = 0; byte < RECORD; byte++) {
+        at[byte] = (uint8_t)(record >> 8 * byte);
+    }
+}
+
+/* Does ops of the running domain until its window is over or so many are done; gives how many. */
+static uint64_t run_ops(const struct machine *machine, uint32_t domain, uint64_t end,
+                        uint64_t most)
+{
+    struct state *state = machine->state;
+    const uint32_t *script = machine->scripts + SCRIPT * domain;
+    uint64_t position = state->position[domain];
+    uint64_t records = state->records[domain];
+    uint8_t *part = machine->log + RECORD * machine->room * domain;
+    uint64_t room = machine->room;
+    uint64_t clock = state->clock;
+    uint64_t done = 0;
+    struct outcome outcome;
+    while (done < most && clock < end && position < SCRIPT && records < room
+           && do_op(machine, domain, script[position], &outcome)) {
+        clock += outcome.ticks;
+        write_record(part + RECORD * records, &outcome, clock);
+        position++;
+        records++;
+        done++;
+    }
+    state->position[domain] = position;
+    state->records[domain] = records;
+    state->clock = clock;
+    return done;
+}
+
+/* Empties the kernel's sets and then L1; gives the ticks that both take. */
+static uint32_t flush(uint16_t *cache)
+{
+    uint16_t *kernel = cache + L1 + WAYS * SETS_OF_A_COLOUR * KERNEL_COLOUR;
+    uint32_t valid = 0, dirty = 0;
+    for (int entry = 0; entry < WAYS * SETS_OF_A_COLOUR; entry++) {
+        valid += kernel[entry] != 0;
+    }
+    memset(kernel, 0, WAYS * SETS_OF_A_COLOUR * sizeof *kernel);
+    for (int index = 0; index < L1; index++) {
+        dirty += cache[index] >= DIRTY;
+    }
+    memset(cache, 0, L1 * sizeof *cache);
+    return FLUSH_TICKS + valid + FLUSH_TICKS + FLUSH_DIRTY_TICKS * dirty;
+}
+
+/* Ends a window: what the flush took shows nowhere, since the clock is padded to `next`. */
+static void switch_window(const struct machine *machine, uint64_t end, uint64_t next)
+{
+    struct state *state = machine->state;
+    uint64_t clock = state->clock < end ? end : state->clock;
+    clock += flush(machine->cache);
+    state->clock = clock < next ? next : clock;
+    state->windows++;
+}
+
+uint64_t run_steps(const struct machine *machine, uint64_t limit)
+{
+    const struct plan *plan = machine->plan;
+    struct place place = place_of(plan, machine->state);
+    uint64_t left = limit;
+    uint64_t windows = all_windows(plan);
+    while (machine->state->windows < windows) {
+        uint64_t end = place.start + plan->window_length[place.window];
+        left -= run_ops(machine, plan->window_domain[place.window], end, left);
+        if (left == 0) {
+            break;
+        }
+        place.start = end + plan->pad;
+        switch_window(machine, end, place.start);
+        left--;
+        place.window = place.window + 1 == plan->windows ? 0 : place.window + 1;
+    }
+    return limit - left;
+}
