@@ -108,18 +108,31 @@ static bool l2_is_whole(const uint16_t *sets)
     return true;
 }
 
-/* Words, and none in a box whose sender may not send to its recipient. */
-static bool boxes_are_whole(const struct plan *plan, const uint32_t *boxes)
+/* The eight boxes of one sender: words, and none for whom it may not send to. */
+static bool row_is_whole(const uint32_t *row, uint32_t may)
 {
-    uint32_t wrong = 0;
-    for (uint32_t sender = 0; sender < DOMAINS; sender++) {
-        for (uint32_t recipient = 0; recipient < DOMAINS; recipient++) {
-            uint32_t box = boxes[box_of(sender, recipient)];
-            uint32_t most = may_send(plan, sender, recipient) ? MOST_VALUE + 1 : 0;
-            wrong |= box > most;
+    for (uint32_t recipient = 0; recipient < DOMAINS; recipient++) {
+        uint32_t most = may >> recipient & 1 ? MOST_VALUE + 1 : 0;
+        if (row[recipient] > most) {
+            return false;
         }
     }
-    return wrong == 0;
+    return true;
+}
+
+static bool boxes_are_whole(const struct plan *plan, const uint32_t *boxes)
+{
+    for (uint32_t sender = 0; sender < DOMAINS; sender++) {
+        const uint32_t *row = boxes + DOMAINS * sender;
+        uint32_t any = 0;
+        for (uint32_t recipient = 0; recipient < DOMAINS; recipient++) {
+            any |= row[recipient];
+        }
+        if (any != 0 && !row_is_whole(row, plan->may[sender])) {
+            return false;
+        }
+    }
+    return true;
 }
 
 bool tables_are_whole(const struct plan *plan, const struct state *state, const uint16_t *cache,

@@ -140,11 +140,16 @@ static inline bool do_op(const struct machine *machine, uint32_t domain, uint32_
     uint32_t value = number & MOST_VALUE;
     switch (number >> 20) {
     case OP_READ:
+        if (other != 0) {
+            return false;
+        }
+        touch(machine, domain, value, 0, outcome);
+        return true;
     case OP_WRITE:
         if (other != 0) {
             return false;
         }
-        touch(machine, domain, value, number >> 20 == OP_WRITE ? DIRTY : 0, outcome);
+        touch(machine, domain, value, DIRTY, outcome);
         return true;
     case OP_SEND:
         if (other >= DOMAINS) {
@@ -171,39 +176,46 @@ static inline bool do_op(const struct machine *machine, uint32_t domain, uint32_
     }
 }
 
-/* Kind, 0, value and clock, low bytes first whatever the processor's order. */
+/* Kind, 0, value and clock, low bytes first: the processor's own order, for the library beside
+ * which this is timed is built for x86-64 alone. */
+#if !defined(__BYTE_ORDER__) || __BYTE_ORDER__ != __ORDER_LITTLE_ENDIAN__
+#error "a record would be stored with its high bytes first"
+#endif
 static inline void write_record(uint8_t *at, const struct outcome *outcome, uint64_t clock)
 {
     uint64_t record = (uint64_t)outcome->seen | (uint64_t)outcome->value << 16 | clock << 32;
-    for (int byte = 0; byte < RECORD; byte++) {
-        at[byte] = (uint8_t)(record >> 8 * byte);
-    }
+    memcpy(at, &record, sizeof record);
 }
 
-/* Does ops of the running domain until its window is over or so many are done; gives how many. */
-static uint64_t run_ops(const struct machine *machine, uint32_t domain, uint64_t end,
-                        uint64_t most)
+static inline uint64_t least_of(uint64_t first, uint64_t second)
 {
-    struct state *state = machine->state;
-    const uint32_t *script = machine->scripts + SCRIPT * domain;
-    uint64_t position = state->position[domain];
-    uint64_t records = state->records[domain];
-    uint8_t *part = machine->log + RECORD * machine->room * domain;
-    uint64_t room = machine->room;
-    uint64_t clock = state->clock;
+    return first < second ? first : second;
+}
+
+/* Does ops of the running domain until its window is over or so many are done; gives how many.
+ * What the loop needs is in variables of its own: a byte of the log could be a byte of anything
+ * else for all that the compiler knows. */
+static uint64_t run_ops(const struct machine *lent, uint32_t domain, uint64_t end, uint64_t most)
+{
+    const struct machine machine = *lent;
+    const uint32_t *script = machine.scripts + SCRIPT * domain;
+    uint8_t *part = machine.log + RECORD * machine.room * domain;
+    uint64_t position = machine.state->position[domain];
+    uint64_t records = machine.state->records[domain];
+    uint64_t clock = machine.state->clock;
     uint64_t done = 0;
     struct outcome outcome;
-    while (done < most && clock < end && position < SCRIPT && records < room
-           && do_op(machine, domain, script[position], &outcome)) {
+    /* each op moves both on by one, so the nearer end is known beforehand */
+    most = least_of(most, least_of(SCRIPT - position, machine.room - records));
+    while (done < most && clock < end
+           && do_op(&machine, domain, script[position + done], &outcome)) {
         clock += outcome.ticks;
-        write_record(part + RECORD * records, &outcome, clock);
-        position++;
-        records++;
+        write_record(part + RECORD * (records + done), &outcome, clock);
         done++;
     }
-    state->position[domain] = position;
-    state->records[domain] = records;
-    state->clock = clock;
+    machine.state->position[domain] = position + done;
+    machine.state->records[domain] = records + done;
+    machine.state->clock = clock;
     return done;
 }
 
@@ -211,19 +223,20 @@ static uint64_t run_ops(const struct machine *machine, uint32_t domain, uint64_t
 static uint32_t flush(uint16_t *cache)
 {
     uint16_t *kernel = cache + L1 + WAYS * SETS_OF_A_COLOUR * KERNEL_COLOUR;
-    uint32_t valid = 0, dirty = 0;
+    uint16_t valid = 0, dirty = 0;
     for (int entry = 0; entry < WAYS * SETS_OF_A_COLOUR; entry++) {
         valid += kernel[entry] != 0;
     }
     memset(kernel, 0, WAYS * SETS_OF_A_COLOUR * sizeof *kernel);
     for (int index = 0; index < L1; index++) {
-        dirty += cache[index] >= DIRTY;
+        dirty += cache[index] >> 15;
     }
     memset(cache, 0, L1 * sizeof *cache);
     return FLUSH_TICKS + valid + FLUSH_TICKS + FLUSH_DIRTY_TICKS * dirty;
 }
 
-/* Ends a window: what the flush took shows nowhere, since the clock is padded to `next`. */
+/* Ends a window. The flush is counted as the machine has it, although it shows nowhere: the least
+ * pad covers the longest overrun of an op and the dearest flush together. */
 static void switch_window(const struct machine *machine, uint64_t end, uint64_t next)
 {
     struct state *state = machine->state;
