@@ -23,15 +23,17 @@ struct Readings {
     ratios: Vec<f64>,
 }
 
-/// Readings of a short and of a long text, at each position by turns.
+/// Readings of a short and of a long text, at each position by turns: of each
+/// engine's times at all positions the lowest, the median and the highest; of the
+/// library's ratios to it, each at one position, the median and the highest.
 pub fn table(settings: &Settings, subjects: &mut [Box<dyn Subject>]) -> Table {
     let columns = [
         "bytes",
         "lowest",
         "median",
         "highest",
-        "library to it",
-        "highest such",
+        "ratio",
+        "highest ratio",
     ];
     let mut table = Table::new("reading by stack position: nanoseconds a byte", &columns);
     let texts = workloads::texts().into_iter();
