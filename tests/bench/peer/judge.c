@@ -14,7 +14,8 @@ static bool domains_are_possible(const struct plan *plan)
     uint32_t sum = 0, next = 0;
     for (uint32_t domain = 0; domain < plan->domains; domain++) {
         uint32_t share = plan->share[domain];
-        if (share == 0 || share > ALL_SHARES) {
+        /* with the sum in its bounds no colour is shifted out below */
+        if (share == 0 || share > ALL_SHARES - sum) {
             return false;
         }
         uint32_t count = colours_of_share(share);
@@ -30,7 +31,7 @@ static bool domains_are_possible(const struct plan *plan)
     for (uint32_t domain = plan->domains; domain < DOMAINS; domain++) {
         unused |= plan->share[domain] | plan->may[domain] | plan->colours[domain];
     }
-    return sum <= ALL_SHARES && unused == 0;
+    return unused == 0;
 }
 
 /* The windows, and the ticks that all their repeats take. */
