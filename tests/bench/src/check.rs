@@ -134,7 +134,7 @@ mod tests {
 
     #[test]
     fn the_peer_agrees_with_the_reference() {
-        let agreed = agrees(&Peer, 2_500);
+        let agreed = agrees(&Peer, 2_000);
         let (_, tally) = agreed.unwrap_or_else(|difference| panic!("{difference}"));
         tally.assert_met("read", &[0, 1, 2, 3, 4, 5, 6, 7, 8, 9, 10, 11]);
         tally.assert_met("fresh start", &[0, 11, 12]);

@@ -6,6 +6,7 @@ use crate::subjects::{Subject, LIBRARY, PEER, REFERENCE};
 use crate::table::{Cell, Table};
 use crate::timing::{measure, Settings, Spread};
 use crate::workloads;
+use std::collections::BTreeSet;
 use std::hint::black_box;
 use std::mem::MaybeUninit;
 use std::time::Duration;
@@ -15,13 +16,11 @@ const PAGE: usize = 4_096;
 const APART: usize = 16;
 const POSITIONS: usize = PAGE / APART;
 
-/// The figures of one engine, position by position.
-#[derive(Default)]
-struct Readings {
-    times: Vec<f64>,
-    /// The library's time over this engine's.
-    ratios: Vec<f64>,
-}
+/// The engines that read: the first three of all.
+const ENGINES: usize = 3;
+
+/// Nanoseconds a byte of each engine in one round.
+type Round = [f64; ENGINES];
 
 /// Readings of a short and of a long text, at each position by turns: of each
 /// engine's times at all positions the lowest, the median and the highest; of the
@@ -39,62 +38,65 @@ pub fn table(settings: &Settings, subjects: &mut [Box<dyn Subject>]) -> Table {
     let texts = workloads::texts().into_iter();
     for text in texts.filter(|text| ["1 KB", "32 KB"].contains(&text.name)) {
         let length = text.bytes.len() as u64;
-        let readings = at_all_positions(settings, subjects, &text.bytes);
+        let positions = at_all_positions(settings, subjects, &text.bytes);
         for engine in [REFERENCE, LIBRARY, PEER] {
             let name = format!("{}, {}", text.name, subjects[engine].name());
-            table.row(&name, readings[engine].cells(length));
+            table.row(&name, cells(length, &positions, engine));
         }
     }
     table
 }
 
+/// Several rounds at each position. All positions have their turn before one has
+/// its second: what slows the machine for a while then meets many positions
+/// once, and not a few in all their rounds.
 fn at_all_positions(
     settings: &Settings,
     subjects: &mut [Box<dyn Subject>],
     text: &[u8],
-) -> [Readings; 3] {
-    // So many positions that each gets a part of the rounds, and shorter turns.
-    let settings = Settings {
-        rounds: settings.rounds.div_ceil(4),
+) -> Vec<Vec<Round>> {
+    let once = Settings {
+        rounds: 1,
         turn: Duration::from_micros(100),
     };
-    let mut readings: [Readings; 3] = Default::default();
-    let mut offsets = Vec::new();
-    for position in 0..POSITIONS {
-        from_position(position, &mut || {
-            offsets.push(address_of_frame() % PAGE);
-            let read = |subject: &mut dyn Subject| {
-                assert_eq!(subject.read(text), 0, "a good text");
-                text.len() as u64
-            };
-            let times = measure(&settings, &mut subjects[..=PEER], |_| {}, read);
-            for (engine, readings) in readings.iter_mut().enumerate() {
-                readings.times.push(times.median(engine));
-                readings.ratios.push(times.ratio(LIBRARY, engine).median);
-            }
-        });
+    let mut read = |subject: &mut dyn Subject| {
+        assert_eq!(subject.read(text), 0, "a good text");
+        text.len() as u64
+    };
+    let mut positions = vec![Vec::new(); POSITIONS];
+    let mut offsets = BTreeSet::new();
+    for _ in 0..settings.rounds.div_ceil(4) {
+        for (position, rounds) in positions.iter_mut().enumerate() {
+            from_position(position, &mut || {
+                offsets.insert(address_of_frame() % PAGE);
+                let times = measure(&once, &mut subjects[..ENGINES], |_| {}, &mut read);
+                rounds.push([0, 1, 2].map(|engine| times.median(engine)));
+            });
+        }
     }
-    offsets.sort_unstable();
-    offsets.dedup();
-    assert_eq!(offsets.len(), POSITIONS, "a position each");
-    readings
+    assert_eq!(offsets.len(), POSITIONS, "each position is another");
+    positions
 }
 
-impl Readings {
-    fn cells(&self, bytes: u64) -> Vec<Cell> {
-        let median = |numbers: &[f64]| Spread::of(numbers.iter().copied());
-        let highest = |numbers: &[f64]| numbers.iter().copied().fold(f64::MIN, f64::max);
-        let lowest = self.times.iter().copied().fold(f64::MAX, f64::min);
-        let worst = highest(&self.ratios);
-        vec![
-            Cell::Units(bytes),
-            Cell::Time(lowest),
-            Cell::Time(median(&self.times).median),
-            Cell::Time(highest(&self.times)),
-            Cell::Ratio(median(&self.ratios)),
-            Cell::Ratio(Spread::of([worst].into_iter())),
-        ]
-    }
+/// The figures of one engine.
+fn cells(bytes: u64, positions: &[Vec<Round>], engine: usize) -> Vec<Cell> {
+    let of_each = |figure: &dyn Fn(&Round) -> f64| -> Vec<f64> {
+        let positions = positions.iter();
+        positions
+            .map(|rounds| Spread::of(rounds.iter().map(figure)).median)
+            .collect()
+    };
+    let times = of_each(&|round| round[engine]);
+    let ratios = of_each(&|round| round[LIBRARY] / round[engine]);
+    let highest = |numbers: &[f64]| numbers.iter().copied().fold(f64::MIN, f64::max);
+    vec![
+        Cell::Units(bytes),
+        Cell::Time(times.iter().copied().fold(f64::MAX, f64::min)),
+        Cell::Time(Spread::of(times.iter().copied()).median),
+        Cell::Time(highest(&times)),
+        Cell::Ratio(Spread::of(ratios.iter().copied())),
+        Cell::Ratio(Spread::of([highest(&ratios)].into_iter())),
+    ]
 }
 
 /// Does the work from a frame that lies so many times sixteen bytes further

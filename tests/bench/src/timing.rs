@@ -65,15 +65,18 @@ pub fn measure(
         })
         .collect();
     let mut times = vec![Vec::with_capacity(settings.rounds); subjects.len()];
-    for _ in 0..settings.rounds {
-        for ((subject, repeats), times) in subjects.iter_mut().zip(&repeats).zip(&mut times) {
+    for round in 0..settings.rounds {
+        // Each round begins with another engine, else other work that gets the
+        // processor as often as a round comes would meet the same one each time.
+        for turn in 0..subjects.len() {
+            let engine = (round + turn) % subjects.len();
             let (mut time, mut units) = (Duration::ZERO, 0);
-            for _ in 0..*repeats {
-                let (more, count) = once(&mut **subject);
+            for _ in 0..repeats[engine] {
+                let (more, count) = once(&mut *subjects[engine]);
                 time += more;
                 units += count;
             }
-            times.push(time.as_nanos() as f64 / units.max(1) as f64);
+            times[engine].push(time.as_nanos() as f64 / units.max(1) as f64);
         }
     }
     Times(times)
