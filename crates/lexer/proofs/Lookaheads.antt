@@ -1,8 +1,7 @@
 -- What stands next in a line by its first byte is what the next token shows of itself: a bracket, a line's end, or that a run begins and where.
 -- So it decides between these kinds of token, and where a run begins, the token is the longest run from there. Assumes nothing.
-use Prim.Native.Nat.{ℕ, min}
-use native.Mathlib.Omega.{arith}
-use mathlib.Core.Bool.{Bool, true, false, cond, not}
+use Prim.Native.Nat.{ℕ, _≤_, min}
+use mathlib.Core.Bool.{Bool, true, false, cond, not, _||_}
 use mathlib.Core.List.{List, [], _∷_}
 use mathlib.Core.Path.{_≡_, refl, sym, ap, subst, _∙_}
 use lib.Dec.{T, eqb, leb, ltb}
@@ -12,14 +11,16 @@ use denote.Enum.Declared.{tagOf}
 use mir.Val.{hasKey}
 use types.Run.{OneOf, miss}
 use Rattle.lexer.proofs.Lookahead.{the-type}
-use Rattle.lexer.proofs.Reached.{cond-holds}
+use Rattle.lexer.proofs.Token.{the-type as token-type}
+use Rattle.lexer.proofs.OtherKind.{no-word}
+use Rattle.lexer.proofs.Reached.{cond-holds, word-within}
 use Rattle.lexer.specs.declared.Lookahead.{Lookahead}
 use Rattle.lexer.specs.declared.Lookahead.the-variants.{LineEnd as EndNext, Open as OpenNext, Close as CloseNext, Run as RunNext}
 use Rattle.lexer.specs.declared.Token.{Token}
 use Rattle.lexer.specs.declared.Token.the-variants.{LineEnd, Open, Close, Word, Number, LongNumber, Other}
 use Rattle.lexer.specs.Bytes.{isClose, isDigit, isLetter, isLineFeed, isNoSpace, isOpen}
 use Rattle.lexer.specs.Limits.{mostDigits}
-use Rattle.lexer.specs.Lookaheads.{lookaheadAt, lookaheadFrom, lookaheadStart}
+use Rattle.lexer.specs.Lookaheads.{asNumber, asWord, lookaheadAt, lookaheadFrom, lookaheadStart}
 use Rattle.lexer.specs.Scan.{allBytes, scanOf}
 use Rattle.lexer.specs.Tokens.{closeKind, decimalValue, digitsToken, lineEndKind, longestRun, longNumberKind, numberKind, openKind, runToken}
 use Rattle.lexer.specs.Tokens.{tokenAt, tokenFrom, tokenKind, tokenStart, wordKind}
@@ -100,6 +101,42 @@ shown-kind (Word start end) = refl
 shown-kind (Number start end value) = refl
 shown-kind (LongNumber start end) = refl
 shown-kind (Other start end) = refl
+
+-- ---- a run where one kind is due
+
+as-number-start : (token : Token) → tokenStart (asNumber token) ≡ tokenStart token
+unfolding asNumber
+as-number-start token =
+    cond-holds (λ (kept : Token). tokenStart kept ≡ tokenStart token)
+    (eqb (tokenKind token) numberKind || eqb (tokenKind token) longNumberKind) token _ (λ _. refl) (λ _. refl)
+
+run-start : (text : List ℕ) (start : ℕ) → tokenStart (longestRun text start) ≡ start
+run-start text start = shown-start (longestRun text start) ∙ ap lookaheadStart (run-shown text start)
+
+pub number-start : (text : List ℕ) (start : ℕ) {token : Token} → token ≡ asNumber (longestRun text start) → start ≡ tokenStart token
+number-start text start read = sym (ap tokenStart read ∙ as-number-start (longestRun text start) ∙ run-start text start)
+
+as-word-kind : (token : Token) → eqb (tokenKind (asWord token)) wordKind ≡ eqb (tokenKind token) wordKind
+unfolding asWord
+as-word-kind (LineEnd at) = refl
+as-word-kind (Open at) = refl
+as-word-kind (Close at) = refl
+as-word-kind (Word start end) = refl
+as-word-kind (Number start end value) = refl
+as-word-kind (LongNumber start end) = refl
+as-word-kind (Other start end) = refl
+
+as-word-known : (token : Token) {start end : ℕ} → asWord token ≡ Word start end → token ≡ Word start end
+unfolding asWord
+as-word-known (LineEnd at) e = cc
+as-word-known (Open at) e = cc
+as-word-known (Close at) e = cc
+as-word-known (Word start end) e = e
+as-word-known (Number start end value) e = cc
+as-word-known (LongNumber start end) e = cc
+as-word-known (Other start end) e = cc
+
+-- ---- what follows from what stands next
 
 module _ (text : List ℕ) (at : ℕ) {next : Lookahead} (asked : next ≡ lookaheadAt text at) where
   -- the token's own look
@@ -188,3 +225,21 @@ module _ (text : List ℕ) (at : ℕ) {next : Lookahead} (asked : next ≡ looka
 
   pub no-long-number-next : OneOf (0 ∷ 1 ∷ 2 ∷ []) (tagOf the-type next) → eqb (tokenKind (tokenAt text at)) longNumberKind ≡ false
   no-long-number-next = other-next (0 ∷ 1 ∷ 2 ∷ []) longNumberKind tt
+
+  -- where a run begins and a number is due, the run is the token as far as numbers go
+  pub number-next : {start : ℕ} {token : Token} → next ≡ RunNext start → token ≡ asNumber (longestRun text start) → token ≡ asNumber (tokenAt text at)
+  number-next known read = read ∙ ap asNumber (sym (run-next known))
+
+  -- and where a word is due, as far as words go
+  module _ {first : ℕ} {token : Token} (known : next ≡ RunNext first) (read : token ≡ asWord (longestRun text first)) where
+    word-next : token ≡ asWord (tokenAt text at)
+    word-next = read ∙ ap asWord (sym (run-next known))
+
+    pub word-known : {start end : ℕ} → token ≡ Word start end → tokenAt text at ≡ Word start end
+    word-known found = as-word-known (tokenAt text at) (sym word-next ∙ found)
+
+    pub word-bytes : {start end : ℕ} → token ≡ Word start end → (start ≤ end) × (end ≤ length text)
+    word-bytes found = word-within text at refl (word-known found)
+
+    pub no-word-known : OneOf (0 ∷ 1 ∷ 2 ∷ 4 ∷ 5 ∷ 6 ∷ []) (tagOf token-type token) → eqb (tokenKind (tokenAt text at)) wordKind ≡ false
+    no-word-known none = sym (as-word-kind (tokenAt text at)) ∙ ap (λ (kept : Token). eqb (tokenKind kept) wordKind) (sym word-next) ∙ no-word token none
