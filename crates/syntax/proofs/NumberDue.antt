@@ -1,15 +1,18 @@
--- Where a number is due, a run that is none may count as neither word nor number: the answer is the same. Assumes nothing.
+-- Where a number is due, a run that is none may count as neither word nor number: the answer is the
+-- same. Assumes nothing.
 use Prim.Native.Nat.{ℕ}
 use mathlib.Core.List.{List}
 use mathlib.Core.Path.{_≡_, refl, ap, _∙_}
 use Rattle.lexer.specs.declared.Token.{Token}
-use Rattle.lexer.specs.declared.Token.the-variants.{LineEnd, Open, Close, Word, Number, LongNumber, Other}
+use Rattle.lexer.specs.declared.Token.the-variants.{LineEnd, Open, Close, Word, Number, LongNumber}
+use Rattle.lexer.specs.declared.Token.the-variants.{Other}
 use Rattle.lexer.specs.Lookaheads.{asNumber}
 use Rattle.lexer.specs.Tokens.{tokenAt}
 use Rattle.syntax.specs.declared.NumberParse.{NumberParse}
 use Rattle.syntax.specs.Tokens.{numberWithin, takeNumber}
 
-as-number-within : (low high : ℕ) (token : Token) → numberWithin low high (asNumber token) ≡ numberWithin low high token
+as-number-within : (low high : ℕ) (token : Token)
+    → numberWithin low high (asNumber token) ≡ numberWithin low high token
 unfolding asNumber
 as-number-within low high (LineEnd at) = refl
 as-number-within low high (Open at) = refl
@@ -20,7 +23,9 @@ as-number-within low high (LongNumber start end) = refl
 as-number-within low high (Other start end) = refl
 
 -- what is answered to that token is what is answered to the next one
-pub number-taken : (text : List ℕ) (low high at : ℕ) {token : Token} {answer : NumberParse} → token ≡ asNumber (tokenAt text at)
+pub number-taken : (text : List ℕ) (low high at : ℕ) {token : Token} {answer : NumberParse}
+    → token ≡ asNumber (tokenAt text at)
     → answer ≡ numberWithin low high token → answer ≡ takeNumber text low high at
 unfolding takeNumber
-number-taken text low high at read answered = answered ∙ ap (numberWithin low high) read ∙ as-number-within low high (tokenAt text at)
+number-taken text low high at read answered =
+    answered ∙ ap (numberWithin low high) read ∙ as-number-within low high (tokenAt text at)

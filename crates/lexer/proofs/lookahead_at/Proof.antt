@@ -190,7 +190,8 @@ module _ {M : Type 1} (𝓤 : URA M) (H : Heap 𝓤) (A : Atoms 𝓤) (W : Given
         await ! tt $ pick ! (λ next. split ! $ move ! (1 ∷ []) $
         use1 W (some (λ (last : Reader × Unit {0}). ‵ (lasts callee.ended (ν ∷ κ, (κ, tt)) (lent ν l₃ γ, tt) last) ⊛ raw (fact 𝓤 (Ensures next (last .0))))) (id⊢ 𝓤 _) $ pick ! (λ last.
         split ! $ move ! (1 ∷ []) $ heard ! (Ensures next (last .0)) (λ said. fsplit ! $ move ! (2 ∷ []) $ split ! $ move ! (1 ∷ []) $
-        -- in hand: what stands next; the lifetimes' tokens; what says the last value; true; the lender's part; the way back; true; what the text owns; _4 at 8; what frees _3 at 10; _2 to _0 at 11, 13, 15
+        -- in hand: what stands next; the lifetimes' tokens; what says the last value; true; the lender's part; the way back; true; what the text owns;
+        -- _4 at 8; what frees _3 at 10; _2 to _0 at 11, 13, 15
         peeks ! Lookahead.the-row (Is Lookahead.the-row) (shows 𝓤 H A Lookahead.the-row) next (value ∷ []) (λ is-lookahead.
         land ! (from ! (stop !)) (init ! 15 refl (EL.lawful Lookahead.the-type Lookahead′.the-laws 𝓤 H A W tt .typed next _ is-lookahead .0)) $
         -- the meet's token is taken apart, ν is ended and with it the meet, and the local is back

@@ -11,7 +11,13 @@ returns c = simp (lt-ltb _ _ (c .before .before .if1 .taken), eq-eqb _ _ (c .if2
 
 returns-2 : tie.Need-returns-2
 unfolding lookaheadFrom
-returns-2 c = simp (lt-ltb _ _ (c .before .before .before .if1 .taken), ne-eqb _ _ (c .before .if2 .left), eq-eqb _ _ (c .if3 .taken))
+returns-2 c =
+    simp (
+      lt-ltb _ _ (c .before .before .before .if1 .taken),
+      ne-eqb _ _ (c .before .if2 .left),
+      eq-eqb _
+          _ (c .if3 .taken),
+    )
 
 returns-3 : tie.Need-returns-3
 unfolding lookaheadFrom

@@ -2,7 +2,7 @@
 -- The reader's borrow is opened, its text and its offset are read, what stands next is found, the offset of its first byte is stored, and the
 -- borrow is closed at the reader that has moved there. Assumes nothing.
 -- A comment "in hand" lists what the walk has, front first; _2 is the MIR's local of that number, at the address l₂, and behind each local stands what frees it.
-use mathlib.Core.Path.{_≡_, refl, sym, ap, subst}
+use mathlib.Core.Path.{_≡_, refl, ap}
 use Prim.Native.Nat.{ℕ, _<_, _^_}
 use mathlib.Core.List.{List, [], _∷_}
 use lib.ListN.{length}
@@ -220,7 +220,8 @@ module _ {M : Type 1} (𝓤 : URA M) (H : Heap 𝓤) (A : Atoms 𝓤) (W : Given
         rewrite ! 8 (λ (z : Val). ‵ (fat fullShare (tyInt w64) l₄ 0 z)) (ap only (is-offset .0)) refl $
         assigns ! (of-opd ! (load ! (from ! (stop !)) (look ! 8 refl))) (from ! (hop ! (look ! 14 refl) (fld ! refl (stop !))))
         (store-in ! 3 (sub ! 1 refl (whole !)) (tt, record { fits = is-offset .1 })) $
-        assigns ! (of-opd ! (load ! (from ! (stop !)) (look ! 12 refl))) (from ! (stop !)) (init ! 16 refl (EL.lawful Lookahead.the-type Lookahead′.the-laws 𝓤 H A W tt .typed next _ is-lookahead .0)) $
+        assigns ! (of-opd ! (load ! (from ! (stop !)) (look ! 12 refl))) (from ! (stop !))
+        (init ! 16 refl (EL.lawful Lookahead.the-type Lookahead′.the-laws 𝓤 H A W tt .typed next _ is-lookahead .0)) $
         -- the reader is put together again at the new offset, and the borrow is closed
         move ! (2 ∷ []) $ use1 W (‵ (Row .own (moved offset) (Reader′.lowered (moved offset) ∷ []))) (again offset (is-offset .1)) $
         move ! (3 ∷ []) $ use1 W (‵ (cellAt fullShare (Row .mir) (Reader′.lowered (moved offset) ∷ []) block place))

@@ -27,21 +27,26 @@ returns-2 c =
 
 op-word-requires : tie.Need-op-word-requires
 op-word-requires c κs =
-    word-bytes _ _ (c .before .before .before .before .before .before .before .lookahead-at .ensures) (c .before .before .before .before .before .next .given .1)
+    word-bytes _ _
+    (c .before .before .before .before .before .before .before .lookahead-at .ensures)
+    (c .before .before .before .before .before .next .given .1)
     (c .before .before .before .word-from .ensures) (c .before .token .given .1)
 
 returns-3 : tie.Need-returns-3
 unfolding keywordAt
 returns-3 c =
     simp (
-      word-known _ _ (c .before .before .before .before .before .before .before .before .lookahead-at .ensures)
+      word-known _ _
+          (c .before .before .before .before .before .before .before .before .lookahead-at .ensures)
           (c .before .before .before .before .before .before .next .given .1)
-          (c .before .before .before .before .word-from .ensures) (c .before .before .token .given .1),
+          (c .before .before .before .before .word-from .ensures)
+          (c .before .before .token .given .1),
       ← (c .op-word .ensures),
     )
 
 pub op-keyword-at-spec : {M : Type 1} → statement M
 op-keyword-at-spec =
     tie.close
-    (tie.spec (λ c κs. tt) (λ c. search needs) (λ c κs. tt) returns (λ c κs. tt) (λ c. search needs) returns-2
+    (tie.spec (λ c κs. tt) (λ c. search needs) (λ c κs. tt) returns (λ c κs. tt) (λ c. search needs)
+    returns-2
     op-word-requires returns-3)

@@ -18,11 +18,17 @@ returns c =
 
 add-t7 : tie.Need-add-t7
 add-t7 c =
-    omega (arith, reached _ _ refl (close-next _ _ (c .before .before .before .lookahead-at .ensures) (c .before .next .given .1)))
+    omega (
+      arith,
+      reached _ _ refl
+          (close-next _ _ (c .before .before .before .lookahead-at .ensures) (c .before .next .given .1)),
+    )
 
 returns-2 : tie.Need-returns-2
 unfolding passClose
-returns-2 c = simp (close-next _ _ (c .before .before .before .lookahead-at .ensures) (c .before .next .given .1))
+returns-2 c =
+    simp
+    (close-next _ _ (c .before .before .before .lookahead-at .ensures) (c .before .next .given .1))
 
 pub pass-close-spec : {M : Type 1} → statement M
 pass-close-spec =

@@ -15,7 +15,9 @@ returns c =
 
 returns-2 : tie.Need-returns-2
 unfolding passLineEnd
-returns-2 c = simp (end-next _ _ (c .before .before .before .lookahead-at .ensures) (c .before .next .given .1))
+returns-2 c =
+    simp
+    (end-next _ _ (c .before .before .before .lookahead-at .ensures) (c .before .next .given .1))
 
 pub pass-line-end-spec : {M : Type 1} → statement M
 pass-line-end-spec =

@@ -18,11 +18,17 @@ returns c =
 
 add-t7 : tie.Need-add-t7
 add-t7 c =
-    omega (arith, reached _ _ refl (open-next _ _ (c .before .before .before .lookahead-at .ensures) (c .before .next .given .1)))
+    omega (
+      arith,
+      reached _ _ refl
+          (open-next _ _ (c .before .before .before .lookahead-at .ensures) (c .before .next .given .1)),
+    )
 
 returns-2 : tie.Need-returns-2
 unfolding passOpen
-returns-2 c = simp (open-next _ _ (c .before .before .before .lookahead-at .ensures) (c .before .next .given .1))
+returns-2 c =
+    simp
+    (open-next _ _ (c .before .before .before .lookahead-at .ensures) (c .before .next .given .1))
 
 pub pass-open-spec : {M : Type 1} → statement M
 pass-open-spec =

@@ -27,16 +27,21 @@ returns-2 c =
 
 is-word-requires : tie.Need-is-word-requires
 is-word-requires c κs =
-    word-bytes _ _ (c .before .before .before .before .before .before .before .lookahead-at .ensures) (c .before .before .before .before .before .next .given .1)
+    word-bytes _ _
+    (c .before .before .before .before .before .before .before .lookahead-at .ensures)
+    (c .before .before .before .before .before .next .given .1)
     (c .before .before .before .word-from .ensures) (c .before .token .given .1)
 
 returns-3 : tie.Need-returns-3
 unfolding passWord
 returns-3 c =
     simp (
-      word-known _ _ (c .before .before .before .before .before .before .before .before .before .lookahead-at .ensures)
+      word-known _ _
+          (c .before .before .before .before .before .before .before .before .before .lookahead-at
+          .ensures)
           (c .before .before .before .before .before .before .before .next .given .1)
-          (c .before .before .before .before .before .word-from .ensures) (c .before .before .before .token .given .1),
+          (c .before .before .before .before .before .word-from .ensures)
+          (c .before .before .before .token .given .1),
       ← (c .before .is-word .ensures),
       c .if1 .taken,
     )
@@ -45,9 +50,12 @@ returns-4 : tie.Need-returns-4
 unfolding passWord
 returns-4 c =
     simp (
-      word-known _ _ (c .before .before .before .before .before .before .before .before .before .lookahead-at .ensures)
+      word-known _ _
+          (c .before .before .before .before .before .before .before .before .before .lookahead-at
+          .ensures)
           (c .before .before .before .before .before .before .before .next .given .1)
-          (c .before .before .before .before .before .word-from .ensures) (c .before .before .before .token .given .1),
+          (c .before .before .before .before .before .word-from .ensures)
+          (c .before .before .before .token .given .1),
       ← (c .before .is-word .ensures),
       c .if1 .left,
     )
@@ -55,5 +63,6 @@ returns-4 c =
 pub pass-word-spec : {M : Type 1} → statement M
 pass-word-spec =
     tie.close
-    (tie.spec (λ c κs. tt) (λ c. search needs) (λ c κs. tt) returns (λ c κs. tt) (λ c. search needs) returns-2
+    (tie.spec (λ c κs. tt) (λ c. search needs) (λ c κs. tt) returns (λ c κs. tt) (λ c. search needs)
+    returns-2
     is-word-requires returns-3 returns-4)
