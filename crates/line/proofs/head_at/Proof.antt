@@ -1,0 +1,38 @@
+-- `line::head_at` meets its contract. Assumes nothing.
+use native.Mathlib.Omega.{arith}
+use borrow.Author.Needs.{needs}
+use Rattle.lexer.proofs.OtherKind.{kinds}
+use Rattle.lexer.proofs.Reached.{reached}
+use Rattle.line.specs.Heads.{headAt}
+use Rattle.line.proofs.head_at.Statement.{statement}
+use Rattle.line.proofs.head_at.Tie as tie
+
+returns : tie.Need-returns
+unfolding headAt
+returns c = simp (← (c .before .before .before .token-at .ensures), c .before .token .given .1)
+
+returns-2 : tie.Need-returns-2
+unfolding headAt
+returns-2 c =
+    simp (
+      ← (c .before .before .before .token-at .ensures),
+      c .before .before .match .keys2,
+      kinds,
+      c .before .match2 .keys2,
+      kinds,
+      ← (c .token-start .ensures),
+    )
+
+form-head-requires : tie.Need-form-head-requires
+form-head-requires c κs =
+    omega (arith, reached _ _ (c .before .before .before .before .token-at .ensures) (c .before .token2 .given .1))
+
+returns-3 : tie.Need-returns-3
+unfolding headAt
+returns-3 c = simp (← (c .before .before .before .before .before .token-at .ensures), c .before .before .token2 .given .1, ← (c .form-head .ensures))
+
+pub head-at-spec : {M : Type 1} → statement M
+head-at-spec =
+    tie.close
+    (tie.spec (λ c κs. tt) (λ c. search needs) returns (λ c. search needs) (λ c κs. tt) returns-2
+    form-head-requires returns-3)
