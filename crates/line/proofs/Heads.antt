@@ -31,7 +31,9 @@ use Rattle.syntax.specs.Brackets.{bracketedOp}
 use Rattle.syntax.specs.Ops.{thenOp}
 use Rattle.syntax.specs.Keywords.{Keyword, fiveWords, keywordAt}
 use Rattle.syntax.specs.Tokens.{passClose, passLineEnd, then, thenNumber}
-use Rattle.line.specs.declared.Head.the-variants.{Blank as NoToken, Refused}
+use Rattle.line.proofs.Head.{the-type as head-type}
+use Rattle.line.specs.declared.Head.{Head}
+use Rattle.line.specs.declared.Head.the-variants.{Blank as NoToken, Op, Refused}
 use Rattle.line.specs.declared.Line.{Line}
 use Rattle.line.specs.Heads.{closedEnd, formHead, headAt, lineOf, wordHead}
 use Rattle.line.specs.Lines.{formKeywords, formLine, lineAt, lineWith, refusedLine}
@@ -76,6 +78,11 @@ module _ (text : List ℕ) (declared : ℕ) (named : List ℕ) where
       go false true = form-by-head (tokenStart token)
       go false false = refl
 
+-- what the branch past an `if let` knows of a beginning, that its tag is not an op's
+pub no-op : {head : Head} → OneOf (0 ∷ 1 ∷ 2 ∷ 3 ∷ 4 ∷ 5 ∷ []) (tagOf head-type head) → (bracket inside : ℕ) → head ≡ Op bracket inside → ⊥
+no-op known bracket inside same =
+    miss (0 ∷ 1 ∷ 2 ∷ 3 ∷ 4 ∷ 5 ∷ []) 6 tt (subst (λ (head : Head). OneOf (0 ∷ 1 ∷ 2 ∷ 3 ∷ 4 ∷ 5 ∷ []) (tagOf head-type head)) same known)
+
 -- ---- the end
 
 pub closed-then : {A : Type 0} (text : List ℕ) (at : ℕ) (refused : Refusal → A) (go : ℕ → A)
@@ -119,6 +126,7 @@ op-form-is text declared at = by-domain (declaredDomain text declared at)
     by-domain (Number domain start end) = by-op domain (bracketedOp text end)
     by-domain (RefusedNumber refusal) = tt
 
+-- the tags of the forms beside an op
 abbrev others : List ℕ
 others = 0 ∷ 1 ∷ 2 ∷ 3 ∷ 4 ∷ 6 ∷ []
 
