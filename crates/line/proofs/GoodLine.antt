@@ -3,12 +3,10 @@
 use Prim.Native.Nat.{ℕ, _+_, _≤_, _<_}
 use native.Mathlib.Omega.{arith}
 use mathlib.Core.List.{List, []}
-use mathlib.Core.Path.{_≡_, refl, sym, subst, ap, _∙_}
+use mathlib.Core.Path.{_≡_, sym, subst, ap, _∙_}
 use lib.Dec.{eqb}
 use lib.ListN.{length}
-use borrow.Author.Tests.{eqb-true}
-use Rattle.forms.proofs.GoodForm.{Good, GoodDomainParse, GoodForm, domain-good, op-good, pad-good, run-good, window-good}
-use Rattle.forms.specs.declared.DomainParse.{DomainParse}
+use Rattle.forms.proofs.GoodForm.{Good, GoodForm, domain-good, op-good, pad-good, run-good, window-good}
 use Rattle.forms.specs.declared.Form.{Form}
 use Rattle.forms.specs.declared.Form.the-variants.{Blank, Pad, Run, Domain, Window, Op as Script, Refused as NoForm}
 use Rattle.forms.specs.declared.FormParse.{FormParse}
@@ -19,7 +17,7 @@ use Rattle.refusal.specs.declared.Refusal.{Refusal}
 use Rattle.syntax.proofs.Advance.{due-holds, then-close, then-line-end}
 use Rattle.syntax.proofs.ByKeyword.{one-of-holds}
 use Rattle.lexer.proofs.Reached.{cond-holds, token-bounds}
-use Rattle.lexer.specs.Tokens.{lineEndKind, openKind, tokenAt, tokenEnd, tokenKind, tokenStart}
+use Rattle.lexer.specs.Tokens.{lineEndKind, openKind, tokenAt, tokenKind, tokenStart}
 use Rattle.line.specs.declared.Head.the-variants.{Op}
 use Rattle.line.specs.declared.Line.{Line}
 use Rattle.line.specs.declared.OpLineParse.{OpLineParse}

@@ -1,6 +1,6 @@
--- The beginning of a line, and the rest of an op line, as the code reads them apart. They say nothing
--- of their own: by `line-by-head` and `op-line-kept` of proofs/Heads they give the line that `lineAt`
--- of Lines is. Assumes nothing.
+-- The beginning of a line and the rest of it, as the code reads them apart. They say nothing of
+-- their own: by `line-by-head` of proofs/Heads they give the line that `lineAt` of Lines is. Assumes
+-- nothing.
 use Prim.Native.Nat.{ℕ, _+_}
 use mathlib.Core.Bool.{cond}
 use mathlib.Core.List.{List}
@@ -63,8 +63,10 @@ closedEnd text at = then (passClose text at) RefusedToken λ closed. passLineEnd
 -- the line that a beginning opens
 abbrev pub lineOf : List ℕ → ℕ → List ℕ → Head → Line
 lineOf text declared named (NoToken end) = lineWith end named Blank end
-lineOf text declared named (Pad bracket inside) = closedLine text bracket named (padForm text inside)
-lineOf text declared named (Run bracket inside) = closedLine text bracket named (runForm text inside)
+lineOf text declared named (Pad bracket inside) =
+    closedLine text bracket named (padForm text inside)
+lineOf text declared named (Run bracket inside) =
+    closedLine text bracket named (runForm text inside)
 lineOf text declared named (Domain bracket inside) =
     notedLine text bracket (domainForm text declared named inside)
 lineOf text declared named (Window bracket inside) =

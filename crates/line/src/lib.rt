@@ -10,13 +10,13 @@ use forms::op_lines::op_form;
 use forms::pad_and_run::pad_form;
 use forms::pad_and_run::run_form;
 use forms::windows::window_form;
-use lexer::Token;
-use lexer::token_at;
-use lexer::token_start;
+use lexer::Lookahead;
+use lexer::lookahead_at;
+use lexer::lookahead_start;
 use refusal::Refusal;
 use syntax::KeywordParse;
 use syntax::TokenParse;
-use syntax::keywords::keyword_at;
+use syntax::keywords::form_keyword_at;
 use syntax::tokens::pass_close;
 use syntax::tokens::pass_line_end;
 ghost use mathlib.Core.List.{List};
@@ -59,15 +59,7 @@ fn form_head(text: &[u8], bracket: usize) -> Head
     requires { ⌜ bracket + 1 < 2 ^ 64 ⌝ }
     ensures { λ r. ⌜ r ≡ formHead (now (text .entry)) bracket ⌝ }
 {
-    let keyword = keyword_at(
-        text,
-        b"pad",
-        b"run",
-        b"domain",
-        b"window",
-        b"op",
-        bracket + 1,
-    );
+    let keyword = form_keyword_at(text, bracket + 1);
     match keyword {
         KeywordParse::First(inside) => Head::Pad { bracket, inside },
         KeywordParse::Second(inside) => Head::Run { bracket, inside },
@@ -82,12 +74,12 @@ fn form_head(text: &[u8], bracket: usize) -> Head
 pub fn head_at(text: &[u8], at: usize) -> Head
     ensures { λ r. ⌜ r ≡ headAt (now (text .entry)) at ⌝ }
 {
-    let token = token_at(text, at);
-    if let Token::LineEnd(end) = token {
+    let next = lookahead_at(text, at);
+    if let Lookahead::LineEnd(end) = next {
         return Head::Blank(end);
     }
-    let Token::Open(bracket) = token else {
-        let start = token_start(token);
+    let Lookahead::Open(bracket) = next else {
+        let start = lookahead_start(next);
         return Head::Refused {
             bracket: start,
             refusal: Refusal::BrokenShape(start),

@@ -8,7 +8,6 @@ use Rattle.line.specs.declared.Line.{Line}
 use Rattle.line.specs.declared.OpLineParse.{OpLineParse}
 use Rattle.line.specs.declared.OpLineParse.the-variants.{Op as Took, Refused as RefusedOp}
 use Rattle.line.specs.Heads.{lineOf, opLineWith}
-use Rattle.plan.specs.declared.Plan.{Plan}
 use Rattle.refusal.proofs.Passed.{not-refused}
 use Rattle.refusal.specs.declared.Refusal.{Refusal}
 use Rattle.refusal.specs.declared.Verdict.{Verdict}

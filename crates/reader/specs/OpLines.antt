@@ -1,5 +1,5 @@
--- What the code says of an op line that it takes up apart from the other lines, in the terms of Draft:
--- nothing here is of the paper. Assumes nothing.
+-- What the code says of an op line that it takes up apart from the other lines, in the terms of
+-- Draft: nothing here is of the paper. Assumes nothing.
 use Prim.Native.Nat.{ℕ}
 use mathlib.Core.List.{List}
 use mathlib.Core.Path.{_≡_}
@@ -25,9 +25,9 @@ abbrev pub verdictOf : TokenParse → Verdict
 verdictOf (To end) = Accepted
 verdictOf (RefusedToken refusal) = Refused refusal
 
--- the line was taken up, from the first draft and store to the next, and what was answered is its end
--- or its refusal
-pub record TakenOp (passed : TokenParse) (line : Line) (draft : Draft) (store : List ℕ) (next : Draft)
-    (filled : List ℕ) : Type 0 where
+-- the line was taken up, from the first draft and store to the next, and what was answered is its
+-- end or its refusal
+pub record TakenOp (passed : TokenParse) (line : Line) (draft : Draft) (store : List ℕ)
+    (next : Draft) (filled : List ℕ) : Type 0 where
   pub came : outcomeWith (verdictOf passed) next filled ≡ takeLine line draft store
   pub ends : (end : ℕ) → passed ≡ To end → line .end ≡ end

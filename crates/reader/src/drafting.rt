@@ -161,7 +161,7 @@ fn take_window(line: WindowLine, bracket: usize, draft: Draft) -> DraftResult
     }
 }
 
-// A domain's 257th op is refused. What a draft holds beside the counts stays as it is, whatever that
+// A domain's 257th op is refused. What a draft holds beside the counts stays as it is, whatever it
 // is, so a caller need not hand a whole draft on for an op.
 pub fn take_op(
     line: OpLine,
@@ -193,7 +193,8 @@ fn take_op_form(
     store: &mut [u32; SCRIPTS_LENGTH],
 ) -> DraftResult
     requires { ⌜ line .domain < mostDomains ⌝ }
-    ensures { λ r. ⌜ outcomeOf r (now (store .exit)) ≡ takeOp line bracket draft (now (store .entry)) ⌝ }
+    ensures { λ r. ⌜ outcomeOf r (now (store .exit))
+        ≡ takeOp line bracket draft (now (store .entry)) ⌝ }
 {
     let plan = draft.plan;
     let mut counts = draft.counts;

@@ -1,5 +1,5 @@
-// The lines of a text, each taken up as it is read. Nearly all lines of a long text are op lines, so
-// the parts of the draft are kept apart, and an op line touches only the counts and the store.
+// The lines of a text, each taken up as it is read. Nearly all lines of a long text are op lines,
+// so the parts of the draft are kept apart, and an op line touches only the counts and the store.
 use crate::Draft;
 use crate::DraftResult;
 use crate::drafting::no_draft;
@@ -26,8 +26,8 @@ ghost use Rattle.reader.specs.Draft.{noDraft, outcomeOf};
 ghost use Rattle.reader.specs.OpLines.{TakenOp, draftWith};
 ghost use Rattle.reader.specs.Read.{walkFrom};
 
-// An op line is taken up, from past its word: the offset of its end, or the refusal, with counts and
-// store as they were.
+// An op line is taken up, from past its word: the offset of its end, or the refusal, with counts
+// and store as they were.
 fn take_op_line(
     text: &[u8],
     declared: u32,
@@ -55,8 +55,8 @@ fn take_op_line(
     }
 }
 
-// Every line is taken up in turn, or the first refusal is handed on, with draft and store as they were
-// before the refused line.
+// Every line is taken up in turn, or the first refusal is handed on, with draft and store as they
+// were before the refused line.
 pub fn walk(text: &[u8], store: &mut [u32; SCRIPTS_LENGTH]) -> DraftResult
     ensures { λ r. ⌜ outcomeOf r (now (store .exit))
         ≡ walkFrom (length (now (text .entry))) (now (text .entry)) 0 noDraft (now (store .entry)) ⌝ }

@@ -19,13 +19,15 @@ returns c plan named = not-read _ _ _ _ (c .before .before .before .op-line .ens
 
 returns-2 : tie.Need-returns-2
 returns-2 c plan named =
-    op-taken _ _ _ _ (c .before .before .before .before .before .before .before .before .op-line .ensures) (c .before .before .before .before .before .before .read2 .given .1) _ _ _ _ _
-    (c .before .before .take-op .ensures plan named) (c .enum-told .given .1)
+    let taken = c .before .before in
+    op-taken _ _ _ _ (taken .before .before .before .before .before .before .op-line .ensures) (taken .before .before .before .before .read2 .given .1) _ _ _ _ _
+    (taken .take-op .ensures plan named) (c .enum-told .given .1)
 
 returns-3 : tie.Need-returns-3
 returns-3 c plan named =
-    op-not-taken _ _ _ _ (c .before .before .before .before .before .before .before .before .before .op-line .ensures) (c .before .before .before .before .before .before .before .read2 .given .1) _ _ _ _ _
-    (c .before .before .before .take-op .ensures plan named) (c .before .verdict .given .1)
+    let taken = c .before .before .before in
+    op-not-taken _ _ _ _ (taken .before .before .before .before .before .before .op-line .ensures) (taken .before .before .before .before .read2 .given .1) _ _ _ _ _
+    (taken .take-op .ensures plan named) (c .before .verdict .given .1)
 
 pub take-op-line-spec : {M : Type 1} → statement M
 take-op-line-spec =
