@@ -6,7 +6,7 @@ use mathlib.Core.List.{List, [], _∷_}
 use mathlib.Core.Path.{_≡_, refl, sym, subst, _∙_}
 use lib.Dec.{leb, ltb}
 use lib.ListN.{length, getD, take, drop, length-take}
-use borrow.Author.Tests.{le-ltb, leb-false, leb-true, ltb-true}
+use borrow.Author.Tests.{le-ltb, ltb-true}
 use Rattle.lists.specs.Part.{part}
 use Rattle.lexer.specs.declared.Token.{Token}
 use Rattle.lexer.specs.declared.Token.the-variants.{LineEnd, Open, Close, Word, Number, LongNumber, Other}
@@ -109,13 +109,3 @@ bounds text at (Other start end) h = record { least = h .0; order = omega arith;
 
 pub token-bounds : (text : List ℕ) (at : ℕ) → Bounds text at (tokenAt text at)
 token-bounds text at = bounds text at (tokenAt text at) (token-reached text at)
-
--- what bounds the text's length and the offset bounds the token's end: the reader that moves there holds a number that fits
-pub end-bounded : (text : List ℕ) (at limit : ℕ) → length text < limit → at < limit → tokenEnd (tokenAt text at) < limit
-end-bounded text at limit long far = by-test (leb at (length text)) refl
-  where
-    by-test : (test : Bool) → leb at (length text) ≡ test → tokenEnd (tokenAt text at) < limit
-    by-test true t = omega (arith, token-bounds text at .inside (λ _. leb-true at (length text) t), long)
-    by-test false t =
-        let past = leb-false at (length text) t in
-        subst (λ token. tokenEnd token < limit) (sym (token-past text at (omega (arith, past)))) far

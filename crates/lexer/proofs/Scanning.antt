@@ -25,7 +25,7 @@ module _ (stops : ℕ → Bool) where
   scan-end text at h = rw (drop-of-length-le text h)
 
   -- a walk never goes back
-  scan-from-least : (bytes : List ℕ) (at : ℕ) → at ≤ scanFrom stops bytes at
+  pub scan-from-least : (bytes : List ℕ) (at : ℕ) → at ≤ scanFrom stops bytes at
   unfolding scanFrom
   scan-from-least [] at = omega arith
   scan-from-least (byte ∷ rest) at = by-test (stops byte) (scan-from-least rest (at + 1))

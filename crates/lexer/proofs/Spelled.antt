@@ -17,7 +17,7 @@ use Rattle.lexer.specs.Tokens.{digitsToken, runToken, tokenAt}
 use Rattle.lexer.proofs.Decimals.{decimal-all, decimal-few, decimal-some, decimal-value}
 use Rattle.lexer.proofs.Scanned.{all-weaker, in-run, inRun, run-token, stopsAt}
 
-letter-in-run : (byte : ℕ) → isLetter byte ≡ true → inRun byte ≡ true
+pub letter-in-run : (byte : ℕ) → isLetter byte ≡ true → inRun byte ≡ true
 letter-in-run byte letter =
     let least : 97 ≤ byte = leb-true 97 byte (and-eq-true-iff (leb 97 byte) (leb byte 122) .0 letter .0) in
     in-run byte (omega arith)
@@ -27,8 +27,11 @@ digit-least byte digit =
     let parts = and-eq-true-iff (leb 48 byte) (leb byte 57) .0 digit in
     (leb-true 48 byte (parts .0), leb-true byte 57 (parts .1))
 
+pub digit-in-run : (byte : ℕ) → isDigit byte ≡ true → inRun byte ≡ true
+digit-in-run byte digit = in-run byte (omega (arith, digit-least byte digit))
+
 -- a run of digits is no word
-digits-no-word : (run : List ℕ) → 0 < length run → allBytes isDigit run ≡ true → allBytes isLetter run ≡ false
+pub digits-no-word : (run : List ℕ) → 0 < length run → allBytes isDigit run ≡ true → allBytes isLetter run ≡ false
 unfolding allBytes
 digits-no-word [] some digits = absurd (not-suc-le-zero some)
 digits-no-word (byte ∷ run) some digits =
@@ -57,6 +60,6 @@ module _ (text : List ℕ) (at : ℕ) where
   number-token number rest left small ends =
       let run = decimalOf number in
       let digits : allBytes isDigit run ≡ true = decimal-all number in
-      let over : allBytes inRun run ≡ true = all-weaker isDigit inRun run (λ byte digit. in-run byte (omega (arith, digit-least byte digit))) digits in
+      let over : allBytes inRun run ≡ true = all-weaker isDigit inRun run digit-in-run digits in
       run-token text at run rest left (decimal-some number) over ends
       ∙ rw (digits-no-word run (decimal-some number) digits, digits, le-leb (length run) 10 (decimal-few number small), decimal-value number small)

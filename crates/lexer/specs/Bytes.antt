@@ -65,3 +65,10 @@ endsRun byte = isSpace byte || isLineFeed byte || isOpen byte || isClose byte
 -- where spaces that are passed over end
 abbrev pub isNoSpace : ℕ → Bool
 isNoSpace byte = not (isSpace byte)
+
+-- where the letters of a word end, and the digits of a number
+abbrev pub isNoLetter : ℕ → Bool
+isNoLetter byte = not (isLetter byte)
+
+abbrev pub isNoDigit : ℕ → Bool
+isNoDigit byte = not (isDigit byte)

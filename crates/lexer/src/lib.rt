@@ -3,14 +3,14 @@
 mod bytes;
 pub mod decimal;
 mod limits;
-mod runs;
+pub mod runs;
 mod scan;
 
 use runs::longest_run;
 use scan::skip_spaces;
 ghost use mathlib.Core.Path.{_≡_};
-ghost use Prim.Native.Nat.{_^_, _<_};
-ghost use Rattle.lexer.specs.Tokens.{tokenEnd, tokenStart, tokenAt, tokenFrom};
+ghost use Rattle.lexer.specs.Lookaheads.{lookaheadAt, lookaheadFrom, lookaheadStart};
+ghost use Rattle.lexer.specs.Tokens.{tokenAt, tokenFrom};
 
 // What stands next in a line. `start` is the offset of the token's first byte and `end` the offset
 // past its last.
@@ -42,6 +42,17 @@ pub enum Token {
     },
 }
 
+// What stands next in a line by its first byte, with that byte's offset. A bracket or a line's end
+// is known from it; a run of bytes is looked through only where a word or a number is due.
+pub enum Lookahead {
+    // no token is left in the line; the offset of its LF, or the text's length
+    LineEnd(usize),
+    Open(usize),
+    Close(usize),
+    // a run of other bytes begins
+    Run(usize),
+}
+
 // The token whose first byte stands at `start`, where no space stands.
 fn token_from(text: &[u8], start: usize) -> Token
     ensures { λ r. ⌜ r ≡ tokenFrom (now (text .entry)) start ⌝ }
@@ -63,49 +74,50 @@ fn token_from(text: &[u8], start: usize) -> Token
 }
 
 // The next token of the line from `at` on: spaces are passed over.
-fn find_token(text: &[u8], at: usize) -> Token
+pub fn token_at(text: &[u8], at: usize) -> Token
     ensures { λ r. ⌜ r ≡ tokenAt (now (text .entry)) at ⌝ }
 {
     let start = skip_spaces(text, at);
     token_from(text, start)
 }
 
-// The offset of a token's first byte, or of the line's end.
-pub fn token_start(token: Token) -> usize
-    ensures { λ r. ⌜ r ≡ tokenStart token ⌝ }
+// What stands at `start`, where no space stands.
+fn lookahead_from(text: &[u8], start: usize) -> Lookahead
+    ensures { λ r. ⌜ r ≡ lookaheadFrom (now (text .entry)) start ⌝ }
 {
-    match token {
-        Token::LineEnd(at) => at,
-        Token::Open(at) => at,
-        Token::Close(at) => at,
-        Token::Word { start, end: _ } => start,
-        Token::Number {
-            start,
-            end: _,
-            value: _,
-        } => start,
-        Token::LongNumber { start, end: _ } => start,
-        Token::Other { start, end: _ } => start,
+    if start < text.len() {
+        let byte = text[start];
+        if byte == b'\n' {
+            return Lookahead::LineEnd(start);
+        }
+        if byte == b'(' {
+            return Lookahead::Open(start);
+        }
+        if byte == b')' {
+            return Lookahead::Close(start);
+        }
+        return Lookahead::Run(start);
     }
+    Lookahead::LineEnd(start)
 }
 
-// The offset past a token's last byte, or of the line's end.
-fn token_end(token: Token) -> usize
-    requires { ⌜ tokenEnd token < 2 ^ 64 ⌝ }
-    ensures { λ r. ⌜ r ≡ tokenEnd token ⌝ }
+// What stands next in the line from `at` on: spaces are passed over.
+fn find_lookahead(text: &[u8], at: usize) -> Lookahead
+    ensures { λ r. ⌜ r ≡ lookaheadAt (now (text .entry)) at ⌝ }
 {
-    match token {
-        Token::LineEnd(at) => at,
-        Token::Open(at) => at + 1,
-        Token::Close(at) => at + 1,
-        Token::Word { start: _, end } => end,
-        Token::Number {
-            start: _,
-            end,
-            value: _,
-        } => end,
-        Token::LongNumber { start: _, end } => end,
-        Token::Other { start: _, end } => end,
+    let start = skip_spaces(text, at);
+    lookahead_from(text, start)
+}
+
+// The offset of the first byte of what stands next, or of the line's end.
+pub fn lookahead_start(next: Lookahead) -> usize
+    ensures { λ r. ⌜ r ≡ lookaheadStart next ⌝ }
+{
+    match next {
+        Lookahead::LineEnd(at) => at,
+        Lookahead::Open(at) => at,
+        Lookahead::Close(at) => at,
+        Lookahead::Run(at) => at,
     }
 }
 
@@ -116,22 +128,22 @@ pub struct Reader<'a> {
 }
 
 impl<'a> Reader<'a> {
-    // Hands out the next token, and moves on to its end.
-    pub fn next(&mut self) -> Token
-        ensures { λ token.
-            ⌜ (token ≡ tokenAt (now (now (self .entry) .text)) (now (self .entry) .at))
+    // Hands out what stands next, and moves to its first byte: the offset that a refusal names.
+    pub fn next(&mut self) -> Lookahead
+        ensures { λ next.
+            ⌜ (next ≡ lookaheadAt (now (now (self .entry) .text)) (now (self .entry) .at))
             × (now (self .exit) .text ≡ now (self .entry) .text)
-            × (now (self .exit) .at ≡ tokenEnd token) ⌝ }
+            × (now (self .exit) .at ≡ lookaheadStart next) ⌝ }
     {
-        let token = find_token(self.text, self.at);
-        self.at = token_end(token);
-        token
+        let next = find_lookahead(self.text, self.at);
+        self.at = lookahead_start(next);
+        next
     }
 }
 
-// The token that a reader at `at` hands out next.
-pub fn token_at(text: &[u8], at: usize) -> Token
-    ensures { λ r. ⌜ r ≡ tokenAt (now (text .entry)) at ⌝ }
+// What a reader at `at` hands out next.
+pub fn lookahead_at(text: &[u8], at: usize) -> Lookahead
+    ensures { λ r. ⌜ r ≡ lookaheadAt (now (text .entry)) at ⌝ }
 {
     let mut reader = Reader { text, at };
     reader.next()

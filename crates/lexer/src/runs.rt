@@ -3,6 +3,8 @@ use crate::Token;
 use crate::limits::MOST_DIGITS;
 use crate::scan::all_digits;
 use crate::scan::all_letters;
+use crate::scan::digits_end;
+use crate::scan::letters_end;
 use crate::scan::run_end;
 ghost use mathlib.Core.Bool.{true};
 ghost use mathlib.Core.Path.{_≡_};
@@ -10,6 +12,7 @@ ghost use Prim.Native.Nat.{_≤_};
 ghost use lib.ListN.{length};
 ghost use Rattle.lexer.specs.Bytes.{isDigit};
 ghost use Rattle.lexer.specs.Limits.{mostDigits};
+ghost use Rattle.lexer.specs.Lookaheads.{asNumber, asWord};
 ghost use Rattle.lexer.specs.Scan.{allBytes};
 ghost use Rattle.lexer.specs.Tokens.{digitsToken, longestRun, runToken, decimalValue};
 
@@ -40,6 +43,32 @@ fn digits_token(run: &[u8], start: usize, end: usize) -> Token
         }
     } else {
         Token::LongNumber { start, end }
+    }
+}
+
+// The run from `start` on where a word is due: that word, or a run that is none.
+pub fn word_from(text: &[u8], start: usize) -> Token
+    ensures { λ r. ⌜ r ≡ asWord (longestRun (now (text .entry)) start) ⌝ }
+{
+    let end = letters_end(text, start);
+    let past = run_end(text, end);
+    if end == past {
+        Token::Word { start, end }
+    } else {
+        Token::Other { start, end: past }
+    }
+}
+
+// The run from `start` on where a number is due: that number, or a run that is none.
+pub fn number_from(text: &[u8], start: usize) -> Token
+    ensures { λ r. ⌜ r ≡ asNumber (longestRun (now (text .entry)) start) ⌝ }
+{
+    let end = digits_end(text, start);
+    let past = run_end(text, end);
+    if (end == past) & (start < end) {
+        digits_token(&text[start..end], start, end)
+    } else {
+        Token::Other { start, end: past }
     }
 }
 

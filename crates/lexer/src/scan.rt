@@ -3,7 +3,8 @@ use crate::bytes::ends_run;
 use crate::bytes::is_digit;
 use crate::bytes::is_letter;
 ghost use mathlib.Core.Path.{_≡_};
-ghost use Rattle.lexer.specs.Bytes.{endsRun, isDigit, isLetter, isNoSpace};
+ghost use Rattle.lexer.specs.Bytes.{endsRun, isDigit, isLetter, isNoDigit, isNoLetter};
+ghost use Rattle.lexer.specs.Bytes.{isNoSpace};
 ghost use Rattle.lexer.specs.Scan.{allBytes, scanOf};
 
 // The offset of the first byte from `at` on that is no space.
@@ -27,6 +28,34 @@ pub fn run_end(text: &[u8], start: usize) -> usize
     let mut here = start;
     while here < text.len() {
         if ends_run(text[here]) {
+            return here;
+        }
+        here += 1;
+    }
+    here
+}
+
+// The offset of the first byte from `start` on that is no letter.
+pub fn letters_end(text: &[u8], start: usize) -> usize
+    ensures { λ r. ⌜ r ≡ scanOf isNoLetter (now (text .entry)) start ⌝ }
+{
+    let mut here = start;
+    while here < text.len() {
+        if !is_letter(text[here]) {
+            return here;
+        }
+        here += 1;
+    }
+    here
+}
+
+// The offset of the first byte from `start` on that is no digit.
+pub fn digits_end(text: &[u8], start: usize) -> usize
+    ensures { λ r. ⌜ r ≡ scanOf isNoDigit (now (text .entry)) start ⌝ }
+{
+    let mut here = start;
+    while here < text.len() {
+        if !is_digit(text[here]) {
             return here;
         }
         here += 1;

@@ -1,25 +1,28 @@
 -- What a line is known to satisfy: its form is a good one, if it is not refused, and it ends at or past its first byte and within the text.
 -- Assumes nothing.
-use Prim.Native.Nat.{ℕ, _+_, _≤_}
+use Prim.Native.Nat.{ℕ, _+_, _≤_, _<_}
 use native.Mathlib.Omega.{arith}
-use mathlib.Core.List.{List}
-use mathlib.Core.Path.{_≡_, refl}
+use mathlib.Core.List.{List, []}
+use mathlib.Core.Path.{_≡_, sym, subst, ap, _∙_}
 use lib.Dec.{eqb}
 use lib.ListN.{length}
-use borrow.Author.Tests.{eqb-true}
-use Rattle.forms.proofs.GoodForm.{Good, GoodDomainParse, GoodForm, domain-good, op-good, pad-good, run-good, window-good}
-use Rattle.forms.specs.declared.DomainParse.{DomainParse}
+use Rattle.forms.proofs.GoodForm.{Good, GoodForm, domain-good, op-good, pad-good, run-good, window-good}
 use Rattle.forms.specs.declared.Form.{Form}
 use Rattle.forms.specs.declared.Form.the-variants.{Blank, Pad, Run, Domain, Window, Op as Script, Refused as NoForm}
 use Rattle.forms.specs.declared.FormParse.{FormParse}
 use Rattle.forms.specs.declared.FormParse.the-variants.{Form as Took, Refused as RefusedForm}
+use Rattle.forms.specs.declared.OpLine.{OpLine}
 use Rattle.plan.specs.Limits.{mostDomains}
 use Rattle.refusal.specs.declared.Refusal.{Refusal}
 use Rattle.syntax.proofs.Advance.{due-holds, then-close, then-line-end}
 use Rattle.syntax.proofs.ByKeyword.{one-of-holds}
 use Rattle.lexer.proofs.Reached.{cond-holds, token-bounds}
-use Rattle.lexer.specs.Tokens.{lineEndKind, openKind, tokenAt, tokenEnd, tokenKind, tokenStart}
+use Rattle.lexer.specs.Tokens.{lineEndKind, openKind, tokenAt, tokenKind, tokenStart}
+use Rattle.line.specs.declared.Head.the-variants.{Op}
 use Rattle.line.specs.declared.Line.{Line}
+use Rattle.line.specs.declared.OpLineParse.{OpLineParse}
+use Rattle.line.specs.declared.OpLineParse.the-variants.{Op as TookOp}
+use Rattle.line.specs.Heads.{lineOf, opLineWith}
 use Rattle.line.specs.Lines.{closedLine, notedLine, formKeywords, formLine, lineAt, lineWith, refusedLine}
 
 pub record GoodLine (text : List ℕ) (declared : ℕ) (named : List ℕ) (at : ℕ) (line : Line) : Type 0 where
@@ -79,3 +82,11 @@ module _ (text : List ℕ) (declared : ℕ) (named : List ℕ) (at : ℕ) where
       (λ same. record { form = bounds .least; within = omega (arith, bounds .order, bounds .inside (λ _. within)) })
       (λ _. due-holds (GoodLine text declared named at) text openKind at _ _ (λ none. absurd (omega arith)) (none (tokenStart token) named)
       λ bracket inside least order ends. form-good bracket eight (omega arith))
+
+-- the domain of an op line that was read apart is declared
+pub op-declared : (text : List ℕ) (declared inside : ℕ) {parse : OpLineParse} {line : OpLine} {end : ℕ}
+    → ((bracket : ℕ) (named : List ℕ) → opLineWith bracket named parse ≡ lineOf text declared named (Op bracket inside))
+    → parse ≡ TookOp line end → line .domain < declared
+op-declared text declared inside {parse} {line} {end} read known =
+    subst (GoodLine text declared [] inside) (sym (read inside []) ∙ ap (opLineWith inside []) known)
+    (closed-good text declared [] inside inside [] _ (op-good text declared [] inside inside (omega arith))) .form .0

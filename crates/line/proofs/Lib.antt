@@ -1,1 +1,2 @@
 pub mod GoodLine
+pub mod Heads

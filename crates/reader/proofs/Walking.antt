@@ -13,17 +13,24 @@ use Rattle.forms.specs.declared.Form.the-variants.{Blank, Pad, Run, Domain, Win
 use Rattle.forms.specs.declared.DomainLine.{DomainLine}
 use Rattle.forms.specs.declared.OpLine.{OpLine}
 use Rattle.line.proofs.GoodLine.{GoodLine, line-good}
+use Rattle.line.proofs.Heads.{line-by-head}
+use Rattle.line.specs.declared.Head.{Head}
+use Rattle.line.specs.declared.Head.the-variants.{Op}
 use Rattle.line.specs.declared.Line.{Line}
+use Rattle.line.specs.Heads.{headAt, lineOf}
 use Rattle.refusal.proofs.Passed.{not-refused}
 use Rattle.refusal.specs.declared.Refusal.{Refusal}
 use Rattle.refusal.specs.declared.Verdict.{Verdict}
 use Rattle.refusal.specs.declared.Verdict.the-variants.{Accepted, Refused}
 use Rattle.plan.specs.Limits.{mostDomains}
+use Rattle.syntax.specs.declared.TokenParse.{TokenParse}
+use Rattle.syntax.specs.declared.TokenParse.the-variants.{To, Refused as RefusedToken}
 use Rattle.script.specs.Limits.{scriptsLength}
 use Rattle.reader.proofs.GoodDraft.{GoodDraft, GoodOutcome, draft-first, line-taken}
 use Rattle.reader.specs.declared.Draft.{Draft}
 use Rattle.reader.specs.declared.DraftResult.{DraftResult}
 use Rattle.reader.specs.Draft.{DraftOutcome, noDraft, noOps, outcomeOf, takeForm, takeLine, taken}
+use Rattle.reader.specs.OpLines.{TakenOp, outcomeWith, verdictOf}
 use Rattle.reader.specs.Read.{draftLine, linesOf, walkFrom}
 
 -- ---- a line that is taken up
@@ -181,3 +188,39 @@ module _ (text : List ℕ) (at : ℕ) (draft : Draft) (store : List ℕ) (whole 
                 ∙ more .2;
             good = subst (GoodOutcome (length store)) (sym came) (line-taken draft store (left .good) text at line good-line) .0;
           }
+
+  -- ---- the same of a line that is read by its beginning
+
+  module _ (below : at < length text) {head : Head} (is : head ≡ headAt text at) where
+    pub headed : {line : Line} → line ≡ lineOf text (draft .plan .domains) (draft .named) head → line ≡ draftLine text at draft
+    headed of = of ∙ ap (lineOf text (draft .plan .domains) (draft .named)) is ∙ sym (line-by-head text (draft .plan .domains) (draft .named) at)
+
+    -- ---- and is an op line
+
+    module _ {bracket inside : ℕ} (opens : head ≡ Op bracket inside) {passed : TokenParse} (next : Draft) (filled : List ℕ)
+        (taken : TakenOp passed (lineOf text (draft .plan .domains) (draft .named) (Op bracket inside)) draft store next filled) where
+      abbrev line : Line
+      line = lineOf text (draft .plan .domains) (draft .named) (Op bracket inside)
+
+      is-line : line ≡ draftLine text at draft
+      is-line = headed (ap (lineOf text (draft .plan .domains) (draft .named)) (sym opens))
+
+      abbrev result : DraftResult
+      result = record { verdict = verdictOf passed; draft = next }
+
+      pub op-refused : {why : Refusal} → passed ≡ RefusedToken why → outcomeWith (Refused why) next filled ≡ whole
+      op-refused {why} known =
+          ap (λ (to : TokenParse). outcomeWith (verdictOf to) next filled) (sym known)
+          ∙ turn-refused below line is-line result filled (taken .came) why (ap verdictOf known)
+
+      module _ {end : ℕ} (known : passed ≡ To end) where
+        pub op-within : end ≤ length text
+        op-within = omega (arith, turn-within below line is-line, taken .ends end known)
+
+        pub op-reach : at ≤ end
+        op-reach = omega (arith, turn-reach below line is-line result filled (taken .came) (ap verdictOf known), taken .ends end known)
+
+        pub op-next : LinesLeft text (end + 1) next filled whole
+        op-next =
+            subst (λ (last : ℕ). LinesLeft text (last + 1) next filled whole) (taken .ends end known)
+            (turn-next below line is-line result filled (taken .came) (ap verdictOf known))

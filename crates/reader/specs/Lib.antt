@@ -1,3 +1,4 @@
 pub mod Draft
 pub mod Final
+pub mod OpLines
 pub mod Read

@@ -15,11 +15,13 @@ use refusal::Verdict;
 use script::limits::MOST_OPS;
 use script::limits::SCRIPTS_LENGTH;
 use script::stored;
+ghost use mathlib.Core.List.{List};
 ghost use mathlib.Core.Path.{_≡_};
-ghost use Prim.Native.Nat.{_<_};
+ghost use Prim.Native.Nat.{ℕ, _<_};
 ghost use Rattle.forms.specs.declared.Form.the-variants.{Domain, Op};
 ghost use Rattle.plan.specs.Limits.{mostDomains, mostWindows};
 ghost use Rattle.plan.specs.Parts.{withDomain, withPad, withRun, withWindow};
+ghost use Rattle.reader.specs.OpLines.{draftWith, outcomeWith};
 ghost use Rattle.reader.specs.Draft.{noDraft, outcomeOf, takeDomain, takeLine, takeOp};
 ghost use Rattle.reader.specs.Draft.{takePad, takeRun, takeWindow, withPlan};
 
@@ -159,32 +161,47 @@ fn take_window(line: WindowLine, bracket: usize, draft: Draft) -> DraftResult
     }
 }
 
-// A domain's 257th op is refused.
-fn take_op(
+// A domain's 257th op is refused. What a draft holds beside the counts stays as it is, whatever it
+// is, so a caller need not hand a whole draft on for an op.
+pub fn take_op(
+    line: OpLine,
+    bracket: usize,
+    counts: &mut [usize; DOMAIN_ENTRIES],
+    store: &mut [u32; SCRIPTS_LENGTH],
+) -> Verdict
+    requires { ⌜ line .domain < mostDomains ⌝ }
+    ensures { λ r. ⌜ ((plan : Plan) (named : List ℕ)
+        → outcomeWith r (draftWith plan (now (counts .exit)) named) (now (store .exit))
+        ≡ takeOp line bracket (draftWith plan (now (counts .entry)) named) (now (store .entry))) ⌝ }
+{
+    let domain = line.domain as usize;
+    let op = line.op;
+    let index = counts[domain];
+    if MOST_OPS <= index {
+        return Verdict::Refused(Refusal::TooMany(bracket));
+    }
+    store[MOST_OPS * domain + index] = stored(op);
+    counts[domain] = index + 1;
+    Verdict::Accepted
+}
+
+// The same with the draft.
+fn take_op_form(
     line: OpLine,
     bracket: usize,
     draft: Draft,
     store: &mut [u32; SCRIPTS_LENGTH],
 ) -> DraftResult
     requires { ⌜ line .domain < mostDomains ⌝ }
-    ensures { λ r. ⌜ outcomeOf r (now (store .exit)) ≡ takeOp line bracket draft (now (store .entry)) ⌝ }
+    ensures { λ r. ⌜ outcomeOf r (now (store .exit))
+        ≡ takeOp line bracket draft (now (store .entry)) ⌝ }
 {
-    let domain = line.domain as usize;
-    let op = line.op;
-    let mut counts = draft.counts;
-    let index = counts[domain];
-    if MOST_OPS <= index {
-        return DraftResult {
-            verdict: Verdict::Refused(Refusal::TooMany(bracket)),
-            draft,
-        };
-    }
-    store[MOST_OPS * domain + index] = stored(op);
-    counts[domain] = index + 1;
     let plan = draft.plan;
+    let mut counts = draft.counts;
     let named = draft.named;
+    let verdict = take_op(line, bracket, &mut counts, store);
     DraftResult {
-        verdict: Verdict::Accepted,
+        verdict,
         draft: Draft {
             plan,
             counts,
@@ -211,7 +228,7 @@ pub fn take_line(line: Line, draft: Draft, store: &mut [u32; SCRIPTS_LENGTH]) ->
         Form::Run(times) => take_run(times, bracket, draft),
         Form::Domain(domain) => take_domain(domain, named, draft),
         Form::Window(window) => take_window(window, bracket, draft),
-        Form::Op(op) => take_op(op, bracket, draft, store),
+        Form::Op(op) => take_op_form(op, bracket, draft, store),
         Form::Refused(refusal) => DraftResult {
             verdict: Verdict::Refused(refusal),
             draft,

@@ -1,40 +1,116 @@
-// The lines of a text, each taken up as it is read.
+// The lines of a text, each taken up as it is read. Nearly all lines of a long text are op lines,
+// so the parts of the draft are kept apart, and an op line touches only the counts and the store.
+use crate::Draft;
 use crate::DraftResult;
 use crate::drafting::no_draft;
 use crate::drafting::take_line;
-use line::line_at;
+use crate::drafting::take_op;
+use line::Head;
+use line::OpLineParse;
+use line::head_at;
+use line::line_of;
+use line::op_line;
+use plan::Plan;
+use plan::limits::DOMAIN_ENTRIES;
 use refusal::Verdict;
 use script::limits::SCRIPTS_LENGTH;
+use syntax::TokenParse;
+ghost use mathlib.Core.List.{List};
 ghost use mathlib.Core.Path.{_≡_};
+ghost use Prim.Native.Nat.{ℕ, _≤_};
 ghost use lib.ListN.{length};
+ghost use Rattle.line.specs.Heads.{lineOf};
+ghost use Rattle.plan.specs.Limits.{mostDomains};
 ghost use Rattle.script.specs.Limits.{scriptsLength};
 ghost use Rattle.reader.specs.Draft.{noDraft, outcomeOf};
+ghost use Rattle.reader.specs.OpLines.{TakenOp, draftWith};
 ghost use Rattle.reader.specs.Read.{walkFrom};
 
-// Every line is taken up in turn, or the first refusal is handed on, with draft and store as they were
-// before the refused line.
+// An op line is taken up, from past its word: the offset of its end, or the refusal, with counts
+// and store as they were.
+fn take_op_line(
+    text: &[u8],
+    declared: u32,
+    bracket: usize,
+    inside: usize,
+    counts: &mut [usize; DOMAIN_ENTRIES],
+    store: &mut [u32; SCRIPTS_LENGTH],
+) -> TokenParse
+    requires { ⌜ declared ≤ mostDomains ⌝ }
+    ensures { λ r. ⌜ ((plan : Plan) (named : List ℕ) → TakenOp r
+        (lineOf (now (text .entry)) declared named (Head.Op bracket inside))
+        (draftWith plan (now (counts .entry)) named) (now (store .entry))
+        (draftWith plan (now (counts .exit)) named) (now (store .exit))) ⌝ }
+{
+    let read = op_line(text, declared, inside);
+    match read {
+        OpLineParse::Refused(refusal) => TokenParse::Refused(refusal),
+        OpLineParse::Op { line, end } => {
+            let verdict = take_op(line, bracket, counts, store);
+            match verdict {
+                Verdict::Accepted => TokenParse::To(end),
+                Verdict::Refused(refusal) => TokenParse::Refused(refusal),
+            }
+        }
+    }
+}
+
+// Every line is taken up in turn, or the first refusal is handed on, with draft and store as they
+// were before the refused line.
 pub fn walk(text: &[u8], store: &mut [u32; SCRIPTS_LENGTH]) -> DraftResult
     ensures { λ r. ⌜ outcomeOf r (now (store .exit))
         ≡ walkFrom (length (now (text .entry))) (now (text .entry)) 0 noDraft (now (store .entry)) ⌝ }
 {
-    let mut draft = no_draft();
+    let first = no_draft();
+    let mut plan = first.plan;
+    let mut counts = first.counts;
+    let mut named = first.named;
     let mut at: usize = 0;
     while at < text.len() {
-        let declared = draft.plan.domains;
-        let named = draft.named;
-        let line = line_at(text, declared, named, at);
+        let declared = plan.domains;
+        let head = head_at(text, at);
+        if let Head::Op { bracket, inside } = head {
+            let taken = take_op_line(text, declared, bracket, inside, &mut counts, store);
+            let end = match taken {
+                TokenParse::To(offset) => offset,
+                TokenParse::Refused(refusal) => {
+                    return DraftResult {
+                        verdict: Verdict::Refused(refusal),
+                        draft: Draft {
+                            plan,
+                            counts,
+                            named,
+                        },
+                    }
+                }
+            };
+            at = end + 1;
+            continue;
+        }
+        let line = line_of(text, declared, named, head);
+        let draft = Draft {
+            plan,
+            counts,
+            named,
+        };
         let added = take_line(line, draft, store);
         let verdict = added.verdict;
         if let Verdict::Refused(_) = verdict {
             return added;
         }
         let next = added.draft;
-        draft = next;
+        plan = next.plan;
+        counts = next.counts;
+        named = next.named;
         at = line.end + 1;
     }
     DraftResult {
         verdict: Verdict::Accepted,
-        draft,
+        draft: Draft {
+            plan,
+            counts,
+            named,
+        },
     }
 }
 

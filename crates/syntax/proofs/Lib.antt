@@ -4,5 +4,7 @@ pub mod Choices
 pub mod GoodList
 pub mod Listing
 pub mod NewBit
+pub mod NumberDue
 pub mod PastOp
+pub mod WhichWord
 pub mod Words

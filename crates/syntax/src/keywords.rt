@@ -1,71 +1,121 @@
-// A word that is one of five.
+// A word that is one of five. How many letters it has is looked at first: few words have as many.
 use crate::KeywordParse;
 use crate::tokens::is_word;
+use lexer::Lookahead;
 use lexer::Token;
-use lexer::token_at;
-use lexer::token_start;
+use lexer::lookahead_at;
+use lexer::lookahead_start;
+use lexer::runs::word_from;
 use refusal::Refusal;
 ghost use mathlib.Core.Path.{_≡_};
 ghost use Prim.Native.Nat.{_≤_};
 ghost use lib.ListN.{length};
+ghost use Rattle.lists.specs.Ascii.{bytesOf};
 ghost use Rattle.syntax.specs.declared.KeywordParse.the-variants.{Refused as RefusedKeyword};
 ghost use Rattle.syntax.specs.Keywords.{fiveWords, follows, keywordAt};
 
-// Which of the five words stands from `start` up to `end`.
-fn keyword_for(
-    text: &[u8],
-    start: usize,
-    end: usize,
-    first: &[u8],
-    second: &[u8],
-    third: &[u8],
-    fourth: &[u8],
-    fifth: &[u8],
-) -> KeywordParse
+// Which op's word stands from `start` up to `end`.
+fn op_word(text: &[u8], start: usize, end: usize) -> KeywordParse
     requires { ⌜ (start ≤ end) × (end ≤ length (now text)) ⌝ }
     ensures { λ r.
         ⌜ r ≡ follows
-        (fiveWords (now (first .entry)) (now (second .entry)) (now (third .entry))
-        (now (fourth .entry)) (now (fifth .entry)))
+        (fiveWords (bytesOf "read") (bytesOf "write") (bytesOf "send")
+        (bytesOf "receive") (bytesOf "compute"))
         (now (text .entry)) start end RefusedKeyword ⌝ }
 {
-    if is_word(text, start, end, first) {
-        return KeywordParse::First(end);
+    let letters = end - start;
+    if letters == b"read".len() {
+        if is_word(text, start, end, b"read") {
+            return KeywordParse::First(end);
+        }
+        if is_word(text, start, end, b"send") {
+            return KeywordParse::Third(end);
+        }
     }
-    if is_word(text, start, end, second) {
-        return KeywordParse::Second(end);
+    if letters == b"write".len() {
+        if is_word(text, start, end, b"write") {
+            return KeywordParse::Second(end);
+        }
     }
-    if is_word(text, start, end, third) {
-        return KeywordParse::Third(end);
-    }
-    if is_word(text, start, end, fourth) {
-        return KeywordParse::Fourth(end);
-    }
-    if is_word(text, start, end, fifth) {
-        return KeywordParse::Fifth(end);
+    if letters == b"receive".len() {
+        if is_word(text, start, end, b"receive") {
+            return KeywordParse::Fourth(end);
+        }
+        if is_word(text, start, end, b"compute") {
+            return KeywordParse::Fifth(end);
+        }
     }
     KeywordParse::Refused(Refusal::BrokenShape(start))
 }
 
-// One of the five words was due.
-pub fn keyword_at(
-    text: &[u8],
-    first: &[u8],
-    second: &[u8],
-    third: &[u8],
-    fourth: &[u8],
-    fifth: &[u8],
-    at: usize,
-) -> KeywordParse
+// Which form's word stands from `start` up to `end`.
+fn form_word(text: &[u8], start: usize, end: usize) -> KeywordParse
+    requires { ⌜ (start ≤ end) × (end ≤ length (now text)) ⌝ }
+    ensures { λ r.
+        ⌜ r ≡ follows
+        (fiveWords (bytesOf "pad") (bytesOf "run") (bytesOf "domain")
+        (bytesOf "window") (bytesOf "op"))
+        (now (text .entry)) start end RefusedKeyword ⌝ }
+{
+    let letters = end - start;
+    if letters == b"op".len() {
+        if is_word(text, start, end, b"op") {
+            return KeywordParse::Fifth(end);
+        }
+    }
+    if letters == b"pad".len() {
+        if is_word(text, start, end, b"pad") {
+            return KeywordParse::First(end);
+        }
+        if is_word(text, start, end, b"run") {
+            return KeywordParse::Second(end);
+        }
+    }
+    if letters == b"domain".len() {
+        if is_word(text, start, end, b"domain") {
+            return KeywordParse::Third(end);
+        }
+        if is_word(text, start, end, b"window") {
+            return KeywordParse::Fourth(end);
+        }
+    }
+    KeywordParse::Refused(Refusal::BrokenShape(start))
+}
+
+// The word of an op was due.
+pub fn op_keyword_at(text: &[u8], at: usize) -> KeywordParse
     ensures { λ r.
         ⌜ r ≡ keywordAt
-        (fiveWords (now (first .entry)) (now (second .entry)) (now (third .entry))
-        (now (fourth .entry)) (now (fifth .entry)))
+        (fiveWords (bytesOf "read") (bytesOf "write") (bytesOf "send")
+        (bytesOf "receive") (bytesOf "compute"))
         (now (text .entry)) at ⌝ }
 {
-    let token = token_at(text, at);
-    let Token::Word { start, end } = token else {
-        return KeywordParse::Refused(Refusal::BrokenShape(token_start(token)));
+    let next = lookahead_at(text, at);
+    let Lookahead::Run(first) = next else {
+        return KeywordParse::Refused(Refusal::BrokenShape(lookahead_start(next)));
     };
-    keyword_for(text, start, end, first, second, third, fourth, fifth)
+    let token = word_from(text, first);
+    let Token::Word { start, end } = token else {
+        return KeywordParse::Refused(Refusal::BrokenShape(first));
+    };
+    op_word(text, start, end)
+}
+
+// The word of a form was due.
+pub fn form_keyword_at(text: &[u8], at: usize) -> KeywordParse
+    ensures { λ r.
+        ⌜ r ≡ keywordAt
+        (fiveWords (bytesOf "pad") (bytesOf "run") (bytesOf "domain")
+        (bytesOf "window") (bytesOf "op"))
+        (now (text .entry)) at ⌝ }
+{
+    let next = lookahead_at(text, at);
+    let Lookahead::Run(first) = next else {
+        return KeywordParse::Refused(Refusal::BrokenShape(lookahead_start(next)));
+    };
+    let token = word_from(text, first);
+    let Token::Word { start, end } = token else {
+        return KeywordParse::Refused(Refusal::BrokenShape(first));
+    };
+    form_word(text, start, end)
 }

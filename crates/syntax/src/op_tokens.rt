@@ -3,7 +3,7 @@ use crate::KeywordParse;
 use crate::NumberOp;
 use crate::NumberParse;
 use crate::OpParse;
-use crate::keywords::keyword_at;
+use crate::keywords::op_keyword_at;
 use crate::tokens::take_number;
 use script::Op;
 use script::limits::LAST_DOMAIN;
@@ -79,7 +79,7 @@ fn send_op(text: &[u8], at: usize) -> OpParse
 pub fn op_at(text: &[u8], at: usize) -> OpParse
     ensures { λ r. ⌜ r ≡ opAt (now (text .entry)) at ⌝ }
 {
-    let keyword = keyword_at(text, b"read", b"write", b"send", b"receive", b"compute", at);
+    let keyword = op_keyword_at(text, at);
     match keyword {
         KeywordParse::First(end) => number_op(text, NumberOp::Read, 0, MOST_NUMBER, end),
         KeywordParse::Second(end) => number_op(text, NumberOp::Write, 0, MOST_NUMBER, end),

@@ -1,9 +1,12 @@
 // What is due is taken from the next token, or the line is refused.
 use crate::NumberParse;
 use crate::TokenParse;
+use lexer::Lookahead;
 use lexer::Token;
-use lexer::token_at;
-use lexer::token_start;
+use lexer::lookahead_at;
+use lexer::lookahead_start;
+use lexer::runs::number_from;
+use lexer::runs::word_from;
 use refusal::Refusal;
 ghost use mathlib.Core.Path.{_≡_};
 ghost use Prim.Native.Nat.{_≤_};
@@ -40,9 +43,9 @@ pub fn is_word(text: &[u8], start: usize, end: usize, word: &[u8]) -> bool
 pub fn pass_open(text: &[u8], at: usize) -> TokenParse
     ensures { λ r. ⌜ r ≡ passOpen (now (text .entry)) at ⌝ }
 {
-    let token = token_at(text, at);
-    let Token::Open(bracket) = token else {
-        return TokenParse::Refused(Refusal::BrokenShape(token_start(token)));
+    let next = lookahead_at(text, at);
+    let Lookahead::Open(bracket) = next else {
+        return TokenParse::Refused(Refusal::BrokenShape(lookahead_start(next)));
     };
     TokenParse::To(bracket + 1)
 }
@@ -51,9 +54,9 @@ pub fn pass_open(text: &[u8], at: usize) -> TokenParse
 pub fn pass_close(text: &[u8], at: usize) -> TokenParse
     ensures { λ r. ⌜ r ≡ passClose (now (text .entry)) at ⌝ }
 {
-    let token = token_at(text, at);
-    let Token::Close(bracket) = token else {
-        return TokenParse::Refused(Refusal::BrokenShape(token_start(token)));
+    let next = lookahead_at(text, at);
+    let Lookahead::Close(bracket) = next else {
+        return TokenParse::Refused(Refusal::BrokenShape(lookahead_start(next)));
     };
     TokenParse::To(bracket + 1)
 }
@@ -62,9 +65,9 @@ pub fn pass_close(text: &[u8], at: usize) -> TokenParse
 pub fn pass_line_end(text: &[u8], at: usize) -> TokenParse
     ensures { λ r. ⌜ r ≡ passLineEnd (now (text .entry)) at ⌝ }
 {
-    let token = token_at(text, at);
-    let Token::LineEnd(end) = token else {
-        return TokenParse::Refused(Refusal::BrokenShape(token_start(token)));
+    let next = lookahead_at(text, at);
+    let Lookahead::LineEnd(end) = next else {
+        return TokenParse::Refused(Refusal::BrokenShape(lookahead_start(next)));
     };
     TokenParse::To(end)
 }
@@ -73,9 +76,13 @@ pub fn pass_line_end(text: &[u8], at: usize) -> TokenParse
 pub fn pass_word(text: &[u8], word: &[u8], at: usize) -> TokenParse
     ensures { λ r. ⌜ r ≡ passWord (now (text .entry)) (now (word .entry)) at ⌝ }
 {
-    let token = token_at(text, at);
+    let next = lookahead_at(text, at);
+    let Lookahead::Run(first) = next else {
+        return TokenParse::Refused(Refusal::BrokenShape(lookahead_start(next)));
+    };
+    let token = word_from(text, first);
     let Token::Word { start, end } = token else {
-        return TokenParse::Refused(Refusal::BrokenShape(token_start(token)));
+        return TokenParse::Refused(Refusal::BrokenShape(first));
     };
     if is_word(text, start, end, word) {
         TokenParse::To(end)
@@ -88,12 +95,16 @@ pub fn pass_word(text: &[u8], word: &[u8], at: usize) -> TokenParse
 pub fn take_number(text: &[u8], low: u32, high: u32, at: usize) -> NumberParse
     ensures { λ r. ⌜ r ≡ takeNumber (now (text .entry)) low high at ⌝ }
 {
-    let token = token_at(text, at);
+    let next = lookahead_at(text, at);
+    let Lookahead::Run(first) = next else {
+        return NumberParse::Refused(Refusal::BrokenShape(lookahead_start(next)));
+    };
+    let token = number_from(text, first);
     if let Token::LongNumber { start, end: _ } = token {
         return NumberParse::Refused(Refusal::NumberOutOfLimits(start));
     }
     let Token::Number { start, end, value } = token else {
-        return NumberParse::Refused(Refusal::BrokenShape(token_start(token)));
+        return NumberParse::Refused(Refusal::BrokenShape(first));
     };
     if (low as u64 <= value) & (value <= high as u64) {
         NumberParse::Number {

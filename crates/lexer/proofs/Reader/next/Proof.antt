@@ -1,8 +1,8 @@
 -- `lexer::Reader::next` meets its contract: a walk of its MIR by hand, since the borrow checker does not cover a struct that holds a reference.
--- The reader's borrow is opened, its text and its offset are read, the token is found, its end is stored as the offset, and the borrow is
--- closed at the reader that has moved on. Assumes nothing.
+-- The reader's borrow is opened, its text and its offset are read, what stands next is found, the offset of its first byte is stored, and the
+-- borrow is closed at the reader that has moved there. Assumes nothing.
 -- A comment "in hand" lists what the walk has, front first; _2 is the MIR's local of that number, at the address l₂, and behind each local stands what frees it.
-use mathlib.Core.Path.{_≡_, refl, sym, ap, subst}
+use mathlib.Core.Path.{_≡_, refl, ap}
 use Prim.Native.Nat.{ℕ, _<_, _^_}
 use mathlib.Core.List.{List, [], _∷_}
 use lib.ListN.{length}
@@ -45,22 +45,21 @@ use denote.Triple.Entry.{Vals, onEntry}
 use denote.Triple.Spec.{Meets, tripleOf}
 use denote.Triple.Table.{entered, cited}
 use denote.Triple.Walked.{says, Stays, stay-ref, walkOf, goes-ref, Walks, ends-at, walked, walk-meets}
-use Rattle.lexer.specs.Tokens.{tokenEnd, tokenAt}
+use Rattle.lexer.specs.Lookaheads.{lookaheadAt, lookaheadStart}
 use Rattle.lexer.specs.declared.Reader.{Reader}
-use Rattle.lexer.specs.declared.Token.{Token}
-use Rattle.lexer.proofs.Reached.{end-bounded}
+use Rattle.lexer.specs.declared.Lookahead.{Lookahead}
 use Rattle.lexer.proofs.Reader as Reader
 use Rattle.lexer.proofs.Reader.Laws as Reader′
-use Rattle.lexer.proofs.Token as Token
-use Rattle.lexer.proofs.Token.Laws as Token′
-use Rattle.lexer.proofs.find_token as find
-use Rattle.lexer.proofs.find_token.Symbol as find-def
-use Rattle.lexer.proofs.find_token.Symbol.{name as #find}
-use Rattle.lexer.proofs.find_token.Met as find-thm
-use Rattle.lexer.proofs.token_end as end
-use Rattle.lexer.proofs.token_end.Symbol as end-def
-use Rattle.lexer.proofs.token_end.Symbol.{name as #end}
-use Rattle.lexer.proofs.token_end.Met as end-thm
+use Rattle.lexer.proofs.Lookahead as Lookahead
+use Rattle.lexer.proofs.Lookahead.Laws as Lookahead′
+use Rattle.lexer.proofs.find_lookahead as find
+use Rattle.lexer.proofs.find_lookahead.Symbol as find-def
+use Rattle.lexer.proofs.find_lookahead.Symbol.{name as #find}
+use Rattle.lexer.proofs.find_lookahead.Met as find-thm
+use Rattle.lexer.proofs.lookahead_start as start
+use Rattle.lexer.proofs.lookahead_start.Symbol as start-def
+use Rattle.lexer.proofs.lookahead_start.Symbol.{name as #start}
+use Rattle.lexer.proofs.lookahead_start.Met as start-thm
 use Rattle.lexer.proofs.Reader.next.Key.{name as #own}
 use Rattle.lexer.proofs.Reader.next as own
 use Rattle.lexer.proofs.Reader.next.Statement as stated
@@ -79,8 +78,8 @@ module _ {M : Type 1} (𝓤 : URA M) (H : Heap 𝓤) (A : Atoms 𝓤) (mem : Mem
   abbrev Find : Contract 𝓤
   Find = tripleOf 𝓤 H A find.signature (find.spec 𝓤 H A mem run)
 
-  abbrev End : Contract 𝓤
-  End = tripleOf 𝓤 H A end.signature (end.spec 𝓤 H A mem run)
+  abbrev Start : Contract 𝓤
+  Start = tripleOf 𝓤 H A start.signature (start.spec 𝓤 H A mem run)
 
 module _ {M : Type 1} (𝓤 : URA M) (H : Heap 𝓤) (A : Atoms 𝓤) (W : Given 𝓤 H A) (at-mem : Memory → SProp 𝓤) (run : Routine → Fun 𝓤)
     (κ κ′ : Lft) (q q′ : Share) (bounds : AllOutlive 2 (own.signature .outlives) (κ, (κ′, tt))) (block place : ℕ) (γ : GName) (reader : Reader) where
@@ -105,8 +104,8 @@ module _ {M : Type 1} (𝓤 : URA M) (H : Heap 𝓤) (A : Atoms 𝓤) (W : Given
   abbrev moved : ℕ → Reader
   moved offset = record { text = reader .text; at = offset }
 
-  abbrev found : Token
-  found = tokenAt (now (reader .text)) (reader .at)
+  abbrev found : Lookahead
+  found = lookaheadAt (now (reader .text)) (reader .at)
 
   abbrev Alive : Item 𝓤
   Alive = ‵ (flft κ′ q′) ⊛ ‵ ftrue
@@ -124,7 +123,7 @@ module _ {M : Type 1} (𝓤 : URA M) (H : Heap 𝓤) (A : Atoms 𝓤) (W : Given
       qed W (‵ Own ∷ []) ∵ owned ! usize (Is usize) (uint-makes 𝓤 H A W w64) offset _ (refl, fits) $ move ! (1 ∷ 0 ∷ []) $
       by ! (own-put 𝓤 H A W (Reader.the-type α) (Reader′.the-laws α) 1 (reader .text, (reader .at, tt)) offset (Reader′.lowered reader))
 
-  -- ---- the call of `find_token`: what it is passed, what it asks, and what is known of its result
+  -- ---- the call of `find_lookahead`: what it is passed, what it asks, and what is known of its result
   abbrev find-vals : Vals find.signature (κ′, tt)
   find-vals = (sliceVal (reader .text .ptr) (length (reader .text .now)) ∷ [], (vint w64 (reader .at) ∷ [], tt))
 
@@ -150,42 +149,38 @@ module _ {M : Type 1} (𝓤 : URA M) (H : Heap 𝓤) (A : Atoms 𝓤) (W : Given
       move ! (1 ∷ []) $ drop ! $ nothing ! $ owned ! usize (Is usize) (uint-makes 𝓤 H A W w64) (reader .at) _ (refl, fits) $ fjoin ! $ move ! (1 ∷ 0 ∷ []) $ fjoin ! $
       move ! (2 ∷ 0 ∷ []) $ use2 W (raw (Find 𝓤 H A at-mem run .pre find-call)) find-asked $ frame ! $ done !)
 
-  find-said : (token : Token)
-      → ent 𝓤 (ensured 𝓤 H A find.ended (find.clauses 𝓤 H A at-mem run) (κ′, tt) (reader .text, (reader .at, tt)) tt token) (fact 𝓤 (token ≡ found))
-  find-said token = exE 𝓤 _ (λ ws. snd∗ 𝓤 (sem 𝓤 H A (lasts find.ended (κ′, tt) (reader .text, (reader .at, tt)) ws)) (fact 𝓤 (token ≡ found)))
+  find-said : (next : Lookahead)
+      → ent 𝓤 (ensured 𝓤 H A find.ended (find.clauses 𝓤 H A at-mem run) (κ′, tt) (reader .text, (reader .at, tt)) tt next) (fact 𝓤 (next ≡ found))
+  find-said next = exE 𝓤 _ (λ ws. snd∗ 𝓤 (sem 𝓤 H A (lasts find.ended (κ′, tt) (reader .text, (reader .at, tt)) ws)) (fact 𝓤 (next ≡ found)))
 
-  -- ---- the call of `token_end`, at a token and its machine value
-  abbrev end-call : Token → Val → End 𝓤 H A at-mem run .Ghost
-  end-call token value = ((tt, tt, tt, (token, tt), (value ∷ [], tt)), tt)
+  -- ---- the call of `lookahead_start`, at what stands next and its machine value
+  abbrev start-call : Lookahead → Val → Start 𝓤 H A at-mem run .Ghost
+  start-call next value = ((tt, tt, tt, (next, tt), (value ∷ [], tt)), tt)
 
-  end-asked : (token : Token) (value : Val) → tokenEnd token < 2 ^ 64
-      → ent 𝓤 (sem 𝓤 H A (Token.the-row .own token (value ∷ []))) (End 𝓤 H A at-mem run .pre (end-call token value))
-  end-asked token value fits = qed W (‵ (Token.the-row .own token (value ∷ [])) ∷ []) ∵ nothing ! $ move ! (1 ∷ 0 ∷ []) $ fjoin ! $ nothing ! $ says ! fits $ frame ! $ done !
+  start-asked : (next : Lookahead) (value : Val)
+      → ent 𝓤 (sem 𝓤 H A (Lookahead.the-row .own next (value ∷ []))) (Start 𝓤 H A at-mem run .pre (start-call next value))
+  start-asked next value = qed W (‵ (Lookahead.the-row .own next (value ∷ [])) ∷ []) ∵ nothing ! $ move ! (1 ∷ 0 ∷ []) $ fjoin ! $ nothing ! $ join ! $ frame ! $ done !
 
-  end-said : (token : Token) (offset : ℕ)
-      → ent 𝓤 (ensured 𝓤 H A end.ended (end.clauses 𝓤 H A at-mem run) tt (token, tt) tt offset) (fact 𝓤 (offset ≡ tokenEnd token))
-  end-said token offset = exE 𝓤 _ (λ ws. snd∗ 𝓤 (sem 𝓤 H A (lasts end.ended tt (token, tt) ws)) (fact 𝓤 (offset ≡ tokenEnd token)))
-
-  -- the end of the token that was found fits, since the text's length and the offset do
-  end-fits : (token : Token) → token ≡ found → length (now (reader .text)) < 2 ^ 64 → reader .at < 2 ^ 64 → tokenEnd token < 2 ^ 64
-  end-fits token is-found long far = subst (λ next. tokenEnd next < 2 ^ 64) (sym is-found) (end-bounded (now (reader .text)) (reader .at) (2 ^ 64) long far)
+  start-said : (next : Lookahead) (offset : ℕ)
+      → ent 𝓤 (ensured 𝓤 H A start.ended (start.clauses 𝓤 H A at-mem run) tt (next, tt) tt offset) (fact 𝓤 (offset ≡ lookaheadStart next))
+  start-said next offset = exE 𝓤 _ (λ ws. snd∗ 𝓤 (sem 𝓤 H A (lasts start.ended tt (next, tt) ws)) (fact 𝓤 (offset ≡ lookaheadStart next)))
 
   -- ---- what is left at exit
   abbrev Left : ℕ → List (Item 𝓤)
   Left offset = ‵ (fobs γ (Row .coded .code (moved offset))) ∷ ‵ (fbor κ (Body (mem Row) block place γ)) ∷ ‵ (flft κ q) ∷ Alive ∷ []
 
-  exits : (token : Token) (value : Val) (offset : ℕ) → Is Token.the-row token (value ∷ []) → token ≡ found → offset ≡ tokenEnd token
+  exits : (next : Lookahead) (value : Val) (offset : ℕ) → Is Lookahead.the-row next (value ∷ []) → next ≡ found → offset ≡ lookaheadStart next
       → ent 𝓤 (⋆ 𝓤 H A (Left offset)) (Post value)
-  exits token value offset is-token is-found is-end =
+  exits next value offset is-lookahead is-found is-start =
       qed W (Left offset) ∵
       suffices ! _
-      (ends-at 𝓤 H A own.ended stayed (own.clauses 𝓤 H A at-mem run) W (((κ, (κ′, tt)), (q, (q′, tt)), bounds, args, vals), tt) value token (moved offset, tt) (tt, tt)) $
-      says ! (is-found, refl, is-end) $
+      (ends-at 𝓤 H A own.ended stayed (own.clauses 𝓤 H A at-mem run) W (((κ, (κ′, tt)), (q, (q′, tt)), bounds, args, vals), tt) value next (moved offset, tt) (tt, tt)) $
+      says ! (is-found, refl, is-start) $
       move ! (2 ∷ 3 ∷ []) $ join ! $ frame ! $ feqI ! (List Val) (vptr block place ∷ []) (vptr block place ∷ []) refl $ fjoin3 ! $ nothing ! $ move ! (1 ∷ 0 ∷ []) $ fjoin ! $
-      owned ! Token.the-row (Is Token.the-row) (EL.makes Token.the-type Token′.the-plain 𝓤 H A) token _ is-token $ move ! (1 ∷ 0 ∷ []) $ done !
+      owned ! Lookahead.the-row (Is Lookahead.the-row) (EL.makes Lookahead.the-type Lookahead′.the-plain 𝓤 H A) next _ is-lookahead $ move ! (1 ∷ 0 ∷ []) $ done !
 
   module _ (C : Calls 𝓤 H) (Λ : Loops 𝓤 H) (fm : FmC 𝓤 H (W .laws) C)
-      (known-find : Triple 𝓤 (C #find) (Find 𝓤 H A at-mem run)) (known-end : Triple 𝓤 (C #end) (End 𝓤 H A at-mem run)) where
+      (known-find : Triple 𝓤 (C #find) (Find 𝓤 H A at-mem run)) (known-start : Triple 𝓤 (C #start) (Start 𝓤 H A at-mem run)) where
     walk : ent 𝓤 (onEntry 𝓤 H A own.signature (κ, (κ′, tt)) (q, (q′, tt)) args vals) (WpFn 𝓤 H C Λ code.function (vptr block place ∷ []) Post)
     walk =
         qed W ((‵ (flft κ q) ⊛ Alive) ∷ ‵ (owns (MutRef (named 0) κ Row ∷ []) args vals) ∷ []) ∵ enter ! C Λ code.function (vptr block place ∷ []) _ $
@@ -203,30 +198,30 @@ module _ {M : Type 1} (𝓤 : URA M) (H : Heap 𝓤) (A : Atoms 𝓤) (W : Given
         assigns ! (of-opd ! (load ! (from ! (hop ! (look ! 13 refl) (fld ! refl (stop !)))) (look-in ! 0 (sub ! 0 refl (whole !))))) (from ! (stop !)) (init ! 9 refl (tt, typed .1 .0)) $
         assigns ! (of-opd ! (load ! (from ! (hop ! (look ! 13 refl) (fld ! refl (stop !)))) (look-in ! 0 (sub ! 1 refl (whole !))))) (from ! (stop !)) (init ! 7 refl (tt, typed .1 .1 .0)) $
         move ! (5 ∷ 1 ∷ []) $ use2 W (raw (Find 𝓤 H A at-mem run .pre find-call) ⊛ ‵ Own) (apart (typed .1 .1 .0 .fits)) $ split ! $
-        -- in hand: what `find_token` asks; what the reader owns; its cell; the open borrow; obs; auth; true; _4 to _0 at 7, 9, 11, 13, 15
+        -- in hand: what `find_lookahead` asks; what the reader owns; its cell; the open borrow; obs; auth; true; _4 to _0 at 7, 9, 11, 13, 15
         calls-at ! fm (Find 𝓤 H A at-mem run) known-find find-call
         (and-then ! (load ! (from ! (stop !)) (look ! 9 refl)) (and-then ! (load ! (from ! (stop !)) (look ! 7 refl)) (no-more !))) (λ value.
-        use1 W (later (some (λ (token : Token). (Alive ⊛ ‵ (Token.the-row .own token (value ∷ [])))
-        ⊛ raw (ensured 𝓤 H A find.ended (find.clauses 𝓤 H A at-mem run) (κ′, tt) (reader .text, (reader .at, tt)) tt token)))) (id⊢ 𝓤 _) $
-        await ! tt $ pick ! (λ token. split ! $ move ! (1 ∷ []) $ use1 W (raw (fact 𝓤 (token ≡ found))) (find-said token) $
-        heard ! (token ≡ found) (λ is-found. split ! $ move ! (1 ∷ []) $
-        -- in hand: the token; 'a's token; what the reader owns; its cell; the open borrow; obs; auth; true; _4 to _0 at 8, 10, 12, 14, 16
-        peeks ! Token.the-row (Is Token.the-row) (shows 𝓤 H A Token.the-row) token (value ∷ []) (λ is-token.
-        land ! (from ! (stop !)) (init ! 12 refl (EL.lawful Token.the-type Token′.the-laws 𝓤 H A W tt .typed token _ is-token .0)) $
-        use1 W (raw (End 𝓤 H A at-mem run .pre (end-call token value)))
-        (end-asked token value (end-fits token is-found (typed .1 .0 .1 .0 .fits) (typed .1 .1 .0 .fits))) $
-        calls-at ! fm (End 𝓤 H A at-mem run) known-end (end-call token value) (and-then ! (load ! (from ! (stop !)) (look ! 12 refl)) (no-more !)) (λ number.
+        use1 W (later (some (λ (next : Lookahead). (Alive ⊛ ‵ (Lookahead.the-row .own next (value ∷ [])))
+        ⊛ raw (ensured 𝓤 H A find.ended (find.clauses 𝓤 H A at-mem run) (κ′, tt) (reader .text, (reader .at, tt)) tt next)))) (id⊢ 𝓤 _) $
+        await ! tt $ pick ! (λ next. split ! $ move ! (1 ∷ []) $ use1 W (raw (fact 𝓤 (next ≡ found))) (find-said next) $
+        heard ! (next ≡ found) (λ is-found. split ! $ move ! (1 ∷ []) $
+        -- in hand: what stands next; 'a's token; what the reader owns; its cell; the open borrow; obs; auth; true; _4 to _0 at 8, 10, 12, 14, 16
+        peeks ! Lookahead.the-row (Is Lookahead.the-row) (shows 𝓤 H A Lookahead.the-row) next (value ∷ []) (λ is-lookahead.
+        land ! (from ! (stop !)) (init ! 12 refl (EL.lawful Lookahead.the-type Lookahead′.the-laws 𝓤 H A W tt .typed next _ is-lookahead .0)) $
+        use1 W (raw (Start 𝓤 H A at-mem run .pre (start-call next value))) (start-asked next value) $
+        calls-at ! fm (Start 𝓤 H A at-mem run) known-start (start-call next value) (and-then ! (load ! (from ! (stop !)) (look ! 12 refl)) (no-more !)) (λ number.
         use1 W (later (some (λ (offset : ℕ). (‵ ftrue ⊛ ‵ (usize .own offset (number ∷ [])))
-        ⊛ raw (ensured 𝓤 H A end.ended (end.clauses 𝓤 H A at-mem run) tt (token, tt) tt offset)))) (id⊢ 𝓤 _) $
-        await ! tt $ pick ! (λ offset. split ! $ move ! (1 ∷ []) $ use1 W (raw (fact 𝓤 (offset ≡ tokenEnd token))) (end-said token offset) $
-        heard ! (offset ≡ tokenEnd token) (λ is-end. split ! $ drop ! $
+        ⊛ raw (ensured 𝓤 H A start.ended (start.clauses 𝓤 H A at-mem run) tt (next, tt) tt offset)))) (id⊢ 𝓤 _) $
+        await ! tt $ pick ! (λ offset. split ! $ move ! (1 ∷ []) $ use1 W (raw (fact 𝓤 (offset ≡ lookaheadStart next))) (start-said next offset) $
+        heard ! (offset ≡ lookaheadStart next) (λ is-start. split ! $ drop ! $
         peeks ! usize (Is usize) (shows 𝓤 H A usize) offset (number ∷ []) (λ is-offset.
-        -- the offset is stored in the reader, and the token is what is returned
+        -- the offset is stored in the reader, and what stands next is returned
         land ! (from ! (stop !)) (store ! 8 refl (uint-lawful 𝓤 H A W w64 .typed offset _ is-offset .0)) $
         rewrite ! 8 (λ (z : Val). ‵ (fat fullShare (tyInt w64) l₄ 0 z)) (ap only (is-offset .0)) refl $
         assigns ! (of-opd ! (load ! (from ! (stop !)) (look ! 8 refl))) (from ! (hop ! (look ! 14 refl) (fld ! refl (stop !))))
         (store-in ! 3 (sub ! 1 refl (whole !)) (tt, record { fits = is-offset .1 })) $
-        assigns ! (of-opd ! (load ! (from ! (stop !)) (look ! 12 refl))) (from ! (stop !)) (init ! 16 refl (EL.lawful Token.the-type Token′.the-laws 𝓤 H A W tt .typed token _ is-token .0)) $
+        assigns ! (of-opd ! (load ! (from ! (stop !)) (look ! 12 refl))) (from ! (stop !))
+        (init ! 16 refl (EL.lawful Lookahead.the-type Lookahead′.the-laws 𝓤 H A W tt .typed next _ is-lookahead .0)) $
         -- the reader is put together again at the new offset, and the borrow is closed
         move ! (2 ∷ []) $ use1 W (‵ (Row .own (moved offset) (Reader′.lowered (moved offset) ∷ []))) (again offset (is-offset .1)) $
         move ! (3 ∷ []) $ use1 W (‵ (cellAt fullShare (Row .mir) (Reader′.lowered (moved offset) ∷ []) block place))
@@ -235,23 +230,23 @@ module _ {M : Type 1} (𝓤 : URA M) (H : Heap 𝓤) (A : Atoms 𝓤) (W : Given
         -- in hand: obs; the borrow; its lifetime's token; the offset's; 'a's token; true; _4 to _0 at 6, 8, 10, 12, 14
         returns ! (look ! 14 refl) $ forget ! 6 refl $ forget ! 8 refl $ forget ! 10 refl $ forget ! 12 refl $ forget ! 14 refl $
         move ! (14 ∷ 15 ∷ []) $ free1 ! $ move ! (12 ∷ 13 ∷ []) $ free1 ! $ move ! (10 ∷ 11 ∷ []) $ free1 ! $ move ! (8 ∷ 9 ∷ []) $ free1 ! $ move ! (6 ∷ 7 ∷ []) $ free1 ! $ free0 ! $
-        keep ! (0 ∷ 1 ∷ 2 ∷ 4 ∷ []) $ by ! (exits token value offset is-token is-found is-end))))))))))))))))
+        keep ! (0 ∷ 1 ∷ 2 ∷ 4 ∷ []) $ by ! (exits next value offset is-lookahead is-found is-start))))))))))))))))
 
 module _ {M : Type 1} (𝓤 : URA M) (H : Heap 𝓤) (A : Atoms 𝓤) (W : Given 𝓤 H A) (mem : Memory → SProp 𝓤) (run : Routine → Fun 𝓤) where
-  next-walks : (C : Calls 𝓤 H) (Λ : Loops 𝓤 H) → FmC 𝓤 H (W .laws) C → Triple 𝓤 (C #find) (Find 𝓤 H A mem run) → Triple 𝓤 (C #end) (End 𝓤 H A mem run)
+  next-walks : (C : Calls 𝓤 H) (Λ : Loops 𝓤 H) → FmC 𝓤 H (W .laws) C → Triple 𝓤 (C #find) (Find 𝓤 H A mem run) → Triple 𝓤 (C #start) (Start 𝓤 H A mem run)
       → Walks 𝓤 H A own.ended stayed (WpFn 𝓤 H C Λ code.function) (own.clauses 𝓤 H A mem run)
-  next-walks C Λ fm known-find known-end =
+  next-walks C Λ fm known-find known-start =
       walked 𝓤 H A own.ended stayed (own.clauses 𝓤 H A mem run) (WpFn 𝓤 H C Λ code.function) (λ κs. (ptr-vals, tt)) (λ κs. (mut-tells (named 0) (κs .0) (Reader.the-row (namedLft 2 1 tt κs)), tt))
       (λ κs qs bounds a _ are. via 𝓤 _ (fst∗ 𝓤 _ (emp 𝓤))
-      (walk 𝓤 H A W mem run (κs .0) (κs .1 .0) (qs .0) (qs .1 .0) bounds (a .0 .ptr .0) (a .0 .ptr .1) (a .0 .name) (a .0 .now) C Λ fm known-find known-end))
+      (walk 𝓤 H A W mem run (κs .0) (κs .1 .0) (qs .0) (qs .1 .0) bounds (a .0 .ptr .0) (a .0 .ptr .1) (a .0 .name) (a .0 .now) C Λ fm known-find known-start))
 
 next-meets : {M : Type 1} (𝓤 : URA M) (H : Heap 𝓤) (A : Atoms 𝓤) → Given 𝓤 H A → (mem : Memory → SProp 𝓤) (run : Routine → Fun 𝓤) (𝓣 : Tables 𝓤 H)
-    → Triple 𝓤 (𝓣 .C #find) (Find 𝓤 H A mem run) → Triple 𝓤 (𝓣 .C #end) (End 𝓤 H A mem run)
+    → Triple 𝓤 (𝓣 .C #find) (Find 𝓤 H A mem run) → Triple 𝓤 (𝓣 .C #start) (Start 𝓤 H A mem run)
     → Meets 𝓤 H A own.signature (WpFn 𝓤 H (𝓣 .C) (𝓣 .Λ) code.function) (own.spec 𝓤 H A mem run)
-next-meets 𝓤 H A W mem run 𝓣 known-find known-end =
+next-meets 𝓤 H A W mem run 𝓣 known-find known-start =
     walk-meets 𝓤 H A own.ended stayed W (goes-ref 𝓤 H A W 2 0 tt behind, tt) (own.clauses 𝓤 H A mem run)
     (WpFn 𝓤 H (𝓣 .C) (𝓣 .Λ) code.function) (WpFn-mono 𝓤 H (W .laws) 𝓣 code.function)
-    (next-walks 𝓤 H A W mem run (𝓣 .C) (𝓣 .Λ) (fmOf 𝓤 H (W .laws) 𝓣) known-find known-end)
+    (next-walks 𝓤 H A W mem run (𝓣 .C) (𝓣 .Λ) (fmOf 𝓤 H (W .laws) 𝓣) known-find known-start)
 
 pub next-spec : {M : Type 1} → stated.statement M
 unfolding code.routine tablesOf
@@ -259,5 +254,5 @@ next-spec 𝓤 H 𝓜 𝓖 𝓡 =
     entered 𝓤 H (tripleOf 𝓤 H (𝓖 .A) own.signature (own.spec 𝓤 H (𝓖 .A) (𝓜 .mem) (𝓡 .run)))
     (tables 𝓤 H 𝓜 𝓡 code.env .C) (tables 𝓤 H 𝓜 𝓡 code.env .Λ) #own code.function (code.unfolded 𝓤 H 𝓜 𝓡)
     (next-meets 𝓤 H (𝓖 .A) (givenOf 𝓤 H 𝓜 𝓖) (𝓜 .mem) (𝓡 .run) (tablesOf 𝓤 H 𝓜 (tables 𝓤 H 𝓜 𝓡 code.env))
-    (cited 𝓤 H (Find 𝓤 H (𝓖 .A) (𝓜 .mem) (𝓡 .run)) 𝓜 𝓡 code.env #find find-def.routine code.calls-lexer·find-token (find-thm.met 𝓤 H 𝓜 𝓖 𝓡))
-    (cited 𝓤 H (End 𝓤 H (𝓖 .A) (𝓜 .mem) (𝓡 .run)) 𝓜 𝓡 code.env #end end-def.routine code.calls-lexer·token-end (end-thm.met 𝓤 H 𝓜 𝓖 𝓡)))
+    (cited 𝓤 H (Find 𝓤 H (𝓖 .A) (𝓜 .mem) (𝓡 .run)) 𝓜 𝓡 code.env #find find-def.routine code.calls-lexer·find-lookahead (find-thm.met 𝓤 H 𝓜 𝓖 𝓡))
+    (cited 𝓤 H (Start 𝓤 H (𝓖 .A) (𝓜 .mem) (𝓡 .run)) 𝓜 𝓡 code.env #start start-def.routine code.calls-lexer·lookahead-start (start-thm.met 𝓤 H 𝓜 𝓖 𝓡)))

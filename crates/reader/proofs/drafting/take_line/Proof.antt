@@ -7,8 +7,8 @@ use Rattle.reader.proofs.drafting.take_line.Tie as tie
 take-domain-requires : tie.Need-take-domain-requires
 take-domain-requires c κs = c .before .before .before .before .pre .0 _ (c .before .form3 .given .1)
 
-take-op-requires : tie.Need-take-op-requires
-take-op-requires c κs = c .before .before .before .before .before .pre .1 _ (c .before .before .form5 .given .1)
+take-op-form-requires : tie.Need-take-op-form-requires
+take-op-form-requires c κs = c .before .before .before .before .before .pre .1 _ (c .before .before .form5 .given .1)
 
 returns : tie.Need-returns
 unfolding takeLine
@@ -32,7 +32,7 @@ returns-5 c = simp (c .before .before .form4 .given .1, ← (c .take-window .ens
 
 returns-6 : tie.Need-returns-6
 unfolding takeLine
-returns-6 c = simp (c .before .before .before .form5 .given .1, ← (c .take-op .ensures))
+returns-6 c = simp (c .before .before .before .form5 .given .1, ← (c .take-op-form .ensures))
 
 returns-7 : tie.Need-returns-7
 unfolding takeLine
@@ -43,5 +43,5 @@ take-line-spec =
     tie.close
     (tie.spec
     (λ c. search needs) (λ c. search needs) (λ c κs. tt) (λ c. search needs) (λ c κs. tt) (λ c. search needs)
-    take-domain-requires (λ c. search needs) (λ c κs. tt) (λ c. search needs) take-op-requires (λ c. search needs)
+    take-domain-requires (λ c. search needs) (λ c κs. tt) (λ c. search needs) take-op-form-requires (λ c. search needs)
     returns returns-2 returns-3 returns-4 returns-5 returns-6 returns-7)

@@ -7,11 +7,11 @@ use Rattle.reader.proofs.drafting.take_op.Tie as tie
 
 returns : tie.Need-returns
 unfolding takeOp
-returns c = simp (le-leb _ _ (c .if1 .taken))
+returns c plan named = simp (le-leb _ _ (c .if1 .taken))
 
 returns-2 : tie.Need-returns-2
 unfolding takeOp
-returns-2 c = simp (lt-leb _ _ (c .before .before .before .if1 .left), ← (c .before .before .stored .ensures))
+returns-2 c plan named = simp (lt-leb _ _ (c .before .if1 .left), ← (c .stored .ensures))
 
 pub take-op-spec : {M : Type 1} → statement M
 take-op-spec =

@@ -3,67 +3,132 @@ use Prim.Native.Nat.{_-_}
 use native.Mathlib.Omega.{arith}
 use lib.ListN.{length}
 use borrow.Author.Needs.{needs}
+use Rattle.line.proofs.Heads.{no-op}
 use Rattle.reader.specs.Draft.{noDraft}
+use Rattle.reader.specs.OpLines.{draftWith}
 use Rattle.reader.specs.Read.{walkFrom}
 use Rattle.reader.proofs.GoodDraft.{draft-first}
 use Rattle.reader.proofs.Walking.{LinesLeft, lines-end, lines-first, turn-domain, turn-next, turn-op, turn-reach, turn-refused, turn-within}
+use Rattle.reader.proofs.Walking.{headed, op-next, op-reach, op-refused, op-within}
 use Rattle.reader.proofs.walk.walk.Statement.{statement}
 use Rattle.reader.proofs.walk.walk.Tie as tie
 
 abbrev Inv-loop : tie.InvT-loop
-Inv-loop text store₀ draft₀ at₀ store draft at = LinesLeft text at draft store (walkFrom (length text) text 0 noDraft store₀)
+Inv-loop text store₀ plan₀ counts₀ named₀ at₀ store plan counts named at =
+    LinesLeft text at (draftWith plan counts named) store (walkFrom (length text) text 0 noDraft store₀)
 
 abbrev μ-loop : tie.MeasureT-loop
-μ-loop text store₀ draft₀ at₀ store draft at = length text - at
+μ-loop text store₀ plan₀ counts₀ named₀ at₀ store plan counts named at = length text - at
 
 loop-holds : tie.Need-loop-holds Inv-loop μ-loop
-loop-holds c = rw (c .no-draft .ensures) (lines-first _ noDraft _ draft-first)
+loop-holds c = rw (c .before .before .before .no-draft .ensures) (lines-first _ noDraft _ draft-first)
 
-take-line-requires : tie.Need-take-line-requires Inv-loop μ-loop
-take-line-requires c κs =
-    let turn = c .before .before .before in
-    let left = turn .before .loop .inv in (
-      turn-domain _ _ _ _ _ left (turn .loop-test .taken) _ (c .before .line-at .ensures),
-      turn-op _ _ _ _ _ left (turn .loop-test .taken) _ (c .before .line-at .ensures),
-    )
+-- ---- an op line
+
+take-op-line-requires : tie.Need-take-op-line-requires Inv-loop μ-loop
+take-op-line-requires c κs = c .before .before .before .before .before .before .before .loop .inv .good .domains .most
 
 returns : tie.Need-returns Inv-loop μ-loop
 returns c =
-    let taken = c .before .before in
-    let turn = taken .before .before .before .before in
-    turn-refused _ _ _ _ _ (turn .before .loop .inv) (turn .loop-test .taken) _ (taken .before .before .line-at .ensures)
-    (taken .take-line .result) _ (taken .take-line .ensures) _ (c .enum-told .given .1)
+    let called = c .before .before .before in
+    let turn = called .before .before .before .before .before .before in
+    op-refused _ _ _ _ _ (turn .before .before .loop .inv) (turn .before .loop-test .taken) (turn .head-at .ensures)
+    (called .before .before .before .before .head .given .1) _ _ (called .take-op-line .ensures _ _) (c .before .taken2 .given .1)
 
 add-at : tie.Need-add-at Inv-loop μ-loop
 add-at c =
-    let taken = c .before .before .before .before in
-    let turn = taken .before .before .before .before in
-    omega (arith, turn-within _ _ _ _ _ (turn .before .loop .inv) (turn .loop-test .taken) _ (taken .before .before .line-at .ensures))
+    let called = c .before .before .before in
+    let turn = called .before .before .before .before .before .before in
+    omega (
+      arith,
+      turn .before .before .before .before .before .before .before,
+      op-within _ _ _ _ _ (turn .before .before .loop .inv) (turn .before .loop-test .taken) (turn .head-at .ensures)
+          (called .before .before .before .before .head .given .1) _ _ (called .take-op-line .ensures _ _) (c .before .taken .given .1),
+    )
 
 loop-less : tie.Need-loop-less Inv-loop μ-loop
 loop-less c =
-    let taken = c .before .before .before .before in
-    let turn = taken .before .before .before .before in
+    let called = c .before .before .before in
+    let turn = called .before .before .before .before .before .before in
     omega (
       arith,
-      turn .loop-test .taken,
-      turn-reach _ _ _ _ _ (turn .before .loop .inv) (turn .loop-test .taken) _ (taken .before .before .line-at .ensures)
-          (taken .take-line .result) _ (taken .take-line .ensures) (c .before .before .enum-told2 .given .1),
+      turn .before .loop-test .taken,
+      op-reach _ _ _ _ _ (turn .before .before .loop .inv) (turn .before .loop-test .taken) (turn .head-at .ensures)
+          (called .before .before .before .before .head .given .1) _ _ (called .take-op-line .ensures _ _) (c .before .taken .given .1),
     )
 
 loop-again : tie.Need-loop-again Inv-loop μ-loop
 loop-again c =
-    let taken = c .before .before .before .before in
-    let turn = taken .before .before .before .before in
-    turn-next _ _ _ _ _ (turn .before .loop .inv) (turn .loop-test .taken) _ (taken .before .before .line-at .ensures)
-    (taken .take-line .result) _ (taken .take-line .ensures) (c .before .before .enum-told2 .given .1)
+    let called = c .before .before .before in
+    let turn = called .before .before .before .before .before .before in
+    op-next _ _ _ _ _ (turn .before .before .loop .inv) (turn .before .loop-test .taken) (turn .head-at .ensures)
+    (called .before .before .before .before .head .given .1) _ _ (called .take-op-line .ensures _ _) (c .before .taken .given .1)
+
+-- ---- any other line
+
+line-of-requires : tie.Need-line-of-requires Inv-loop μ-loop
+line-of-requires c κs = no-op (c .match .keys2)
+
+take-line-requires : tie.Need-take-line-requires Inv-loop μ-loop
+take-line-requires c κs =
+    let turn = c .before .before .before in
+    let left = turn .before .before .loop .inv in
+    let below = turn .before .loop-test .taken in
+    let is = headed _ _ _ _ _ left below (turn .head-at .ensures) (c .before .line-of .ensures) in
+    (turn-domain _ _ _ _ _ left below _ is, turn-op _ _ _ _ _ left below _ is)
 
 returns-2 : tie.Need-returns-2 Inv-loop μ-loop
-returns-2 c = lines-end _ _ _ _ _ (c .before .loop .inv) (c .loop-test .left)
+returns-2 c =
+    let taken = c .before .before in
+    let turn = taken .before .before .before .before in
+    let left = turn .before .before .loop .inv in
+    let below = turn .before .loop-test .taken in
+    turn-refused _ _ _ _ _ left below _ (headed _ _ _ _ _ left below (turn .head-at .ensures) (taken .before .before .line-of .ensures))
+    (taken .take-line .result) _ (taken .take-line .ensures) _ (c .enum-told .given .1)
+
+add-at-2 : tie.Need-add-at-2 Inv-loop μ-loop
+add-at-2 c =
+    let taken = c .before .before .before .before .before .before .before in
+    let turn = taken .before .before .before .before in
+    let left = turn .before .before .loop .inv in
+    let below = turn .before .loop-test .taken in
+    omega (
+      arith,
+      turn .before .before .before .before .before .before .before,
+      turn-within _ _ _ _ _ left below _
+          (headed _ _ _ _ _ left below (turn .head-at .ensures) (taken .before .before .line-of .ensures)),
+    )
+
+loop-less-2 : tie.Need-loop-less-2 Inv-loop μ-loop
+loop-less-2 c =
+    let taken = c .before .before .before .before .before .before .before in
+    let turn = taken .before .before .before .before in
+    let left = turn .before .before .loop .inv in
+    let below = turn .before .loop-test .taken in
+    omega (
+      arith,
+      below,
+      turn-reach _ _ _ _ _ left below _
+          (headed _ _ _ _ _ left below (turn .head-at .ensures) (taken .before .before .line-of .ensures))
+          (taken .take-line .result) _ (taken .take-line .ensures) (c .before .before .before .before .before .enum-told2 .given .1),
+    )
+
+loop-again-2 : tie.Need-loop-again-2 Inv-loop μ-loop
+loop-again-2 c =
+    let taken = c .before .before .before .before .before .before .before in
+    let turn = taken .before .before .before .before in
+    let left = turn .before .before .loop .inv in
+    let below = turn .before .loop-test .taken in
+    turn-next _ _ _ _ _ left below _ (headed _ _ _ _ _ left below (turn .head-at .ensures) (taken .before .before .line-of .ensures))
+    (taken .take-line .result) _ (taken .take-line .ensures) (c .before .before .before .before .before .enum-told2 .given .1)
+
+returns-3 : tie.Need-returns-3 Inv-loop μ-loop
+returns-3 c = lines-end _ _ _ _ _ (c .before .loop .inv) (c .loop-test .left)
 
 pub walk-spec : {M : Type 1} → statement M
 walk-spec =
     tie.close
     (tie.spec
-    Inv-loop μ-loop (λ c κs. tt) loop-holds (λ c κs. tt) take-line-requires (λ c. search needs) returns
-    (λ c. search needs) add-at loop-less loop-again returns-2)
+    Inv-loop μ-loop (λ c κs. tt) loop-holds (λ c κs. tt) (λ c. search needs) take-op-line-requires (λ c. search needs)
+    (λ c. search needs) returns add-at loop-less loop-again line-of-requires take-line-requires (λ c. search needs)
+    returns-2 (λ c. search needs) add-at-2 loop-less-2 loop-again-2 returns-3)

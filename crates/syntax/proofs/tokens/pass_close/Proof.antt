@@ -1,7 +1,8 @@
 -- `syntax::tokens::pass_close` meets its contract. Assumes nothing.
 use native.Mathlib.Omega.{arith}
+use mathlib.Core.Path.{refl}
 use borrow.Author.Needs.{needs}
-use Rattle.lexer.proofs.OtherKind.{kinds}
+use Rattle.lexer.proofs.Lookaheads.{no-close-next, close-next, start-next}
 use Rattle.lexer.proofs.Reached.{reached}
 use Rattle.syntax.specs.Tokens.{passClose}
 use Rattle.syntax.proofs.tokens.pass_close.Statement.{statement}
@@ -9,14 +10,25 @@ use Rattle.syntax.proofs.tokens.pass_close.Tie as tie
 
 returns : tie.Need-returns
 unfolding passClose
-returns c = simp (← (c .before .before .token-at .ensures), c .before .match .keys2, kinds, ← (c .token-start .ensures))
+returns c =
+    simp (
+      no-close-next _ _ (c .before .before .lookahead-at .ensures) (c .before .match .keys2),
+      ← (start-next _ _ (c .before .before .lookahead-at .ensures) (c .lookahead-start .ensures)),
+    )
 
 add-t7 : tie.Need-add-t7
-add-t7 c = omega (arith, reached _ _ (c .before .before .before .token-at .ensures) (c .before .token .given .1))
+add-t7 c =
+    omega (
+      arith,
+      reached _ _ refl
+          (close-next _ _ (c .before .before .before .lookahead-at .ensures) (c .before .next .given .1)),
+    )
 
 returns-2 : tie.Need-returns-2
 unfolding passClose
-returns-2 c = simp (← (c .before .before .before .token-at .ensures), c .before .token .given .1)
+returns-2 c =
+    simp
+    (close-next _ _ (c .before .before .before .lookahead-at .ensures) (c .before .next .given .1))
 
 pub pass-close-spec : {M : Type 1} → statement M
 pass-close-spec =
