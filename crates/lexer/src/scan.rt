@@ -7,7 +7,8 @@ ghost use Rattle.lexer.specs.Bytes.{endsRun, isDigit, isLetter, isNoDigi
 ghost use Rattle.lexer.specs.Bytes.{isNoSpace};
 ghost use Rattle.lexer.specs.Scan.{allBytes, scanOf};
 
-// The offset of the first byte from `at` on that is no space.
+// The offset of the first byte from `at` on that is no space. Two bytes are looked at in a turn: a
+// loop of one is so short that its time would hang on the address at which it happens to be linked.
 pub fn skip_spaces(text: &[u8], at: usize) -> usize
     ensures { λ r. ⌜ r ≡ scanOf isNoSpace (now (text .entry)) at ⌝ }
 {
@@ -17,6 +18,12 @@ pub fn skip_spaces(text: &[u8], at: usize) -> usize
             return here;
         }
         here += 1;
+        if here < text.len() {
+            if text[here] != b' ' {
+                return here;
+            }
+            here += 1;
+        }
     }
     here
 }
