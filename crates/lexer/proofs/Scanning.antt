@@ -1,4 +1,5 @@
--- Laws of the walk over a text from an offset, and of a test of every byte of a run: one turn, and the end. Assumes nothing.
+-- Laws of the walk over a text from an offset: one turn, and the end; and of a run whose every byte
+-- passes a test. Assumes nothing.
 use Prim.Native.Nat.{ℕ, zero, suc, _+_, _≤_, _<_}
 use native.Mathlib.Numerals.{add-one}
 use native.Mathlib.Omega.{arith}
@@ -55,24 +56,8 @@ module _ (stops : ℕ → Bool) where
 
 -- ---- every byte passes a test
 
--- every byte of a run from an offset on
-unfoldable pub allFrom : (ℕ → Bool) → List ℕ → ℕ → Bool
-allFrom test run i = allBytes test (drop i run)
-
 module _ (test : ℕ → Bool) where
-  pub all-fails : (run : List ℕ) (i : ℕ) → i < length run → test (getD run i 0) ≡ false → allFrom test run i ≡ false
-  unfolding allFrom allBytes
-  all-fails run i h e = rw (drop-cons run i 0, e)
-
-  pub all-next : (run : List ℕ) (i : ℕ) → i < length run → test (getD run i 0) ≡ true → allFrom test run (i + 1) ≡ allFrom test run i
-  unfolding allFrom allBytes
-  all-next run i h e = rw (drop-cons run i 0, e, add-one)
-
-  pub all-end : (run : List ℕ) (i : ℕ) → length run ≤ i → allFrom test run i ≡ true
-  unfolding allFrom allBytes
-  all-end run i h = rw (drop-of-length-le run h)
-
-  -- so the byte at each offset passes it
+  -- so does the byte at each offset
   pub all-at : (run : List ℕ) (i : ℕ) → allBytes test run ≡ true → i < length run → test (getD run i 0) ≡ true
   unfolding allBytes
   all-at [] i e h = absurd (omega arith)

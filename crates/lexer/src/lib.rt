@@ -6,11 +6,9 @@ mod limits;
 pub mod runs;
 mod scan;
 
-use runs::longest_run;
 use scan::skip_spaces;
 ghost use mathlib.Core.Path.{_≡_};
 ghost use Rattle.lexer.specs.Lookaheads.{lookaheadAt, lookaheadFrom, lookaheadStart};
-ghost use Rattle.lexer.specs.Tokens.{tokenAt, tokenFrom};
 
 // What stands next in a line. `start` is the offset of the token's first byte and `end` the offset
 // past its last.
@@ -51,34 +49,6 @@ pub enum Lookahead {
     Close(usize),
     // a run of other bytes begins
     Run(usize),
-}
-
-// The token whose first byte stands at `start`, where no space stands.
-fn token_from(text: &[u8], start: usize) -> Token
-    ensures { λ r. ⌜ r ≡ tokenFrom (now (text .entry)) start ⌝ }
-{
-    if start < text.len() {
-        let byte = text[start];
-        if byte == b'\n' {
-            return Token::LineEnd(start);
-        }
-        if byte == b'(' {
-            return Token::Open(start);
-        }
-        if byte == b')' {
-            return Token::Close(start);
-        }
-        return longest_run(text, start);
-    }
-    Token::LineEnd(start)
-}
-
-// The next token of the line from `at` on: spaces are passed over.
-pub fn token_at(text: &[u8], at: usize) -> Token
-    ensures { λ r. ⌜ r ≡ tokenAt (now (text .entry)) at ⌝ }
-{
-    let start = skip_spaces(text, at);
-    token_from(text, start)
 }
 
 // What stands at `start`, where no space stands.

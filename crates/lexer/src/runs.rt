@@ -1,8 +1,6 @@
 // A longest run of bytes as a token: a word, a number or neither.
 use crate::Token;
 use crate::limits::MOST_DIGITS;
-use crate::scan::all_digits;
-use crate::scan::all_letters;
 use crate::scan::digits_end;
 use crate::scan::letters_end;
 use crate::scan::run_end;
@@ -14,7 +12,7 @@ ghost use Rattle.lexer.specs.Bytes.{isDigit};
 ghost use Rattle.lexer.specs.Limits.{mostDigits};
 ghost use Rattle.lexer.specs.Lookaheads.{asNumber, asWord};
 ghost use Rattle.lexer.specs.Scan.{allBytes};
-ghost use Rattle.lexer.specs.Tokens.{digitsToken, longestRun, runToken, decimalValue};
+ghost use Rattle.lexer.specs.Tokens.{decimalValue, digitsToken, longestRun};
 
 // The number that a run of digits writes.
 fn decimal_value(digits: &[u8]) -> u64
@@ -70,26 +68,4 @@ pub fn number_from(text: &[u8], start: usize) -> Token
     } else {
         Token::Other { start, end: past }
     }
-}
-
-// A run of bytes as a token.
-fn run_token(run: &[u8], start: usize, end: usize) -> Token
-    ensures { λ r. ⌜ r ≡ runToken (now (run .entry)) start end ⌝ }
-{
-    if all_letters(run) {
-        return Token::Word { start, end };
-    }
-    if all_digits(run) {
-        return digits_token(run, start, end);
-    }
-    Token::Other { start, end }
-}
-
-// The token of the longest run from `start` on.
-pub fn longest_run(text: &[u8], start: usize) -> Token
-    requires { ⌜ start ≤ length (now text) ⌝ }
-    ensures { λ r. ⌜ r ≡ longestRun (now (text .entry)) start ⌝ }
-{
-    let end = run_end(text, start);
-    run_token(&text[start..end], start, end)
 }

@@ -1,11 +1,10 @@
-// Walks over the bytes of a text from an offset, and over the bytes of a run.
+// Walks over the bytes of a text from an offset.
 use crate::bytes::ends_run;
 use crate::bytes::is_digit;
 use crate::bytes::is_letter;
 ghost use mathlib.Core.Path.{_≡_};
-ghost use Rattle.lexer.specs.Bytes.{endsRun, isDigit, isLetter, isNoDigit, isNoLetter};
-ghost use Rattle.lexer.specs.Bytes.{isNoSpace};
-ghost use Rattle.lexer.specs.Scan.{allBytes, scanOf};
+ghost use Rattle.lexer.specs.Bytes.{endsRun, isNoDigit, isNoLetter, isNoSpace};
+ghost use Rattle.lexer.specs.Scan.{scanOf};
 
 // The offset of the first byte from `at` on that is no space. Two bytes are looked at in a turn: a
 // loop of one is so short that its time would hang on the address at which it happens to be linked.
@@ -68,32 +67,4 @@ pub fn digits_end(text: &[u8], start: usize) -> usize
         here += 1;
     }
     here
-}
-
-// Whether every byte of a run is a letter.
-pub fn all_letters(run: &[u8]) -> bool
-    ensures { λ r. ⌜ r ≡ allBytes isLetter (now (run .entry)) ⌝ }
-{
-    let mut i: usize = 0;
-    while i < run.len() {
-        if !is_letter(run[i]) {
-            return false;
-        }
-        i += 1;
-    }
-    true
-}
-
-// Whether every byte of a run is a digit.
-pub fn all_digits(run: &[u8]) -> bool
-    ensures { λ r. ⌜ r ≡ allBytes isDigit (now (run .entry)) ⌝ }
-{
-    let mut i: usize = 0;
-    while i < run.len() {
-        if !is_digit(run[i]) {
-            return false;
-        }
-        i += 1;
-    }
-    true
 }

@@ -7,7 +7,8 @@ use check::same;
 use engine::Progress;
 use engine::lending::step;
 use lexer::Token;
-use lexer::token_at;
+use lexer::runs::number_from;
+use lexer::runs::word_from;
 use libc::STDIN_FILENO;
 use libc::STDOUT_FILENO;
 use pirkvezo::answers::ending_number;
@@ -90,16 +91,21 @@ fn past(end: usize, length: usize) -> usize
 
 // The number that the first field is. A word, as `largest`, is the largest number; nothing is 0.
 fn number(fields: &[u8]) -> u64 {
-    let token = token_at(fields, 0);
-    match token {
-        Token::Number {
-            start: _,
-            end: _,
-            value,
-        } => value,
-        Token::Word { start: _, end: _ } => 18_446_744_073_709_551_615,
-        _ => 0,
+    let digits = number_from(fields, 0);
+    if let Token::Number {
+        start: _,
+        end: _,
+        value,
+    } = digits {
+        return value;
     }
+    let letters = word_from(fields, 0);
+    if let Token::Word { start, end } = letters {
+        if start < end {
+            return 18_446_744_073_709_551_615;
+        }
+    }
+    0
 }
 
 // The same, small enough to count on from.
