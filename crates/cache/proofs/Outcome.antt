@@ -58,16 +58,14 @@ module _ (writes : Bool) (line : ℕ) (table : List ℕ) where
     first = setIndex (setOf line)
 
     pub lacked-outcome :
-        (known : Bool) (ways : List ℕ) (found : AccessKind) (entry search late : ℕ)
+        (known : Bool) (ways : List ℕ) (entry late : ℕ)
         → inL1 line table ≡ false
         → known ≡ has (cleanEntry line) (take width (drop first table))
         → ways ≡ moveToFront (cleanEntry line) (take width (drop first table))
-        → found ≡ cond known Hit2 Miss
         → entry ≡ entryFor writes line
-        → search ≡ cond known hit2Ticks missTicks
         → late ≡ replaceTicks (getD table (l1Index line) 0)
-        → Outcome found (search + late)
+        → Outcome (cond known Hit2 Miss) (cond known hit2Ticks missTicks + late)
         (set (take first table ++ (ways ++ drop width (drop first table))) (l1Index line) entry)
     unfolding accessOf lookupL2 part splice
-    lacked-outcome known ways found entry search late lacked knows uses finds enters searched lately =
-        rw (look-lacked lacked, finds, searched, lately, enters, uses, knows, wide) (refl, refl, refl)
+    lacked-outcome known ways entry late lacked knows uses enters lately =
+        rw (look-lacked lacked, lately, enters, uses, knows, wide) (refl, refl, refl)

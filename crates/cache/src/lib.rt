@@ -16,7 +16,6 @@ ghost use mathlib.Core.Path.{_≡_};
 ghost use mathlib.Core.Bool.{cond};
 ghost use Prim.Native.Nat.{_≤_};
 ghost use lib.ListN.{length};
-ghost use Rattle.cache.specs.declared.AccessKind.the-variants.{Hit2, Miss};
 ghost use Rattle.cache.specs.Access.{accessOf};
 ghost use Rattle.cache.specs.Lines.{mostLine, tableLength};
 
@@ -47,19 +46,8 @@ fn choose_number(test: bool, first: u64, second: u64) -> u64
     if test { first } else { second }
 }
 
-// How a line that L1 lacks was found, by whether its set had it.
-fn found_in_set(known: bool) -> AccessKind
-    ensures { λ r. ⌜ r ≡ cond known Hit2 Miss ⌝ }
-{
-    if known {
-        AccessKind::Hit2
-    } else {
-        AccessKind::Miss
-    }
-}
-
 // An access of a line. The ways of its set are lent on to be rewritten, and only where L1 lacks the
-// line.
+// line. Each of the three answers names its kind, so that no caller has to find out which it is.
 pub fn access(table: &mut [u16], line: u16, writes: bool) -> AccessResult
     requires { ⌜ (length (now table) ≡ tableLength) × (line ≤ mostLine) ⌝ }
     ensures { λ r.
@@ -82,9 +70,16 @@ pub fn access(table: &mut [u16], line: u16, writes: bool) -> AccessResult
     let to = from + WAYS_PER_SET;
     let known = sets::move_to_front(&mut table[from..to], clean);
     table[index] = choose_entry(writes, dirty, clean);
-    AccessResult {
-        found: found_in_set(known),
-        ticks: choose_number(known, HIT2_TICKS, MISS_TICKS)
-            + choose_number(DIRTY_MARK < held, DIRTY_TICKS, 0),
+    let replaced = choose_number(DIRTY_MARK < held, DIRTY_TICKS, 0);
+    if known {
+        AccessResult {
+            found: AccessKind::Hit2,
+            ticks: HIT2_TICKS + replaced,
+        }
+    } else {
+        AccessResult {
+            found: AccessKind::Miss,
+            ticks: MISS_TICKS + replaced,
+        }
     }
 }

@@ -57,32 +57,41 @@ module _
     (plan : Plan) (sender recipient : ℕ) (denied passed : Observation) (number : ℕ) (cache boxes rights : List ℕ)
     (handed : plan .rights ≡ rights) where
   pub message-denied :
-      (entry : ℕ) (table : List ℕ)
+      (entered : ℕ) (table : List ℕ)
       → hasBit (getD rights sender 0) recipient ≡ false
-      → entry ≡ accessOf false kernelEntryLine cache .ticks
+      → entered ≡ messageTicks + accessOf false kernelEntryLine cache .ticks
       → table ≡ accessOf false kernelEntryLine cache .table
-      → effectWith (record { ticks = messageTicks + entry; seen = denied }) table boxes
+      → effectWith (record { ticks = entered; seen = denied }) table boxes
       ≡ messageOf plan sender recipient denied passed number cache boxes
   unfolding messageOf
-  message-denied entry table lacks e t = rw (handed, lacks, e, t) refl
+  message-denied entered table lacks e t = rw (handed, lacks, e, t) refl
 
   pub message-passed :
-      (entry ticks index : ℕ) (table last : List ℕ)
+      (entered reached index : ℕ) (table last : List ℕ)
       → hasBit (getD rights sender 0) recipient ≡ true
-      → entry ≡ accessOf false kernelEntryLine cache .ticks
+      → entered ≡ messageTicks + accessOf false kernelEntryLine cache .ticks
       → table ≡ accessOf false kernelEntryLine cache .table
       → index ≡ boxIndex sender recipient
-      → ticks ≡ accessOf true (firstBoxLine + setCount * index) table .ticks
+      → reached ≡ accessOf true (firstBoxLine + setCount * index) table .ticks
       → last ≡ accessOf true (firstBoxLine + setCount * index) table .table
-      → effectWith (record { ticks = messageTicks + entry + ticks; seen = passed }) last (set boxes index number)
+      → effectWith (record { ticks = entered + reached; seen = passed }) last (set boxes index number)
       ≡ messageOf plan sender recipient denied passed number cache boxes
   unfolding messageOf
-  message-passed entry ticks index table last may e t i k l = rw (handed, may, k, l, e, t, i) refl
+  message-passed entered reached index table last may e t i r l = rw (handed, may, r, l, e, t, i) refl
 
 -- an access's answer is no larger than any access's
 pub answered-ticks : (writes : Bool) (line answer : ℕ) (table : List ℕ) → answer ≡ accessOf writes line table .ticks
     → answer ≤ mostAccessTicks
 answered-ticks writes line answer table so = rw so (access-ticks writes line table)
+
+-- what a send or a receive takes at most
+pub message-ticks :
+    (entered reached line : ℕ) (cache table : List ℕ)
+    → entered ≡ messageTicks + accessOf false kernelEntryLine cache .ticks
+    → reached ≡ accessOf true line table .ticks
+    → entered + reached ≤ messageTicks + mostAccessTicks + mostAccessTicks
+message-ticks entered reached line cache table e r =
+    omega (arith, access-ticks false kernelEntryLine cache, answered-ticks true line reached table r)
 
 -- the other domain of a send or a receive has a number below 8
 pub send-below : (recipient word : ℕ) → OpWithinLimits (Send recipient word) → recipient < mostDomains

@@ -17,15 +17,17 @@ use records::Observation;
 use script::Op;
 ghost use mathlib.Core.Path.{_≡_};
 ghost use mathlib.Core.List.{List};
-ghost use mathlib.Core.Bool.{true};
-ghost use Prim.Native.Nat.{ℕ, _≤_, _<_};
+ghost use mathlib.Core.Bool.{false, true};
+ghost use Prim.Native.Nat.{ℕ, _+_, _*_, _≤_, _<_};
 ghost use lib.ListN.{length};
 ghost use Rattle.plan.specs.declared.Plan.{Plan};
 ghost use Rattle.plan.specs.Limits.{mostDomains};
 ghost use Rattle.script.specs.Limits.{OpWithinLimits};
-ghost use Rattle.cache.specs.Lines.{mostLine, tableLength};
+ghost use Rattle.cache.specs.Access.{accessOf};
+ghost use Rattle.cache.specs.Lines.{mostLine, setCount, tableLength};
 ghost use Rattle.ops.specs.Ops.{accessObservation, boxIndex, boxesLength, boxObservation};
-ghost use Rattle.ops.specs.Ops.{effectOf, messageOf, ownsLine, receiveOf, sendOf, touchOf};
+ghost use Rattle.ops.specs.Ops.{effectOf, firstBoxLine, kernelEntryLine, messageTicks};
+ghost use Rattle.ops.specs.Ops.{ownsLine, receiveOf, sendOf, touchOf};
 ghost use Rattle.ops.specs.View.{effectWith};
 
 // What an op answers, beside the cache table and the boxes.
@@ -100,43 +102,28 @@ fn box_index(sender: usize, recipient: usize) -> usize
     DOMAIN_ENTRIES * sender + recipient
 }
 
-// What a send and a receive do alike: `number` is what the box is given, `denied` and `passed` are
-// what is seen without the right and with it.
-fn message(
-    rights: &[u32; DOMAIN_ENTRIES],
-    sender: usize,
-    recipient: usize,
-    denied: Observation,
-    passed: Observation,
-    number: u32,
-    cache: &mut [u16],
-    boxes: &mut [u32],
-) -> OpResult
-    requires { ⌜ (sender < mostDomains)
-        × (recipient < mostDomains)
-        × (length (now cache) ≡ tableLength)
-        × (length (now boxes) ≡ boxesLength) ⌝ }
-    ensures { λ r. ⌜ ((plan : Plan)
-        → plan .rights ≡ now (rights .entry)
-        → effectWith r (now (cache .exit)) (now (boxes .exit))
-        ≡ messageOf plan sender recipient denied passed number
-        (now (cache .entry)) (now (boxes .entry))) ⌝ }
+// How every send and receive begins, whatever its rights: the kernel's entry line is read. Answers
+// the ticks so far.
+fn enter_kernel(cache: &mut [u16]) -> u64
+    requires { ⌜ length (now cache) ≡ tableLength ⌝ }
+    ensures { λ r. ⌜ (r ≡ messageTicks + accessOf false kernelEntryLine (now (cache .entry)) .ticks)
+        × (now (cache .exit) ≡ accessOf false kernelEntryLine (now (cache .entry)) .table) ⌝ }
 {
     let entry = access(cache, KERNEL_ENTRY_LINE, false);
-    if !has_bit(rights[sender], recipient as u32) {
-        return OpResult {
-            ticks: MESSAGE_TICKS + entry.ticks,
-            seen: denied,
-        };
-    }
-    let index = box_index(sender, recipient);
+    MESSAGE_TICKS + entry.ticks
+}
+
+// How a send or a receive reaches a box that it has the right to: the box's line is written. Answers
+// the ticks of that.
+fn reach_box(index: usize, cache: &mut [u16]) -> u64
+    requires { ⌜ (index < boxesLength) × (length (now cache) ≡ tableLength) ⌝ }
+    ensures { λ r. ⌜ (r ≡ accessOf true (firstBoxLine + setCount * index) (now (cache .entry)) .ticks)
+        × (now (cache .exit)
+        ≡ accessOf true (firstBoxLine + setCount * index) (now (cache .entry)) .table) ⌝ }
+{
     let line = FIRST_BOX_LINE + SET_COUNT * index;
     let accessed = access(cache, line as u16, true);
-    boxes[index] = number;
-    OpResult {
-        ticks: MESSAGE_TICKS + entry.ticks + accessed.ticks,
-        seen: passed,
-    }
+    accessed.ticks
 }
 
 // A send of a word to a recipient.
@@ -157,18 +144,20 @@ fn send(
         → effectWith r (now (cache .exit)) (now (boxes .exit))
         ≡ sendOf plan sender recipient word (now (cache .entry)) (now (boxes .entry))) ⌝ }
 {
-    let denied = Observation::Denied(recipient);
-    let sent = Observation::Sent(recipient);
-    message(
-        rights,
-        sender,
-        recipient as usize,
-        denied,
-        sent,
-        word as u32 + 1,
-        cache,
-        boxes,
-    )
+    let entry = enter_kernel(cache);
+    if !has_bit(rights[sender], recipient as u32) {
+        return OpResult {
+            ticks: entry,
+            seen: Observation::Denied(recipient),
+        };
+    }
+    let index = box_index(sender, recipient as usize);
+    let reached = reach_box(index, cache);
+    boxes[index] = word as u32 + 1;
+    OpResult {
+        ticks: entry + reached,
+        seen: Observation::Sent(recipient),
+    }
 }
 
 // What a receive finds in a box.
@@ -200,10 +189,21 @@ fn receive(
         ≡ receiveOf plan receiver sender (now (cache .entry)) (now (boxes .entry))) ⌝ }
 {
     let from = sender as usize;
+    let entry = enter_kernel(cache);
+    if !has_bit(rights[from], receiver as u32) {
+        return OpResult {
+            ticks: entry,
+            seen: Observation::Denied(sender),
+        };
+    }
     let index = box_index(from, receiver);
-    let denied = Observation::Denied(sender);
-    let found = box_observation(sender, boxes[index]);
-    message(rights, from, receiver, denied, found, 0, cache, boxes)
+    let reached = reach_box(index, cache);
+    let number = boxes[index];
+    boxes[index] = 0;
+    OpResult {
+        ticks: entry + reached,
+        seen: box_observation(sender, number),
+    }
 }
 
 // One op of a domain.

@@ -1,7 +1,7 @@
 -- Sums and tests over the first entries of an array: entry by entry, and monotone. Assumes nothing.
 use mathlib.Core.Path.{_≡_, refl, sym, ap, ap₂, _∙_}
 use mathlib.Core.Bool.{Bool, true, false, false≢true, cond, _&&_, and-eq-true-iff}
-use Prim.Native.Nat.{ℕ, zero, suc, _+_, _*_, _≤_, _<_, zero-le}
+use Prim.Native.Nat.{ℕ, zero, suc, _+_, _*_, _-_, _≤_, _<_, zero-le}
 use native.Mathlib.Nat.{mul-suc, not-suc-le-zero}
 use native.Mathlib.Omega.{arith}
 use mathlib.Core.List.{List}
@@ -125,3 +125,34 @@ pub all-below-next :
     → so-far && here ≡ allBelow test (count + 1)
 unfolding allBelow
 all-below-next test count so-far here before is = rw (before, is, add-one)
+
+-- a test that passes at the first `count` indices, and over the block of `more` indices behind them
+pub all-below-block :
+    (test : ℕ → Bool) (count more : ℕ)
+    → allBelow test count ≡ true
+    → allBelow (λ index. test (count + index)) more ≡ true
+    → allBelow test (count + more) ≡ true
+all-below-block test count more before block =
+    below-all test (count + more) (λ index below. go index below (ltb index count) refl)
+  where
+    go : (index : ℕ) → index < count + more → (earlier : Bool) → ltb index count ≡ earlier → test index ≡ true
+    go index below true e = all-below test count index before (ltb-true index count e)
+    go index below false e =
+        let past : count ≤ index = ltb-false index count e in
+        let place : count + (index - count) ≡ index = omega arith in
+        ap test (sym place) ∙ all-below (λ k. test (count + k)) more (index - count) block (omega arith)
+
+-- a test that fails over a block fails over any number of indices that has the block
+pub all-below-block-fails :
+    (test : ℕ → Bool) (total count more : ℕ)
+    → count + more ≤ total
+    → allBelow (λ index. test (count + index)) more ≡ false
+    → false ≡ allBelow test total
+all-below-block-fails test total count more within fails = go (allBelow test total) refl
+  where
+    go : (all : Bool) → allBelow test total ≡ all → false ≡ allBelow test total
+    go true e =
+        let each : (k : ℕ) → k < more → test (count + k) ≡ true =
+        λ k below. all-below test total (count + k) e (omega arith) in
+        absurd (false≢true (sym fails ∙ below-all (λ k. test (count + k)) more each))
+    go false e = sym e

@@ -1,7 +1,7 @@
 -- Laws of table validity: a test that walks a list from its front, by what is left of the list; a part that is lent; an
 -- L1 number. Assumes nothing.
 use mathlib.Core.Path.{_≡_, refl, sym, ap, _∙_}
-use mathlib.Core.Bool.{Bool, true, false, and-eq-true-iff, not, _&&_, _||_}
+use mathlib.Core.Bool.{Bool, true, false, not, _&&_, _||_}
 use mathlib.Core.List.{List, [], _∷_}
 use Prim.Native.Nat.{ℕ, _+_, _-_, _≤_, _<_}
 use native.Mathlib.Numerals.{add-one}
@@ -11,14 +11,12 @@ use lib.ListN.{drop, drop-of-length-le, getD, length, length-drop, take}
 use lib.Seq.{drop-cons, take-all}
 use borrow.Author.Tests.{leb-true, ne-eqb}
 use Rattle.lists.specs.Part.{part}
-use Rattle.lists.proofs.Parts.{part-next}
 use Rattle.plan.specs.declared.Plan.{Plan}
 use Rattle.plan.specs.Colours.{hasBit, maskAt}
 use Rattle.lists.proofs.Tests.{both}
-use Rattle.cache.specs.Lines.{cleanEntry, colourOf, kernelColour, l1Index, mostLine, setIndex, waysPerSet}
+use Rattle.cache.specs.Lines.{cleanEntry, colourOf, kernelColour, l1Index, mostLine}
 use Rattle.state.specs.declared.State.{State}
-use Rattle.state.specs.TableValidity.{allEmpty, l1EntryValid, lineAllowed, entryLine, setValid, standsForLine}
-use Rattle.state.specs.TableValidity.{unmarked, waysValid}
+use Rattle.state.specs.TableValidity.{l1EntryValid, lineAllowed, entryLine, standsForLine, unmarked}
 use Rattle.state.specs.World.{endedOf, runningOf}
 
 -- from an index on, what is left of a list decides the whole list's answer
@@ -26,7 +24,7 @@ abbrev pub Decides : (List ℕ → Bool) → List ℕ → ℕ → Type 0
 Decides test list index = (index ≤ length list) × (test (drop index list) ≡ test list)
 
 -- what is left is the number at the index, then what is left behind it
-here-first :
+pub here-first :
     (test : List ℕ → Bool) (list : List ℕ) (index : ℕ)
     → index < length list
     → test (drop index list) ≡ test (getD list index 0 ∷ drop (index + 1) list)
@@ -100,46 +98,3 @@ pub l1-line :
 unfolding l1EntryValid lineAllowed
 l1-line plan state cache index number ended mask owned full marked line ends masked owns =
     rw (ne-eqb _ _ full, ← marked, line, ends, masked, owns) refl
-
--- four numbers of a table, one by one
-four :
-    (first : ℕ) (table : List ℕ)
-    → first + 4 ≤ length table
-    → part first 4 table
-    ≡ getD table first 0 ∷ (getD table (first + 1) 0 ∷ (getD table (first + 2) 0 ∷ (getD table (first + 3) 0 ∷ [])))
-unfolding part
-four first table within =
-    let second : first + 1 + 1 ≡ first + 2 = omega arith in
-    let third : first + 2 + 1 ≡ first + 3 = omega arith in
-    part-next first 4 table (omega arith) (omega arith)
-    ∙ ap (λ (rest : List ℕ). getD table first 0 ∷ rest) (part-next (first + 1) 3 table (omega arith) (omega arith))
-    ∙ rw (
-      second,
-      part-next (first + 2) 2 table (omega arith) (omega arith),
-      third,
-      part-next (first + 3) 1 table (omega arith) (omega arith),
-    ) refl
-
--- four ways that are 0 are valid
-four-empty : (set a b c d : ℕ) → (eqb a 0 && eqb b 0 && eqb c 0 && eqb d 0) ≡ true
-    → true ≡ waysValid set (a ∷ (b ∷ (c ∷ (d ∷ []))))
-unfolding waysValid allEmpty
-four-empty set a b c d tests =
-    let last = and-eq-true-iff (eqb a 0 && eqb b 0 && eqb c 0) (eqb d 0) .0 tests in
-    let third = and-eq-true-iff (eqb a 0 && eqb b 0) (eqb c 0) .0 (last .0) in
-    let second = and-eq-true-iff (eqb a 0) (eqb b 0) .0 (third .0) in
-    rw (second .0, second .1, third .1, last .1) refl
-
--- a set whose four numbers are 0 is valid
-pub empty-valid :
-    (set : ℕ) (cache : List ℕ)
-    → setIndex set + waysPerSet ≤ length cache
-    → (eqb (getD cache (setIndex set) 0) 0
-    && eqb (getD cache (setIndex set + 1) 0) 0
-    && eqb (getD cache (setIndex set + 2) 0) 0
-    && eqb (getD cache (setIndex set + 3) 0) 0)
-    ≡ true
-    → true ≡ setValid cache set
-unfolding setValid
-empty-valid set cache within tests =
-    four-empty set _ _ _ _ tests ∙ ap (waysValid set) (sym (four (setIndex set) cache within))

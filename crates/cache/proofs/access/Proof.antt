@@ -1,9 +1,12 @@
 -- `access` meets its contract: where L1 holds the line only its L1 number is stored, and else the set is lent on.
 -- Assumes nothing.
+use mathlib.Core.Bool.{false, true}
+use mathlib.Core.Path.{_∙_, refl, sym}
 use Prim.Native.Nat.{_+_, _-_}
 use native.Mathlib.Omega.{arith}
 use lib.ListN.{getD}
-use Rattle.cache.specs.Lines.{l1Index, isDirty, setOf, setIndex}
+use Rattle.cache.specs.Access.{hit2Ticks, missTicks}
+use Rattle.cache.specs.Lines.{isDirty, l1Index, setOf, setIndex}
 use Rattle.cache.proofs.Outcome.{held-outcome, lacked-outcome}
 use Rattle.cache.proofs.Ticks.{l2-ticks}
 use borrow.Author.Needs.{needs}
@@ -18,26 +21,35 @@ returns c =
 
 add-t30 : tie.Need-add-t30
 add-t30 c =
-    let args = c .before .before .before .before .before .before .before .before .before .before .before .args in
-    let known = c .before .before .before .before .before .before .move-to-front .result in
-    let search = c .before .choose-number in
-    let late = c .choose-number2 in
+    let args = c .before .before .before .before .before .before .before .before .before .before .args in
     let dirty = isDirty (getD (args .table .now) (l1Index (args .line)) 0) in
-    omega (arith, l2-ticks known dirty (search .result) (late .result) (search .ensures) (late .ensures))
+    omega (arith, l2-ticks true dirty hit2Ticks _ refl (c .before .choose-number .ensures))
+
+add-t32 : tie.Need-add-t32
+add-t32 c =
+    let args = c .before .before .before .before .before .before .before .before .before .before .args in
+    let dirty = isDirty (getD (args .table .now) (l1Index (args .line)) 0) in
+    omega (arith, l2-ticks false dirty missTicks _ refl (c .before .choose-number .ensures))
 
 returns-2 : tie.Need-returns-2
 returns-2 c =
-    let args = c .before .before .before .before .before .before .before .before .before .before .before .args in
+    let set = c .before .before .before .before .before .move-to-front in
+    let lacked = c .before .before .before .before .before .before .before in
+    let args = lacked .before .before .before .args in
     let first = setIndex (setOf (args .line)) in
-    let set = c .before .before .before .before .before .before .move-to-front in
-    let found = c .before .before .found-in-set in
-    let entry = c .before .before .before .choose-entry2 in
-    let search = c .before .choose-number in
-    let late = c .choose-number2 in
     lacked-outcome (args .writes) (args .line) (args .table .now) (first + 4 - first) (omega arith)
-    (set .result) (set .last .0) (found .result) (entry .result) (search .result) (late .result)
-    (c .before .before .before .before .before .before .before .before .if1 .left)
-    (set .ensures .0) (set .ensures .1) (found .ensures) (entry .ensures) (search .ensures) (late .ensures)
+    true _ _ _ (lacked .if1 .left) (sym (c .if2 .taken) ∙ set .ensures .0) (set .ensures .1)
+    (c .before .before .choose-entry2 .ensures) (c .before .choose-number .ensures)
+
+returns-3 : tie.Need-returns-3
+returns-3 c =
+    let set = c .before .before .before .before .before .move-to-front in
+    let lacked = c .before .before .before .before .before .before .before in
+    let args = lacked .before .before .before .args in
+    let first = setIndex (setOf (args .line)) in
+    lacked-outcome (args .writes) (args .line) (args .table .now) (first + 4 - first) (omega arith)
+    false _ _ _ (lacked .if1 .left) (sym (c .if2 .left) ∙ set .ensures .0) (set .ensures .1)
+    (c .before .before .choose-entry2 .ensures) (c .before .choose-number .ensures)
 
 pub access-spec : {M : Type 1} → statement M
 access-spec =
@@ -47,4 +59,4 @@ access-spec =
     (λ c κs. search needs) (λ c. search needs) (λ c. search needs) (λ c. search needs) returns (λ c. search needs)
     (λ c. search needs) (λ c. search needs) (λ c. search needs) (λ c. search needs) (λ c. search needs)
     (λ c. search needs) (λ c κs. search needs) (λ c κs. search needs) (λ c. search needs) (λ c. search needs)
-    (λ c κs. search needs) (λ c κs. search needs) (λ c κs. search needs) add-t30 (λ c. search needs) returns-2)
+    (λ c κs. search needs) add-t30 add-t32 (λ c. search needs) returns-2 (λ c. search needs) returns-3)

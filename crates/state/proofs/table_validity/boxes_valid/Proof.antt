@@ -4,11 +4,13 @@ use mathlib.Core.Bool.{true}
 use mathlib.Core.Path.{_∙_, _≡_, ap, refl, sym}
 use Prim.Native.Nat.{_-_, _≤_}
 use native.Mathlib.Omega.{arith}
+use borrow.Author.Needs.{needs}
 use borrow.Author.Tests.{not-false, not-true}
 use Rattle.state.specs.TableValidity.{boxValid}
 use Rattle.plan.proofs.Sums.{all-below-fails, all-below-more}
 use Rattle.plan.specs.Sums.{allBelow}
 use Rattle.plan.specs.declared.Plan.{Plan}
+use Rattle.state.proofs.Empties.{empty-boxes}
 use Rattle.state.proofs.table_validity.boxes_valid.Statement.{statement}
 use Rattle.state.proofs.table_validity.boxes_valid.Tie as tie
 
@@ -19,17 +21,22 @@ Inv-loop rights boxes index₀ index =
 abbrev μ-loop : tie.MeasureT-loop
 μ-loop rights boxes index₀ index = 64 - index
 
+returns : tie.Need-returns Inv-loop μ-loop
+returns c =
+    let empty = sym (c .before .no-word .ensures) ∙ c .if1 .taken in
+    λ plan rights. sym (empty-boxes plan _ 64 empty)
+
 loop-holds : tie.Need-loop-holds Inv-loop μ-loop
 unfolding allBelow
 loop-holds c = (omega arith, λ plan rights. refl)
 
 box-valid-requires : tie.Need-box-valid-requires Inv-loop μ-loop
-box-valid-requires c κs = (c .before .before .before .pre, c .loop-test .taken)
+box-valid-requires c κs = (c .before .before .before .before .before .pre, c .loop-test .taken)
 
-returns : tie.Need-returns Inv-loop μ-loop
-returns c =
+returns-2 : tie.Need-returns-2 Inv-loop μ-loop
+returns-2 c =
     λ plan rights.
-    let fails = sym (c .before .box-valid .ensures plan rights) ∙ not-true _ (c .if1 .taken) in
+    let fails = sym (c .before .box-valid .ensures plan rights) ∙ not-true _ (c .if2 .taken) in
     all-below-fails _ 64 (c .before .before .before .loop .index) (c .before .before .loop-test .taken) fails
 
 loop-again : tie.Need-loop-again Inv-loop μ-loop
@@ -37,12 +44,12 @@ loop-again c =
     let loop = c .before .before .before .loop in (
       omega (arith, c .before .before .loop-test),
       λ plan rights.
-          let passes = sym (c .before .box-valid .ensures plan rights) ∙ not-false _ (c .if1 .left) in
+          let passes = sym (c .before .box-valid .ensures plan rights) ∙ not-false _ (c .if2 .left) in
           all-below-more _ (loop .index) (loop .inv .1 plan rights) passes,
     )
 
-returns-2 : tie.Need-returns-2 Inv-loop μ-loop
-returns-2 c =
+returns-3 : tie.Need-returns-3 Inv-loop μ-loop
+returns-3 c =
     let ended : c .before .loop .index ≡ 64 = omega arith in
     λ plan rights. sym (c .before .loop .inv .1 plan rights) ∙ ap (allBelow _) ended
 
@@ -50,4 +57,5 @@ pub boxes-valid-spec : {M : Type 1} → statement M
 boxes-valid-spec =
     tie.close
     (tie.spec
-    Inv-loop μ-loop loop-holds box-valid-requires returns (λ c. omega arith) (λ c. omega arith) loop-again returns-2)
+    Inv-loop μ-loop (λ c κs. search needs) returns loop-holds box-valid-requires returns-2 (λ c. omega arith)
+    (λ c. omega arith) loop-again returns-3)

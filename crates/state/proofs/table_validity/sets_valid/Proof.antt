@@ -1,49 +1,53 @@
--- `state::table_validity::sets_valid` meets its contract. The loop's invariant: the sets passed are sound. Assumes
--- nothing.
+-- `state::table_validity::sets_valid` meets its contract. The loop's invariant: whole blocks are passed, and their sets
+-- are sound. Assumes nothing.
 use mathlib.Core.Bool.{true}
 use mathlib.Core.Path.{_∙_, _≡_, ap, refl, sym}
-use Prim.Native.Nat.{_-_, _≤_}
+use Prim.Native.Nat.{ℕ, _-_, _%_, _≤_}
 use native.Mathlib.Omega.{arith}
 use borrow.Author.Tests.{not-false, not-true}
-use Rattle.state.specs.TableValidity.{setValid}
-use Rattle.plan.proofs.Sums.{all-below-fails, all-below-more}
+use Rattle.cache.specs.Lines.{setCount}
+use Rattle.plan.proofs.Sums.{all-below-block, all-below-block-fails}
 use Rattle.plan.specs.Sums.{allBelow}
+use Rattle.state.specs.TableValidity.{setValid}
 use Rattle.state.proofs.table_validity.sets_valid.Statement.{statement}
 use Rattle.state.proofs.table_validity.sets_valid.Tie as tie
 
+-- as many sets as the code looks at together
+abbrev setsPerBlock : ℕ
+setsPerBlock = 8
+
 abbrev Inv-loop : tie.InvT-loop
-Inv-loop cache set₀ set = (set ≤ 64) × (allBelow (setValid cache) set ≡ true)
+Inv-loop cache first₀ first =
+    (first ≤ setCount) × (first % setsPerBlock ≡ 0) × (allBelow (setValid cache) first ≡ true)
 
 abbrev μ-loop : tie.MeasureT-loop
-μ-loop cache set₀ set = 64 - set
+μ-loop cache first₀ first = setCount - first
 
 loop-holds : tie.Need-loop-holds Inv-loop μ-loop
 unfolding allBelow
-loop-holds c = (omega arith, refl)
+loop-holds c = (omega arith, refl, refl)
 
-set-valid-requires : tie.Need-set-valid-requires Inv-loop μ-loop
-set-valid-requires c κs = (c .before .before .before .pre, c .loop-test .taken)
+block-valid-requires : tie.Need-block-valid-requires Inv-loop μ-loop
+block-valid-requires c κs = (c .before .before .before .pre, omega arith)
 
 returns : tie.Need-returns Inv-loop μ-loop
 returns c =
-    let fails = sym (c .before .set-valid .ensures) ∙ not-true _ (c .if1 .taken) in
-    all-below-fails _ 64 (c .before .before .before .loop .set) (c .before .before .loop-test .taken) fails
+    let fails = sym (c .before .block-valid .ensures) ∙ not-true _ (c .if1 .taken) in
+    all-below-block-fails _ setCount (c .before .before .before .loop .first) setsPerBlock (omega arith) fails
 
 loop-again : tie.Need-loop-again Inv-loop μ-loop
 loop-again c =
-    let loop = c .before .before .before .loop in (
-      omega (arith, c .before .before .loop-test),
-      let passes = sym (c .before .set-valid .ensures) ∙ not-false _ (c .if1 .left) in
-          all-below-more _ (loop .set) (loop .inv .1) passes,
-    )
+    let loop = c .before .before .before .loop in
+    let passes = sym (c .before .block-valid .ensures) ∙ not-false _ (c .if1 .left) in
+    (omega arith, omega arith, all-below-block _ (loop .first) setsPerBlock (loop .inv .2) passes)
 
 returns-2 : tie.Need-returns-2 Inv-loop μ-loop
 returns-2 c =
-    let ended : c .before .loop .set ≡ 64 = omega arith in
-    sym (c .before .loop .inv .1) ∙ ap (allBelow _) ended
+    let ended : c .before .loop .first ≡ setCount = omega arith in
+    sym (c .before .loop .inv .2) ∙ ap (allBelow _) ended
 
 pub sets-valid-spec : {M : Type 1} → statement M
 sets-valid-spec =
     tie.close
     (tie.spec
-    Inv-loop μ-loop loop-holds set-valid-requires returns (λ c. omega arith) (λ c. omega arith) loop-again returns-2)
+    Inv-loop μ-loop loop-holds block-valid-requires returns (λ c. omega arith) (λ c. omega arith) loop-again returns-2)
