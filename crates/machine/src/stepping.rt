@@ -16,7 +16,7 @@ use script::limits::MOST_OPS;
 use state::State;
 ghost use mathlib.Core.Path.{_≡_};
 ghost use mathlib.Core.Bool.{true};
-ghost use Prim.Native.Nat.{_+_, _*_, _-_, _<_, _≤_, max, min};
+ghost use Prim.Native.Nat.{_+_, _*_, _%_, _-_, _<_, _≤_, max, min};
 ghost use lib.ListN.{length};
 ghost use Rattle.plan.specs.Limits.{dearestOp, leastPad, mostDomains, mostPad};
 ghost use Rattle.plan.specs.Validity.{planValid};
@@ -208,8 +208,17 @@ fn run_turn(
     }
 }
 
-// Steps up to a limit, or to the run's end, window by window. Only the first window's start is worked out: a switch leaves
-// the clock at the next one's.
+// The declared window that follows one: after the last comes the first.
+fn next_slot(slot: usize, declared: usize) -> usize
+    requires { ⌜ slot < declared ⌝ }
+    ensures { λ r. ⌜ r ≡ (slot + 1) % declared ⌝ }
+{
+    let next = slot + 1;
+    if next < declared { next } else { 0 }
+}
+
+// Steps up to a limit, or to the run's end, window by window. Only the first window's start and its number among the
+// declared ones are worked out: a switch leaves the clock at the next one's start, and the declared ones follow in order.
 pub fn run_steps(
     plan: Plan,
     scripts: &[u32],
@@ -229,14 +238,14 @@ pub fn run_steps(
 {
     let rights = plan.rights;
     let masks = plan.masks;
-    let declared = plan.windows as u64;
+    let declared = plan.windows as usize;
     let pad = plan.pad as u64;
     let total = windows_total(plan);
     let mut steps: u64 = 0;
     let mut present = state;
     let mut start = window_start(plan, state.windows);
+    let mut slot = (state.windows % declared as u64) as usize;
     while (steps < limit) & (present.windows < total) {
-        let slot = (present.windows % declared) as usize;
         let owner = plan.owners[slot] as usize;
         let turn = Turn {
             windows: present.windows,
@@ -263,6 +272,7 @@ pub fn run_steps(
         present.positions[owner] = ran.turn.position;
         present.records[owner] = ran.turn.records;
         start = ran.turn.clock;
+        slot = next_slot(slot, declared);
         steps += ran.steps;
     }
     Advance {
