@@ -22,7 +22,8 @@ use Rattle.machine.proofs.Invariant.{steps-counts}
 use Rattle.machine.proofs.Runs.{runs-ended, runs-on}
 use Rattle.machine.proofs.Schedule.{Scheduled, steps-scheduled, valid-scheduled}
 
--- the numbers of a window are small, so that nothing in a step wraps; `slot` is its number among the declared ones
+-- the numbers of a window are small, so that nothing in a step wraps; `slot` is its number among
+-- the declared ones
 pub record Small (plan : Plan) (windows start slot : ℕ) : Type 0 where
   pub slot-declared : slot < plan .windows
   pub slot-below : slot < mostWindows
@@ -33,7 +34,8 @@ pub record Small (plan : Plan) (windows start slot : ℕ) : Type 0 where
   pub end-is : start + getD (plan .lengths) slot 0 ≡ windowEnd plan windows
   pub pad-below : plan .pad ≤ mostPad
 
-pub small : (plan : Plan) (windows start slot : ℕ) → planValid plan ≡ true → start ≡ windowStart plan windows
+pub small : (plan : Plan) (windows start slot : ℕ) → planValid plan ≡ true
+    → start ≡ windowStart plan windows
     → slot ≡ slotOf plan windows
     → windows < windowsTotal plan
     → Small plan windows start slot
@@ -67,7 +69,9 @@ goes-on steps limit windows total test =
     (ltb-true steps limit (tests .0), ltb-true windows total (tests .1))
 
 -- some steps are done, and they lead to what is present
-pub record Going (plan : Plan) (scripts : List ℕ) (quota limit : ℕ) (first present : World) (steps start slot : ℕ) : Type 0 where
+pub record Going
+    (plan : Plan) (scripts : List ℕ) (quota limit : ℕ) (first present : World)
+    (steps start slot : ℕ) : Type 0 where
   pub within : steps ≤ limit
   pub ran : RunsTo plan scripts quota steps first present
   pub starts : steps < limit → start ≡ windowStart plan (present .state .windows)

@@ -27,7 +27,7 @@ use Rattle.state.specs.World.{World}
 use Rattle.machine.specs.declared.Turn.{Turn}
 use Rattle.machine.specs.Steps.{isEnd, nextItem, nextStepOf, opStepOf, switchDue}
 use Rattle.machine.specs.Switch.{flushedClock, paddedClock, switchOf, switchedCache}
-use Rattle.machine.specs.View.{OpRan, opsAllowed, turnAfter, turned, worldWith}
+use Rattle.machine.specs.View.{OpRan, opsAllowed, turnAfter, worldWith}
 
 -- ---- a switch
 
@@ -116,7 +116,8 @@ next-disallowed scripts first limit most steps clock allowed all more =
         → End ≡ nextStepOf scripts (turnAfter first steps clock)
     go true full = next-full scripts (turnAfter first steps clock) (leb-true _ _ full)
     go false room =
-        next-past scripts (turnAfter first steps clock) (omega (arith, leb-false (first .quota) (first .records + steps) room))
+        next-past scripts (turnAfter first steps clock)
+        (omega (arith, leb-false (first .quota) (first .records + steps) room))
 
 -- ---- an op
 

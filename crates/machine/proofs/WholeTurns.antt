@@ -58,7 +58,8 @@ pub record Room (turn : Turn) (logLength : ℕ) : Type 0 where
 module _
     (plan : Plan) (quota : ℕ) (state : State) (start slot : ℕ)
     (possible : planValid plan ≡ true) (inWindow : state .windows < windowsTotal plan)
-    (starts : start ≡ windowStart plan (state .windows)) (slot-is : slot ≡ slotOf plan (state .windows)) where
+    (starts : start ≡ windowStart plan (state .windows))
+    (slot-is : slot ≡ slotOf plan (state .windows)) where
   pub turn-room : (logLength : ℕ) → state .clock ≤ windowEnd plan (state .windows) + (dearestOp - 1) → 8 * (quota * plan .domains) ≤ logLength
       → Room (turnFrom plan quota state start slot) logLength
   turn-room logLength late fits =
@@ -164,10 +165,12 @@ turnedAt state owner turn =
       records = set (state .records) owner (turn .records);
     }
 
--- a turn of a run: one that ends before the limit leaves the clock at the next window's start, and the next declared window follows
+-- a turn of a run: one that ends before the limit leaves the clock at the next window's start, and
+-- the next declared window follows
 pub going-turn :
-    (plan : Plan) (scripts : List ℕ) (quota limit : ℕ) (first : World) (state : State) (cache boxes log : List ℕ) (steps start slot : ℕ)
-    (turn : Turn) (ran : WindowProgress) (slot′ : ℕ) (cache′ boxes′ log′ : List ℕ)
+    (plan : Plan) (scripts : List ℕ) (quota limit : ℕ) (first : World) (state : State)
+    (cache boxes log : List ℕ) (steps start slot : ℕ) (turn : Turn) (ran : WindowProgress)
+    (slot′ : ℕ) (cache′ boxes′ log′ : List ℕ)
     → Going plan scripts quota limit first (worldWith state cache boxes log) steps start slot
     → windowEnd plan (turn .windows) ≡ turn .end
     → slot ≡ slotOf plan (turn .windows)
@@ -177,17 +180,19 @@ pub going-turn :
     → length cache′ ≡ length cache
     → length boxes′ ≡ length boxes
     → length log′ ≡ length log
-    → Going plan scripts quota limit first (worldWith (turnedAt state (turn .owner) (ran .turn)) cache′ boxes′ log′)
+    → Going plan scripts quota limit first
+    (worldWith (turnedAt state (turn .owner) (ran .turn)) cache′ boxes′ log′)
     (steps + ran .steps) (ran .turn .clock) slot′
-going-turn plan scripts quota limit first state cache boxes log steps start slot turn ran slot′ cache′ boxes′ log′
-    going ends slot-is did runs follows same-cache same-boxes same-log =
+going-turn plan scripts quota limit first state cache boxes log steps start slot turn ran slot′
+    cache′ boxes′ log′ going ends slot-is did runs follows same-cache same-boxes same-log =
     subst
     (λ (owner : ℕ).
-    Going plan scripts quota limit first (worldWith (turnedAt state owner (ran .turn)) cache′ boxes′ log′)
+    Going plan scripts quota limit first
+    (worldWith (turnedAt state owner (ran .turn)) cache′ boxes′ log′)
     (steps + ran .steps) (ran .turn .clock) slot′)
     (did .owner-is)
-    (going-on plan scripts quota limit first (worldWith state cache boxes log) steps start slot going _ (ran .steps) _ _ (did .within) runs
-    starts slots same-cache same-boxes same-log)
+    (going-on plan scripts quota limit first (worldWith state cache boxes log) steps start slot
+    going _ (ran .steps) _ _ (did .within) runs starts slots same-cache same-boxes same-log)
   where
     starts : ran .steps < limit - steps → ran .turn .clock ≡ windowStart plan (ran .turn .windows)
     starts more =

@@ -133,12 +133,13 @@ after-none turn =
 after-more : (turn : Turn) (ops clock clock′ : ℕ)
     → turnAfter (turnAfter turn ops clock) 1 clock′ ≡ turnAfter turn (ops + 1) clock′
 after-more turn ops clock clock′ =
-    λ i. turnStands turn clock′ (add-assoc (turn .position) ops 1 i) (add-assoc (turn .records) ops 1 i)
+    λ i.
+    turnStands turn clock′ (add-assoc (turn .position) ops 1 i) (add-assoc (turn .records) ops 1 i)
 
 -- what holds each time the loop comes round
 pub record Turning
-    (rights masks scripts : List ℕ) (most : ℕ) (first : Turn) (cache₀ boxes₀ log₀ cache boxes log : List ℕ)
-    (steps clock : ℕ) : Type 0 where
+    (rights masks scripts : List ℕ) (most : ℕ) (first : Turn)
+    (cache₀ boxes₀ log₀ cache boxes log : List ℕ) (steps clock : ℕ) : Type 0 where
   pub within : steps ≤ most
   pub late : clock ≤ first .end + (dearestOp - 1)
   pub cache-long : length cache ≡ length cache₀
@@ -148,12 +149,15 @@ pub record Turning
       (plan : Plan) (state : State)
       → InTurn plan rights masks state first
       → Done plan scripts rights masks (first .quota) steps (turnAfter first steps clock)
-      (worldWith state cache₀ boxes₀ log₀) (turned state (turnAfter first steps clock)) cache boxes log
+      (worldWith state cache₀ boxes₀ log₀)
+      (turned state (turnAfter first steps clock)) cache boxes log
 
-module _ (rights masks scripts : List ℕ) (most : ℕ) (first : Turn) (cache₀ boxes₀ log₀ : List ℕ) where
+module _
+    (rights masks scripts : List ℕ) (most : ℕ) (first : Turn) (cache₀ boxes₀ log₀ : List ℕ) where
   -- before the first op
   pub turn-first : first .clock ≤ first .end + (dearestOp - 1)
-      → Turning rights masks scripts most first cache₀ boxes₀ log₀ cache₀ boxes₀ log₀ 0 (first .clock)
+      → Turning rights masks scripts most first cache₀ boxes₀ log₀ cache₀ boxes₀ log₀
+      0 (first .clock)
   unfolding runOf
   turn-first late =
       record {
@@ -165,16 +169,20 @@ module _ (rights masks scripts : List ℕ) (most : ℕ) (first : Turn) (cache₀
         done = λ plan state begins.
             let before = worldWith state cache₀ boxes₀ log₀ in
             subst
-            (λ (t : Turn). Done plan scripts rights masks (first .quota) 0 t before (turned state t) cache₀ boxes₀ log₀)
+            (λ (t : Turn).
+            Done plan scripts rights masks (first .quota) 0 t before (turned state t)
+            cache₀ boxes₀ log₀)
             (sym (after-none first))
             (subst
-            (λ (s : State). Done plan scripts rights masks (first .quota) 0 first before s cache₀ boxes₀ log₀)
+            (λ (s : State).
+            Done plan scripts rights masks (first .quota) 0 first before s cache₀ boxes₀ log₀)
             (sym (turned-same state first (begins .stands)))
             (refl, begins));
       }
 
   module _ (cache boxes log : List ℕ) (steps clock : ℕ)
-      (turning : Turning rights masks scripts most first cache₀ boxes₀ log₀ cache boxes log steps clock) where
+      (turning :
+      Turning rights masks scripts most first cache₀ boxes₀ log₀ cache boxes log steps clock) where
     abbrev turn : Turn
     turn = turnAfter first steps clock
 
@@ -187,7 +195,8 @@ module _ (rights masks scripts : List ℕ) (most : ℕ) (first : Turn) (cache₀
         → length cache′ ≡ length cache
         → length boxes′ ≡ length boxes
         → length log′ ≡ length log
-        → Turning rights masks scripts most first cache₀ boxes₀ log₀ cache′ boxes′ log′ (steps + 1) clock′
+        → Turning rights masks scripts most first cache₀ boxes₀ log₀ cache′ boxes′ log′
+        (steps + 1) clock′
     turn-more op clock′ cache′ boxes′ log′ more is ran same-cache same-boxes same-log =
         record {
           within = omega arith;
@@ -200,14 +209,18 @@ module _ (rights masks scripts : List ℕ) (most : ℕ) (first : Turn) (cache₀
               let before = worldWith state cache₀ boxes₀ log₀ in
               subst
               (λ (t : Turn).
-              Done plan scripts rights masks (first .quota) (steps + 1) t before (turned state t) cache′ boxes′ log′)
+              Done plan scripts rights masks (first .quota) (steps + 1) t before (turned state t)
+              cache′ boxes′ log′)
               (after-more first steps clock clock′)
               (subst
               (λ (s : State).
-              Done plan scripts rights masks (first .quota) (steps + 1) (turnAfter turn 1 clock′) before s cache′ boxes′ log′)
+              Done plan scripts rights masks (first .quota) (steps + 1) (turnAfter turn 1 clock′)
+              before s cache′ boxes′ log′)
               (turned-twice state turn clock′) (
-                runs-on plan scripts (first .quota) steps 1 before (worldWith (turned state turn) cache boxes log) _ (so-far .0)
-                    (op-runs plan scripts rights masks (turned state turn) turn (so-far .1) cache boxes log op clock′ cache′ boxes′ log′ is ran),
+                runs-on plan scripts (first .quota) steps 1 before
+                    (worldWith (turned state turn) cache boxes log) _ (so-far .0)
+                    (op-runs plan scripts rights masks (turned state turn) turn (so-far .1)
+                    cache boxes log op clock′ cache′ boxes′ log′ is ran),
                 next-turn plan scripts rights masks (turned state turn) turn (so-far .1) clock′,
               ));
         }
@@ -220,5 +233,5 @@ module _ (rights masks scripts : List ℕ) (most : ℕ) (first : Turn) (cache₀
         → stepOf plan scripts (first .quota) (worldWith (turned state turn) cache boxes log)
         ≡ switchOf plan (worldWith (turned state turn) cache boxes log)
     turn-ends is plan state begins =
-        step-switches plan scripts rights masks (turned state turn) turn (turning .done plan state begins .1)
-        cache boxes log is
+        step-switches plan scripts rights masks (turned state turn) turn
+        (turning .done plan state begins .1) cache boxes log is

@@ -55,8 +55,8 @@ turnAfter turn ops clock =
       records = turn .records + ops;
     }
 
--- how many ops more there can be at most: no more than a limit allows, than the domain's part of the log has room for,
--- and than its script has positions
+-- how many ops more there can be at most: no more than a limit allows, than the domain's part of
+-- the log has room for, and than its script has positions
 abbrev pub opsAllowed : ℕ → Turn → ℕ
 opsAllowed limit turn = min (min limit (turn .quota - turn .records)) (mostOps - turn .position)
 
@@ -84,7 +84,8 @@ pub record Stands (state : State) (turn : Turn) : Type 0 where
 
 -- what an op leaves, with the clock after it
 pub record OpRan
-    (view : Plan) (op : Op) (turn : Turn) (clock : ℕ) (cache boxes log cache′ boxes′ log′ : List ℕ) : Type 0 where
+    (view : Plan) (op : Op) (turn : Turn) (clock : ℕ)
+    (cache boxes log cache′ boxes′ log′ : List ℕ) : Type 0 where
   pub ticks : clock ≤ turn .clock + dearestOp
   pub world :
       (state : State)

@@ -27,8 +27,9 @@ ghost use Rattle.ops.specs.View.{viewOf};
 ghost use Rattle.state.specs.StateValidity.{stateValid};
 ghost use Rattle.machine.specs.Steps.{nextStepOf, runOf};
 ghost use Rattle.machine.specs.Switch.{flushedClock, paddedClock, switchedCache};
-ghost use Rattle.machine.specs.View.{InTurn, OpRan, RunsTo, TurnRan, WindowRan, clockBound, opsAllowed, ranWith};
-ghost use Rattle.machine.specs.View.{turnAfter, turnMoved, turned, worldWith};
+ghost use Rattle.machine.specs.View.{InTurn, OpRan, RunsTo, TurnRan, WindowRan, clockBound};
+ghost use Rattle.machine.specs.View.{opsAllowed, ranWith, turnAfter, turnMoved, turned};
+ghost use Rattle.machine.specs.View.{worldWith};
 
 fn later(one: u64, other: u64) -> u64
     ensures { λ r. ⌜ r ≡ max one other ⌝ }
@@ -118,8 +119,8 @@ fn op_step(
     after
 }
 
-// The ops of a window, at most `limit` of them, until a switch is due. The state is left as it is meanwhile, and so is the
-// turn: its ops are counted, which gives the position and the number of records.
+// The ops of a window, at most `limit` of them, until a switch is due. State and turn are left as
+// they are meanwhile: the number of ops done gives the domain's position and its number of records.
 fn run_window(
     rights: &[u32; 8],
     masks: &[u16; 8],
@@ -217,8 +218,9 @@ fn next_slot(slot: usize, declared: usize) -> usize
     if next < declared { next } else { 0 }
 }
 
-// Steps up to a limit, or to the run's end, window by window. Only the first window's start and its number among the
-// declared ones are worked out: a switch leaves the clock at the next one's start, and the declared ones follow in order.
+// Steps up to a limit, or to the run's end, window by window. Only the first window's start is
+// worked out, and which declared window it is: a switch leaves the clock at the next one's start,
+// and declared windows follow in order.
 pub fn run_steps(
     plan: Plan,
     scripts: &[u32],

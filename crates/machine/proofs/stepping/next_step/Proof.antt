@@ -9,7 +9,8 @@ returns c = next-late _ _ (c .if1 .taken)
 
 returns-2 : tie.Need-returns-2
 returns-2 c =
-    next-item _ _ _ (c .fetch .ensures) (c .before .before .if1 .left) (c .before .before .before .before .before .pre .2)
+    next-item _ _ _ (c .fetch .ensures) (c .before .before .if1 .left)
+    (c .before .before .before .before .before .pre .2)
 
 pub next-step-spec : {M : Type 1} → statement M
 next-step-spec = tie.close (tie.spec returns (λ c. search needs) (λ c κs. search needs) returns-2)

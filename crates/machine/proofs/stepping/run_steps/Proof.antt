@@ -16,8 +16,10 @@ use Rattle.machine.proofs.stepping.run_steps.Statement.{statement}
 use Rattle.machine.proofs.stepping.run_steps.Tie as tie
 
 abbrev Inv-loop : tie.InvT-loop
-Inv-loop scripts quota limit cache₀ boxes₀ log₀ plan _ _ _ _ _ _ present₀ _ _ cache boxes log steps present start slot =
-    Going plan scripts quota limit (worldWith present₀ cache₀ boxes₀ log₀) (worldWith present cache boxes log) steps start slot
+Inv-loop scripts quota limit cache₀ boxes₀ log₀ plan _ _ _ _ _ _ present₀ _ _
+    cache boxes log steps present start slot =
+    Going plan scripts quota limit (worldWith present₀ cache₀ boxes₀ log₀)
+    (worldWith present cache boxes log) steps start slot
 
 abbrev μ-loop : tie.MeasureT-loop
 μ-loop _ _ limit _ _ _ _ _ _ _ _ _ _ _ _ _ _ _ _ steps _ _ _ = limit - steps
@@ -33,9 +35,13 @@ in-loop c = c .before .before .before .before .before .before .before .before .b
 
 module _ (c : tie.In-loop Inv-loop μ-loop) where
   more : (c .before .loop .steps < start c .args .limit) × (c .before .loop .present .windows < windowsTotal (start c .args .t1))
-  more = goes-on _ _ _ _ (rw (c .before .before .before .before .windows-total .ensures) at (c .loop-test .taken))
+  more =
+      goes-on _ _ _ _
+      (rw (c .before .before .before .before .windows-total .ensures) at (c .loop-test .taken))
 
-  smalls : Small (start c .args .t1) (c .before .loop .present .windows) (c .before .loop .start) (c .before .loop .slot)
+  smalls :
+      Small (start c .args .t1) (c .before .loop .present .windows)
+      (c .before .loop .start) (c .before .loop .slot)
   smalls =
       let inv = c .before .loop .inv in
       small _ _ _ _ (start c .pre .0) (inv .starts (more .0)) (inv .slots (more .0)) (more .1)
@@ -50,7 +56,8 @@ module _ (c : tie.In-loop Inv-loop μ-loop) where
   room =
       let pre = start c .pre in
       let inv = c .before .loop .inv in
-      turn-room _ _ (c .before .loop .present) _ _ (pre .0) (more .1) (inv .starts (more .0)) (inv .slots (more .0)) _
+      turn-room _ _ (c .before .loop .present) _ _ (pre .0) (more .1)
+      (inv .starts (more .0)) (inv .slots (more .0)) _
       (going-clock _ _ _ _ _ _ _ _ _ inv (pre .0) (pre .1) (more .1)) (rw (inv .log-long) (pre .5))
 
   here : InTurn (start c .args .t1) (start c .args .t1 .rights) (start c .args .t1 .masks) (c .before .loop .present) turn
@@ -58,7 +65,8 @@ module _ (c : tie.In-loop Inv-loop μ-loop) where
       let inv = c .before .loop .inv in
       let kept = going-counts _ _ _ _ _ _ _ _ _ inv in
       let good = start c .good .1 .1 .1 .1 .0 in
-      turn-here _ _ (c .before .loop .present) _ _ (start c .pre .0) (more .1) (inv .starts (more .0)) (inv .slots (more .0))
+      turn-here _ _ (c .before .loop .present) _ _ (start c .pre .0) (more .1)
+      (inv .starts (more .0)) (inv .slots (more .0))
       (kept .0 ∙ search (needs, good)) (kept .1 ∙ search (needs, good))
 
 windows-total-requires : tie.Need-windows-total-requires Inv-loop μ-loop
@@ -70,7 +78,9 @@ window-start-requires c κs =
     (at .pre .0, valid-scheduled _ _ (worldWith (at .args .state) [] [] []) (at .pre .0) (at .pre .1) .windows)
 
 rem-slot : tie.Need-rem-slot Inv-loop μ-loop
-rem-slot c = counts _ (c .before .before .before .before .before .before .before .before .before .pre .0) .windows-least
+rem-slot c =
+    let at = c .before .before .before .before .before .before .before .before .before in
+    counts _ (at .pre .0) .windows-least
 
 loop-holds : tie.Need-loop-holds Inv-loop μ-loop
 loop-holds c = going-first _ _ _ _ _ _ _ (c .before .window-start .ensures) refl
@@ -148,7 +158,8 @@ abbrev turn-ran : tie.After-next-slot Inv-loop μ-loop → tie.After-run-turn In
 turn-ran c = c .before .before .before .before .before .before .before
 
 next-slot-requires : tie.Need-next-slot-requires Inv-loop μ-loop
-next-slot-requires c κs = smalls (in-loop (c .before .before .before .before .before .before)) .slot-declared
+next-slot-requires c κs =
+    smalls (in-loop (c .before .before .before .before .before .before)) .slot-declared
 
 add-steps : tie.Need-add-steps Inv-loop μ-loop
 add-steps c =
@@ -167,9 +178,10 @@ loop-again c =
     let inv = at .before .loop .inv in
     let did = ran .run-turn .ensures in
     let kept = ran .run-turn .kept .1 .1 .1 .1 .1 .1 in
-    going-turn (start at .args .t1) _ _ _ _ (at .before .loop .present) _ _ _ _ _ _ (turn at) (ran .run-turn .result) _ _ _ _
-    inv (here at .end-is) (inv .slots (more at .0)) (did .0) (did .1 _ _ (here at) refl) (c .before .next-slot .ensures)
-    (kept .0) (kept .1 .0) (kept .1 .1 .0)
+    going-turn (start at .args .t1) _ _ _ _ (at .before .loop .present) _ _ _ _ _ _
+    (turn at) (ran .run-turn .result) _ _ _ _
+    inv (here at .end-is) (inv .slots (more at .0)) (did .0) (did .1 _ _ (here at) refl)
+    (c .before .next-slot .ensures) (kept .0) (kept .1 .0) (kept .1 .1 .0)
 
 returns : tie.Need-returns Inv-loop μ-loop
 returns c =
@@ -180,9 +192,10 @@ pub run-steps-spec : {M : Type 1} → statement M
 run-steps-spec =
     tie.close
     (tie.spec
-    Inv-loop μ-loop (λ c. search needs) (λ c. search needs) windows-total-requires window-start-requires rem-slot loop-holds
-    mul-owner element-copy-out-owner cast-owner mul-t32 element-copy-out-t35 cast-t38 add-t39 mul-t41
-    element-copy-out-t44 mul-t45 element-copy-out-t48 sub-run-turn run-turn-requires mul-present
-    element-write-present mul-present-2 element-write-present-2 next-slot-requires add-steps loop-less loop-again
+    Inv-loop μ-loop (λ c. search needs) (λ c. search needs) windows-total-requires
+    window-start-requires rem-slot loop-holds mul-owner element-copy-out-owner cast-owner mul-t32
+    element-copy-out-t35 cast-t38 add-t39 mul-t41 element-copy-out-t44 mul-t45
+    element-copy-out-t48 sub-run-turn run-turn-requires mul-present element-write-present mul-present-2 element-write-present-2
+    next-slot-requires add-steps loop-less loop-again
     (λ c. c .before .loop .inv .cache-long) (λ c. c .before .loop .inv .boxes-long)
     (λ c. c .before .loop .inv .log-long) returns)

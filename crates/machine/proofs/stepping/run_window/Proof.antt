@@ -67,18 +67,28 @@ loop-again c =
     let at = in-loop ran in
     let chosen = sym (ran .before .before .before .before .before .next .given .1) ∙ ran .before .before .before .before .before .before .before .next-step .ensures in
     let kept = ran .op-step .kept .1 .1 .1 .1 .1 .1 in
-    turn-more _ _ _ _ _ _ _ _ _ _ _ _ _ (at .before .loop .inv) _ _ _ _ _ (at .loop-test .taken) chosen
-    (ran .op-step .ensures) (kept .0) (kept .1 .0) (kept .1 .1 .0)
+    turn-more _ _ _ _ _ _ _ _ _ _ _ _ _ (at .before .loop .inv) _ _ _ _ _
+    (at .loop-test .taken) chosen (ran .op-step .ensures) (kept .0) (kept .1 .0) (kept .1 .1 .0)
 
 add-t21 : tie.Need-add-t21 Inv-loop μ-loop
 add-t21 c =
     let at = c .before .before in
-    omega (arith, at .before .ops-allowed .ensures, at .loop .inv .within, at .before .before .before .before .before .before .good)
+    omega (
+      arith,
+      at .before .ops-allowed .ensures,
+      at .loop .inv .within,
+      at .before .before .before .before .before .before .good,
+    )
 
 add-t22 : tie.Need-add-t22 Inv-loop μ-loop
 add-t22 c =
     let at = c .before .before .before in
-    omega (arith, at .before .ops-allowed .ensures, at .loop .inv .within, at .before .before .before .before .before .before .good)
+    omega (
+      arith,
+      at .before .ops-allowed .ensures,
+      at .loop .inv .within,
+      at .before .before .before .before .before .before .good,
+    )
 
 returns : tie.Need-returns Inv-loop μ-loop
 returns c =
@@ -105,7 +115,8 @@ pub run-window-spec : {M : Type 1} → statement M
 run-window-spec =
     tie.close
     (tie.spec
-    Inv-loop μ-loop (λ c κs. search needs) loop-holds next-step-requires (λ c. search needs) (λ c. search needs)
-    op-step-requires add-steps loop-less loop-again add-t21 add-t22
-    (λ c. c .before .before .before .loop .inv .cache-long) (λ c. c .before .before .before .loop .inv .boxes-long)
+    Inv-loop μ-loop (λ c κs. search needs) loop-holds next-step-requires (λ c. search needs)
+    (λ c. search needs) op-step-requires add-steps loop-less loop-again add-t21 add-t22
+    (λ c. c .before .before .before .loop .inv .cache-long)
+    (λ c. c .before .before .before .loop .inv .boxes-long)
     (λ c. c .before .before .before .loop .inv .log-long) returns)
