@@ -195,7 +195,7 @@ run-steps-spec =
     Inv-loop μ-loop (λ c. search needs) (λ c. search needs) windows-total-requires
     window-start-requires rem-slot loop-holds mul-owner element-copy-out-owner cast-owner mul-t32
     element-copy-out-t35 cast-t38 add-t39 mul-t41 element-copy-out-t44 mul-t45
-    element-copy-out-t48 sub-run-turn run-turn-requires mul-present element-write-present mul-present-2 element-write-present-2
-    next-slot-requires add-steps loop-less loop-again
+    element-copy-out-t48 sub-run-turn run-turn-requires mul-present element-write-present
+    mul-present-2 element-write-present-2 next-slot-requires add-steps loop-less loop-again
     (λ c. c .before .loop .inv .cache-long) (λ c. c .before .loop .inv .boxes-long)
     (λ c. c .before .loop .inv .log-long) returns)
