@@ -6,7 +6,7 @@ use Prim.Native.Nat.{ℕ, _+_, _*_, _-_, _≤_, _<_}
 use native.Mathlib.Nat.{mul-le-mul}
 use native.Mathlib.Omega.{arith}
 use lib.Dec.{ltb}
-use lib.ListN.{length}
+use lib.ListN.{getD, length}
 use borrow.Author.Tests.{le-leb, ltb-false, ltb-true}
 use Rattle.plan.specs.declared.Plan.{Plan}
 use Rattle.plan.specs.Limits.{dearestOp, mostDomains, mostLength, mostPad, mostRun, mostRunTicks, mostWindows}
@@ -22,31 +22,40 @@ use Rattle.machine.proofs.Invariant.{steps-counts}
 use Rattle.machine.proofs.Runs.{runs-ended, runs-on}
 use Rattle.machine.proofs.Schedule.{Scheduled, steps-scheduled, valid-scheduled}
 
--- the numbers of a window are small, so that nothing in a step wraps
-pub record Small (plan : Plan) (windows start : ℕ) : Type 0 where
-  pub slot-below : slotOf plan windows < mostWindows
-  pub owner-below : windowOwner plan windows < mostDomains
-  pub length-below : windowLength plan windows ≤ mostLength
+-- the numbers of a window are small, so that nothing in a step wraps; `slot` is its number among
+-- the declared ones
+pub record Small (plan : Plan) (windows start slot : ℕ) : Type 0 where
+  pub slot-declared : slot < plan .windows
+  pub slot-below : slot < mostWindows
+  pub owner-declared : getD (plan .owners) slot 0 < plan .domains
+  pub owner-below : getD (plan .owners) slot 0 < mostDomains
+  pub length-below : getD (plan .lengths) slot 0 ≤ mostLength
   pub start-below : start ≤ mostRunTicks
-  pub end-is : start + windowLength plan windows ≡ windowEnd plan windows
+  pub end-is : start + getD (plan .lengths) slot 0 ≡ windowEnd plan windows
   pub pad-below : plan .pad ≤ mostPad
 
-pub small : (plan : Plan) (windows start : ℕ) → planValid plan ≡ true → start ≡ windowStart plan windows → windows < windowsTotal plan
-    → Small plan windows start
-unfolding windowEnd
-small plan windows start possible starts inWindow =
+pub small : (plan : Plan) (windows start slot : ℕ) → planValid plan ≡ true
+    → start ≡ windowStart plan windows
+    → slot ≡ slotOf plan windows
+    → windows < windowsTotal plan
+    → Small plan windows start slot
+unfolding windowEnd windowLength windowOwner
+small plan windows start slot possible starts is inWindow =
     let count = counts plan possible in
-    let slot = slot-below plan windows possible in
+    let below = slot-below plan windows possible in
     let owner = owner-declared plan windows possible in
     let fits = start-fits plan windows possible (omega arith) in
-    record {
+    subst (Small plan windows start) (sym is)
+    (record {
+      slot-declared = below;
       slot-below = omega arith;
+      owner-declared = owner;
       owner-below = omega arith;
       length-below = length-most plan windows possible;
       start-below = omega arith;
       end-is = ap (λ (n : ℕ). n + windowLength plan windows) starts;
       pad-below = count .pad-most;
-    }
+    })
 
 -- a run has few windows
 pub windows-small : (plan : Plan) → planValid plan ≡ true → windowsTotal plan ≤ mostRun * mostWindows
@@ -60,37 +69,53 @@ goes-on steps limit windows total test =
     (ltb-true steps limit (tests .0), ltb-true windows total (tests .1))
 
 -- some steps are done, and they lead to what is present
-pub record Going (plan : Plan) (scripts : List ℕ) (quota limit : ℕ) (first present : World) (steps start : ℕ) : Type 0 where
+pub record Going
+    (plan : Plan) (scripts : List ℕ) (quota limit : ℕ) (first present : World)
+    (steps start slot : ℕ) : Type 0 where
   pub within : steps ≤ limit
   pub ran : RunsTo plan scripts quota steps first present
   pub starts : steps < limit → start ≡ windowStart plan (present .state .windows)
+  pub slots : steps < limit → slot ≡ slotOf plan (present .state .windows)
   pub cache-long : length (present .cache) ≡ length (first .cache)
   pub boxes-long : length (present .boxes) ≡ length (first .boxes)
   pub log-long : length (present .log) ≡ length (first .log)
 
 module _ (plan : Plan) (scripts : List ℕ) (quota limit : ℕ) (first : World) where
   -- before the first step
-  pub going-first : (start : ℕ) → start ≡ windowStart plan (first .state .windows) → Going plan scripts quota limit first first 0 start
+  pub going-first : (start slot : ℕ) → start ≡ windowStart plan (first .state .windows)
+      → slot ≡ slotOf plan (first .state .windows)
+      → Going plan scripts quota limit first first 0 start slot
   unfolding runOf
-  going-first start starts =
-      record { within = omega arith; ran = refl; starts = λ more. starts; cache-long = refl; boxes-long = refl; log-long = refl }
+  going-first start slot starts is =
+      record {
+        within = omega arith;
+        ran = refl;
+        starts = λ more. starts;
+        slots = λ more. is;
+        cache-long = refl;
+        boxes-long = refl;
+        log-long = refl;
+      }
 
-  module _ (present : World) (steps start : ℕ) (going : Going plan scripts quota limit first present steps start) where
+  module _ (present : World) (steps start slot : ℕ)
+      (going : Going plan scripts quota limit first present steps start slot) where
     -- some steps more
     pub going-on :
-        (next : World) (more start′ : ℕ)
+        (next : World) (more start′ slot′ : ℕ)
         → more ≤ limit - steps
         → RunsTo plan scripts quota more present next
         → (more < limit - steps → start′ ≡ windowStart plan (next .state .windows))
+        → (more < limit - steps → slot′ ≡ slotOf plan (next .state .windows))
         → length (next .cache) ≡ length (present .cache)
         → length (next .boxes) ≡ length (present .boxes)
         → length (next .log) ≡ length (present .log)
-        → Going plan scripts quota limit first next (steps + more) start′
-    going-on next more start′ fewer ran starts cache boxes log =
+        → Going plan scripts quota limit first next (steps + more) start′ slot′
+    going-on next more start′ slot′ fewer ran starts slots cache boxes log =
         record {
           within = omega (arith, going .within);
           ran = runs-on plan scripts quota steps more first present next (going .ran) ran;
           starts = λ fewer. starts (omega arith);
+          slots = λ fewer. slots (omega arith);
           cache-long = cache ∙ going .cache-long;
           boxes-long = boxes ∙ going .boxes-long;
           log-long = log ∙ going .log-long;

@@ -2,9 +2,10 @@
 use mathlib.Core.Path.{_≡_, refl, ap}
 use mathlib.Core.Bool.{Bool, true, false, cond, _||_}
 use mathlib.Core.List.{List}
-use Prim.Native.Nat.{ℕ, _+_, _≤_, max}
+use Prim.Native.Nat.{ℕ, _+_, _≤_, _<_, max}
 use native.Mathlib.Omega.{arith}
 use lib.Dec.{leb}
+use borrow.Author.Tests.{le-leb, le-ltb, leb-false, leb-true, lt-leb}
 use Rattle.plan.specs.declared.Plan.{Plan}
 use Rattle.plan.specs.Limits.{dearestOp, mostFlushTicks}
 use Rattle.plan.specs.Windows.{windowEnd}
@@ -12,7 +13,8 @@ use Rattle.script.specs.declared.ScriptItem.{ScriptItem}
 use Rattle.script.specs.declared.ScriptItem.the-variants.{Op as Fetch, End}
 use Rattle.script.specs.declared.Op.{Op}
 use Rattle.script.specs.declared.Op.the-variants.{Compute, Read, Receive, Send, Write}
-use Rattle.script.specs.Limits.{OpWithinLimits}
+use Rattle.script.specs.Fetch.{fetchOf}
+use Rattle.script.specs.Limits.{OpWithinLimits, mostOps}
 use Rattle.cache.specs.Flush.{kernelFlushTicks, kernelFlushed, l1FlushTicks}
 use Rattle.cache.proofs.Ticks.{flush-ticks}
 use Rattle.records.specs.Records.{recordStored}
@@ -25,8 +27,7 @@ use Rattle.state.specs.World.{World}
 use Rattle.machine.specs.declared.Turn.{Turn}
 use Rattle.machine.specs.Steps.{isEnd, nextItem, nextStepOf, opStepOf, switchDue}
 use Rattle.machine.specs.Switch.{flushedClock, paddedClock, switchOf, switchedCache}
-use Rattle.machine.specs.View.{OpRan, turnAt, turned, worldWith}
-use Rattle.lists.proofs.Tests.{neither}
+use Rattle.machine.specs.View.{OpRan, opsAllowed, turnAfter, worldWith}
 
 -- ---- a switch
 
@@ -60,28 +61,63 @@ switch-stepped plan state cache boxes log end clock cache′ ends clocked flushe
 -- ---- the choice of a step
 
 module _ (scripts : List ℕ) (turn : Turn) where
-  -- the clock has reached the end, or the domain's log is full
-  pub next-switch : (leb (turn .end) (turn .clock) || leb (turn .quota) (turn .records)) ≡ true → End ≡ nextStepOf scripts turn
+  -- the clock has reached the end
+  pub next-late : turn .end ≤ turn .clock → End ≡ nextStepOf scripts turn
   unfolding nextStepOf switchDue
-  next-switch test = go (leb (turn .end) (turn .clock)) (nextItem scripts turn) (leb (turn .quota) (turn .records)) test
-    where
-      go : (late : Bool) (item : ScriptItem) (full : Bool) → (late || full) ≡ true → End ≡ cond (late || isEnd item || full) End item
-      go true item full test = refl
-      go false (Fetch op) full test = rw test refl
-      go false End full test = refl
+  next-late reached = rw (le-leb (turn .end) (turn .clock) reached) refl
 
-  -- or neither: what stands next in the script decides
+  -- or the domain's log is full
+  next-full : turn .quota ≤ turn .records → End ≡ nextStepOf scripts turn
+  unfolding nextStepOf switchDue
+  next-full full =
+      rw (le-leb (turn .quota) (turn .records) full)
+      (go (leb (turn .end) (turn .clock)) (nextItem scripts turn))
+    where
+      go : (late : Bool) (item : ScriptItem) → End ≡ cond (late || isEnd item || true) End item
+      go true item = refl
+      go false (Fetch op) = refl
+      go false End = refl
+
+  -- or its script has no position more
+  next-past : mostOps ≤ turn .position → End ≡ nextStepOf scripts turn
+  unfolding nextStepOf switchDue fetchOf
+  next-past past = rw (le-ltb (turn .position) mostOps past)
+      (go (leb (turn .end) (turn .clock) || true || leb (turn .quota) (turn .records)))
+    where
+      go : (due : Bool) → End ≡ cond due End End
+      go true = refl
+      go false = refl
+
+  -- or none of these: what stands next in the script decides
   pub next-item : (item : ScriptItem) → item ≡ nextItem scripts turn
-      → (leb (turn .end) (turn .clock) || leb (turn .quota) (turn .records)) ≡ false
+      → turn .clock < turn .end
+      → turn .records < turn .quota
       → item ≡ nextStepOf scripts turn
   unfolding nextStepOf switchDue
-  next-item item is test =
-      let tests = neither (leb (turn .end) (turn .clock)) (leb (turn .quota) (turn .records)) test in
-      rw (tests .0, tests .1, ← is) (go item)
+  next-item item is inTime room =
+      rw (lt-leb (turn .end) (turn .clock) inTime, lt-leb (turn .quota) (turn .records) room, ← is)
+      (go item)
     where
       go : (item : ScriptItem) → item ≡ cond (isEnd item || false) End item
       go (Fetch op) = refl
       go End = refl
+
+-- after as many ops as are allowed a switch is next, unless the limit is reached
+pub next-disallowed :
+    (scripts : List ℕ) (first : Turn) (limit most steps clock : ℕ)
+    → most ≡ opsAllowed limit first
+    → most ≤ steps
+    → steps < limit
+    → End ≡ nextStepOf scripts (turnAfter first steps clock)
+next-disallowed scripts first limit most steps clock allowed all more =
+    go (leb (first .quota) (first .records + steps)) refl
+  where
+    go : (full : Bool) → leb (first .quota) (first .records + steps) ≡ full
+        → End ≡ nextStepOf scripts (turnAfter first steps clock)
+    go true full = next-full scripts (turnAfter first steps clock) (leb-true _ _ full)
+    go false room =
+        next-past scripts (turnAfter first steps clock)
+        (omega (arith, leb-false (first .quota) (first .records + steps) room))
 
 -- ---- an op
 
@@ -101,11 +137,10 @@ pub op-ran :
     → OpWithinLimits op
     → effectWith done cache′ boxes′ ≡ effectOf plan (turn .owner) op cache boxes
     → log′ ≡ recordStored (turn .quota) (turn .owner) (turn .records) (done .seen) (turn .clock + done .ticks) log
-    → OpRan plan op turn (turnAt turn (turn .clock + done .ticks)) cache boxes log cache′ boxes′ log′
+    → OpRan plan op turn (turn .clock + done .ticks) cache boxes log cache′ boxes′ log′
 unfolding opStepOf
 op-ran plan op turn cache boxes log done cache′ boxes′ log′ within did kept =
     record {
-      next-is = refl;
       ticks = omega (arith, operated-ticks plan (turn .owner) op cache boxes done cache′ boxes′ within did);
       world = λ state stands. rw (← did, kept, stands .windows-is, stands .clock-is, stands .position-is, stands .records-is) refl;
     }

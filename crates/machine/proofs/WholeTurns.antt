@@ -2,20 +2,19 @@
 use mathlib.Core.Path.{_≡_, refl, sym, ap, subst, _∙_}
 use mathlib.Core.Bool.{false, true}
 use mathlib.Core.List.{List}
-use Prim.Native.Nat.{ℕ, suc, _+_, _*_, _-_, _≤_, _<_}
-use native.Mathlib.Nat.{mul-le-mul-left, mul-suc}
+use Prim.Native.Nat.{ℕ, suc, _+_, _*_, _%_, _-_, _≤_, _<_}
+use native.Mathlib.Nat.{mod-add-mod, mul-le-mul-left, mul-suc}
 use native.Mathlib.Numerals.{add-one}
 use native.Mathlib.Omega.{arith}
-use lib.ListN.{length, set}
+use lib.ListN.{getD, length, set}
 use borrow.Author.Tests.{lt-leb}
 use Rattle.plan.specs.declared.Plan.{Plan}
 use Rattle.plan.specs.Limits.{dearestOp, leastPad, mostDomains}
 use Rattle.plan.specs.Validity.{planValid}
-use Rattle.plan.specs.Windows.{windowEnd, windowLength, windowStart, windowsTotal}
-use Rattle.plan.proofs.Windows.{owner-declared}
+use Rattle.plan.specs.Windows.{slotOf, windowEnd, windowOwner, windowStart, windowsTotal}
 use Rattle.cache.proofs.Ticks.{flush-ticks}
 use Rattle.state.specs.declared.State.{State}
-use Rattle.state.specs.World.{World, endedOf, positionAt, recordsAt, runningOf}
+use Rattle.state.specs.World.{World, endedOf, positionAt, recordsAt}
 use Rattle.machine.specs.declared.Turn.{Turn}
 use Rattle.machine.specs.declared.WindowProgress.{WindowProgress}
 use Rattle.machine.specs.Switch.{flushedClock, paddedClock, switchedCache}
@@ -34,17 +33,18 @@ part-room quota domains owner size below fits =
     let one : quota * suc owner ≡ quota * owner + quota = mul-suc quota owner in
     omega arith
 
--- the turn of a state whose window starts at `start`
-abbrev pub turnFrom : Plan → ℕ → State → ℕ → Turn
-turnFrom plan quota state start =
+-- the turn of a state whose window starts at `start` and is the declared window `slot`
+abbrev pub turnFrom : Plan → ℕ → State → ℕ → ℕ → Turn
+turnFrom plan quota state start slot =
+    let owner = getD (plan .owners) slot 0 in
     record {
       windows = state .windows;
-      owner = runningOf plan state;
-      end = start + windowLength plan (state .windows);
+      owner = owner;
+      end = start + getD (plan .lengths) slot 0;
       quota = quota;
       clock = state .clock;
-      position = positionAt state (runningOf plan state);
-      records = recordsAt state (runningOf plan state);
+      position = positionAt state owner;
+      records = recordsAt state owner;
     }
 
 -- its numbers are small, so that nothing in it wraps
@@ -56,27 +56,30 @@ pub record Room (turn : Turn) (logLength : ℕ) : Type 0 where
   pub log : 8 * (turn .quota * turn .owner + turn .quota) ≤ logLength
 
 module _
-    (plan : Plan) (quota : ℕ) (state : State) (start : ℕ)
-    (possible : planValid plan ≡ true) (inWindow : state .windows < windowsTotal plan) (starts : start ≡ windowStart plan (state .windows)) where
+    (plan : Plan) (quota : ℕ) (state : State) (start slot : ℕ)
+    (possible : planValid plan ≡ true) (inWindow : state .windows < windowsTotal plan)
+    (starts : start ≡ windowStart plan (state .windows))
+    (slot-is : slot ≡ slotOf plan (state .windows)) where
   pub turn-room : (logLength : ℕ) → state .clock ≤ windowEnd plan (state .windows) + (dearestOp - 1) → 8 * (quota * plan .domains) ≤ logLength
-      → Room (turnFrom plan quota state start) logLength
+      → Room (turnFrom plan quota state start slot) logLength
   turn-room logLength late fits =
-      let numbers = small plan (state .windows) start possible starts inWindow in
+      let numbers = small plan (state .windows) start slot possible starts slot-is inWindow in
       record {
         windows = omega (arith, windows-small plan possible);
         owner = numbers .owner-below;
         late = omega arith;
         end = omega arith;
-        log = part-room quota (plan .domains) _ logLength (owner-declared plan (state .windows) possible) fits;
+        log = part-room quota (plan .domains) _ logLength (numbers .owner-declared) fits;
       }
 
   pub turn-here : length (state .positions) ≡ mostDomains → length (state .records) ≡ mostDomains
-      → InTurn plan (plan .rights) (plan .masks) state (turnFrom plan quota state start)
+      → InTurn plan (plan .rights) (plan .masks) state (turnFrom plan quota state start slot)
+  unfolding windowOwner
   turn-here positions records =
-      let numbers = small plan (state .windows) start possible starts inWindow in
+      let numbers = small plan (state .windows) start slot possible starts slot-is inWindow in
       record {
         not-ended = inWindow;
-        owner-is = refl;
+        owner-is = ap (λ (n : ℕ). getD (plan .owners) n 0) (sym slot-is);
         end-is = sym (numbers .end-is);
         rights-are = refl;
         masks-are = refl;
@@ -162,24 +165,34 @@ turnedAt state owner turn =
       records = set (state .records) owner (turn .records);
     }
 
--- a turn of a run: one that ends before the limit leaves the clock at the next window's start
+-- a turn of a run: one that ends before the limit leaves the clock at the next window's start, and
+-- the next declared window follows
 pub going-turn :
-    (plan : Plan) (scripts : List ℕ) (quota limit : ℕ) (first : World) (state : State) (cache boxes log : List ℕ) (steps start : ℕ)
-    (turn : Turn) (ran : WindowProgress) (cache′ boxes′ log′ : List ℕ)
-    → Going plan scripts quota limit first (worldWith state cache boxes log) steps start
+    (plan : Plan) (scripts : List ℕ) (quota limit : ℕ) (first : World) (state : State)
+    (cache boxes log : List ℕ) (steps start slot : ℕ) (turn : Turn) (ran : WindowProgress)
+    (slot′ : ℕ) (cache′ boxes′ log′ : List ℕ)
+    → Going plan scripts quota limit first (worldWith state cache boxes log) steps start slot
     → windowEnd plan (turn .windows) ≡ turn .end
+    → slot ≡ slotOf plan (turn .windows)
     → TurnRan (limit - steps) (plan .pad) turn ran
     → RunsTo plan scripts quota (ran .steps) (worldWith state cache boxes log) (worldWith (turned state (ran .turn)) cache′ boxes′ log′)
+    → slot′ ≡ (slot + 1) % plan .windows
     → length cache′ ≡ length cache
     → length boxes′ ≡ length boxes
     → length log′ ≡ length log
-    → Going plan scripts quota limit first (worldWith (turnedAt state (turn .owner) (ran .turn)) cache′ boxes′ log′) (steps + ran .steps) (ran .turn .clock)
-going-turn plan scripts quota limit first state cache boxes log steps start turn ran cache′ boxes′ log′ going ends did runs same-cache same-boxes same-log =
+    → Going plan scripts quota limit first
+    (worldWith (turnedAt state (turn .owner) (ran .turn)) cache′ boxes′ log′)
+    (steps + ran .steps) (ran .turn .clock) slot′
+going-turn plan scripts quota limit first state cache boxes log steps start slot turn ran slot′
+    cache′ boxes′ log′ going ends slot-is did runs follows same-cache same-boxes same-log =
     subst
-    (λ (owner : ℕ). Going plan scripts quota limit first (worldWith (turnedAt state owner (ran .turn)) cache′ boxes′ log′) (steps + ran .steps) (ran .turn .clock))
+    (λ (owner : ℕ).
+    Going plan scripts quota limit first
+    (worldWith (turnedAt state owner (ran .turn)) cache′ boxes′ log′)
+    (steps + ran .steps) (ran .turn .clock) slot′)
     (did .owner-is)
-    (going-on plan scripts quota limit first (worldWith state cache boxes log) steps start going _ (ran .steps) _ (did .within) runs starts
-    same-cache same-boxes same-log)
+    (going-on plan scripts quota limit first (worldWith state cache boxes log) steps start slot
+    going _ (ran .steps) _ _ (did .within) runs starts slots same-cache same-boxes same-log)
   where
     starts : ran .steps < limit - steps → ran .turn .clock ≡ windowStart plan (ran .turn .windows)
     starts more =
@@ -188,3 +201,10 @@ going-turn plan scripts quota limit first state cache boxes log steps start turn
         ∙ ap (λ (n : ℕ). n + plan .pad) (sym ends)
         ∙ sym (next-start plan (turn .windows))
         ∙ ap (windowStart plan) (sym (next .0 ∙ add-one (turn .windows)))
+
+    slots : ran .steps < limit - steps → slot′ ≡ slotOf plan (ran .turn .windows)
+    slots more =
+        follows
+        ∙ ap (λ (n : ℕ). (n + 1) % plan .windows) slot-is
+        ∙ mod-add-mod (turn .windows) (plan .windows) 1
+        ∙ ap (slotOf plan) (sym (did .next more .0))

@@ -2,7 +2,8 @@
 use mathlib.Core.Bool.{false}
 use mathlib.Core.Path.{_≡_, refl, sym, ap, ap₂, subst, _∙_}
 use mathlib.Core.List.{List}
-use Prim.Native.Nat.{ℕ, _+_, _*_, _-_, _≤_, _<_}
+use Prim.Native.Nat.{ℕ, _+_, _-_, _≤_, _<_}
+use native.Mathlib.Nat.{add-assoc, add-zero}
 use native.Mathlib.Omega.{arith}
 use lib.ListN.{length, length-set}
 use lib.Seq.{getD-set-same, set-getD, set-set}
@@ -19,7 +20,7 @@ use Rattle.state.specs.World.{World, endedOf, positionAt, recordsAt}
 use Rattle.machine.specs.declared.Turn.{Turn}
 use Rattle.machine.specs.Steps.{activeStep, nextStepOf, opStepOf, runOf, stepOf, turnOf}
 use Rattle.machine.specs.Switch.{switchOf}
-use Rattle.machine.specs.View.{InTurn, OpRan, RunsTo, Stands, turnAt, turnMoved, turned, worldWith}
+use Rattle.machine.specs.View.{InTurn, OpRan, RunsTo, Stands, turnAfter, turned, worldWith}
 use Rattle.machine.proofs.Invariant.{op-next}
 use Rattle.machine.proofs.Runs.{runs-on, runs-one, step-active}
 use Rattle.machine.proofs.Turns.{op-step-view}
@@ -30,7 +31,8 @@ turned-same state turn stands =
     rw (← (stands .windows-is), ← (stands .clock-is), ← (stands .position-is), ← (stands .records-is)) (rw (set-getD (state .positions), set-getD (state .records)) refl)
 
 -- the last turn counts
-turned-twice : (state : State) (turn : Turn) (clock : ℕ) → turned (turned state turn) (turnAt turn clock) ≡ turned state (turnAt turn clock)
+turned-twice : (state : State) (turn : Turn) (clock : ℕ)
+    → turned (turned state turn) (turnAfter turn 1 clock) ≡ turned state (turnAfter turn 1 clock)
 turned-twice state turn clock = rw (set-set (state .positions), set-set (state .records)) refl
 
 module _ (plan : Plan) (scripts rights masks : List ℕ) (state : State) (turn : Turn) (here : InTurn plan rights masks state turn) where
@@ -48,7 +50,8 @@ module _ (plan : Plan) (scripts rights masks : List ℕ) (state : State) (turn :
       }
 
   -- the turn after one op more is that state's turn
-  next-turn : (clock : ℕ) → InTurn plan rights masks (turned state (turnAt turn clock)) (turnAt turn clock)
+  next-turn : (clock : ℕ)
+      → InTurn plan rights masks (turned state (turnAfter turn 1 clock)) (turnAfter turn 1 clock)
   next-turn clock =
       let positions = here .stands .positions-long in
       let records = here .stands .records-long in
@@ -88,12 +91,13 @@ module _ (plan : Plan) (scripts rights masks : List ℕ) (state : State) (turn :
     step-switches is = step-chosen End is
 
     -- one op
-    op-runs : (op : Op) (next : Turn) (cache′ boxes′ log′ : List ℕ)
+    op-runs : (op : Op) (clock : ℕ) (cache′ boxes′ log′ : List ℕ)
         → Fetch op ≡ nextStepOf scripts turn
-        → OpRan (viewOf rights masks) op turn next cache boxes log cache′ boxes′ log′
-        → RunsTo plan scripts (turn .quota) 1 (worldWith state cache boxes log) (worldWith (turned state next) cache′ boxes′ log′)
+        → OpRan (viewOf rights masks) op turn clock cache boxes log cache′ boxes′ log′
+        → RunsTo plan scripts (turn .quota) 1 (worldWith state cache boxes log)
+        (worldWith (turned state (turnAfter turn 1 clock)) cache′ boxes′ log′)
     unfolding activeStep
-    op-runs op next cache′ boxes′ log′ is did =
+    op-runs op clock cache′ boxes′ log′ is did =
         runs-one plan scripts (turn .quota) (worldWith state cache boxes log) _ not-ended
         (step-chosen (Fetch op) is
         ∙ ap (λ (d : ℕ). opStepOf plan (turn .quota) d op (worldWith state cache boxes log))
@@ -107,107 +111,127 @@ abbrev pub Done : Plan → List ℕ → List ℕ → List ℕ → ℕ → ℕ �
 Done plan scripts rights masks quota steps turn before state cache boxes log =
     RunsTo plan scripts quota steps before (worldWith state cache boxes log) × InTurn plan rights masks state turn
 
+-- a turn that has come to a clock, a position and a number of records
+abbrev turnStands : Turn → ℕ → ℕ → ℕ → Turn
+turnStands turn clock position records =
+    record {
+      windows = turn .windows;
+      owner = turn .owner;
+      end = turn .end;
+      quota = turn .quota;
+      clock = clock;
+      position = position;
+      records = records;
+    }
+
+-- no op yet
+after-none : (turn : Turn) → turnAfter turn 0 (turn .clock) ≡ turn
+after-none turn =
+    λ i. turnStands turn (turn .clock) (add-zero (turn .position) i) (add-zero (turn .records) i)
+
+-- one op after some ops
+after-more : (turn : Turn) (ops clock clock′ : ℕ)
+    → turnAfter (turnAfter turn ops clock) 1 clock′ ≡ turnAfter turn (ops + 1) clock′
+after-more turn ops clock clock′ =
+    λ i.
+    turnStands turn clock′ (add-assoc (turn .position) ops 1 i) (add-assoc (turn .records) ops 1 i)
+
 -- what holds each time the loop comes round
 pub record Turning
-    (rights masks scripts : List ℕ) (limit : ℕ) (first : Turn) (cache₀ boxes₀ log₀ cache boxes log : List ℕ) (steps : ℕ) (turn : Turn) : Type 0 where
-  pub within : steps ≤ limit
-  pub moved : turn ≡ turnMoved first turn
-  pub late : turn .clock ≤ first .end + (dearestOp - 1)
+    (rights masks scripts : List ℕ) (most : ℕ) (first : Turn)
+    (cache₀ boxes₀ log₀ cache boxes log : List ℕ) (steps clock : ℕ) : Type 0 where
+  pub within : steps ≤ most
+  pub late : clock ≤ first .end + (dearestOp - 1)
   pub cache-long : length cache ≡ length cache₀
   pub boxes-long : length boxes ≡ length boxes₀
   pub log-long : length log ≡ length log₀
   pub done :
       (plan : Plan) (state : State)
       → InTurn plan rights masks state first
-      → Done plan scripts rights masks (first .quota) steps turn (worldWith state cache₀ boxes₀ log₀) (turned state turn) cache boxes log
+      → Done plan scripts rights masks (first .quota) steps (turnAfter first steps clock)
+      (worldWith state cache₀ boxes₀ log₀)
+      (turned state (turnAfter first steps clock)) cache boxes log
 
-module _ (rights masks scripts : List ℕ) (limit : ℕ) (first : Turn) (cache₀ boxes₀ log₀ : List ℕ) where
+module _
+    (rights masks scripts : List ℕ) (most : ℕ) (first : Turn) (cache₀ boxes₀ log₀ : List ℕ) where
   -- before the first op
-  pub turn-first : first .clock ≤ first .end + (dearestOp - 1) → Turning rights masks scripts limit first cache₀ boxes₀ log₀ cache₀ boxes₀ log₀ 0 first
+  pub turn-first : first .clock ≤ first .end + (dearestOp - 1)
+      → Turning rights masks scripts most first cache₀ boxes₀ log₀ cache₀ boxes₀ log₀
+      0 (first .clock)
   unfolding runOf
   turn-first late =
       record {
         within = omega arith;
-        moved = refl;
         late = late;
         cache-long = refl;
         boxes-long = refl;
         log-long = refl;
         done = λ plan state begins.
+            let before = worldWith state cache₀ boxes₀ log₀ in
             subst
-            (λ (s : State). Done plan scripts rights masks (first .quota) 0 first (worldWith state cache₀ boxes₀ log₀) s cache₀ boxes₀ log₀)
+            (λ (t : Turn).
+            Done plan scripts rights masks (first .quota) 0 t before (turned state t)
+            cache₀ boxes₀ log₀)
+            (sym (after-none first))
+            (subst
+            (λ (s : State).
+            Done plan scripts rights masks (first .quota) 0 first before s cache₀ boxes₀ log₀)
             (sym (turned-same state first (begins .stands)))
-            (refl, begins);
+            (refl, begins));
       }
 
-  -- one op more
-  pub turn-more :
-      (cache boxes log : List ℕ) (steps : ℕ) (turn : Turn) (op : Op) (next : Turn) (cache′ boxes′ log′ : List ℕ)
-      → Turning rights masks scripts limit first cache₀ boxes₀ log₀ cache boxes log steps turn
-      → steps < limit
-      → Fetch op ≡ nextStepOf scripts turn
-      → OpRan (viewOf rights masks) op turn next cache boxes log cache′ boxes′ log′
-      → length cache′ ≡ length cache
-      → length boxes′ ≡ length boxes
-      → length log′ ≡ length log
-      → Turning rights masks scripts limit first cache₀ boxes₀ log₀ cache′ boxes′ log′ (steps + 1) next
-  turn-more cache boxes log steps turn op next cache′ boxes′ log′ turning more is ran same-cache same-boxes same-log =
-      subst (Turning rights masks scripts limit first cache₀ boxes₀ log₀ cache′ boxes′ log′ (steps + 1)) (sym (ran .next-is))
-      (record {
-        within = omega arith;
-        moved = ap (λ (t : Turn). turnAt t (next .clock)) (turning .moved);
-        late = omega (arith, op-next scripts turn op (sym is) .inTime, ap (λ (t : Turn). t .end) (turning .moved), ran .ticks);
-        cache-long = same-cache ∙ turning .cache-long;
-        boxes-long = same-boxes ∙ turning .boxes-long;
-        log-long = same-log ∙ turning .log-long;
-        done = λ plan state begins.
-            let so-far = turning .done plan state begins in
-            subst
-            (λ (s : State).
-            Done plan scripts rights masks (first .quota) (steps + 1) after (worldWith state cache₀ boxes₀ log₀) s cache′ boxes′ log′)
-            (turned-twice state turn (next .clock)) (
-              runs-on plan scripts (first .quota) steps 1 (worldWith state cache₀ boxes₀ log₀) (worldWith (turned state turn) cache boxes log)
-                  (worldWith (turned (turned state turn) after) cache′ boxes′ log′)
-                  (so-far .0) (one plan (turned state turn) (so-far .1)),
-              next-turn plan scripts rights masks (turned state turn) turn (so-far .1) (next .clock),
-            );
-      })
-    where
-      after : Turn
-      after = turnAt turn (next .clock)
+  module _ (cache boxes log : List ℕ) (steps clock : ℕ)
+      (turning :
+      Turning rights masks scripts most first cache₀ boxes₀ log₀ cache boxes log steps clock) where
+    abbrev turn : Turn
+    turn = turnAfter first steps clock
 
-      one : (plan : Plan) (state : State) → InTurn plan rights masks state turn
-          → RunsTo plan scripts (first .quota) 1 (worldWith state cache boxes log) (worldWith (turned state after) cache′ boxes′ log′)
-      one plan state here =
-          subst
-          (λ (quota : ℕ). RunsTo plan scripts quota 1 (worldWith state cache boxes log) (worldWith (turned state after) cache′ boxes′ log′))
-          (ap (λ (t : Turn). t .quota) (turning .moved))
-          (op-runs plan scripts rights masks state turn here cache boxes log op after cache′ boxes′ log′ is
-          (subst (λ (t : Turn). OpRan (viewOf rights masks) op turn t cache boxes log cache′ boxes′ log′) (ran .next-is) ran))
+    -- one op more
+    pub turn-more :
+        (op : Op) (clock′ : ℕ) (cache′ boxes′ log′ : List ℕ)
+        → steps < most
+        → Fetch op ≡ nextStepOf scripts turn
+        → OpRan (viewOf rights masks) op turn clock′ cache boxes log cache′ boxes′ log′
+        → length cache′ ≡ length cache
+        → length boxes′ ≡ length boxes
+        → length log′ ≡ length log
+        → Turning rights masks scripts most first cache₀ boxes₀ log₀ cache′ boxes′ log′
+        (steps + 1) clock′
+    turn-more op clock′ cache′ boxes′ log′ more is ran same-cache same-boxes same-log =
+        record {
+          within = omega arith;
+          late = omega (arith, op-next scripts turn op (sym is) .inTime, ran .ticks);
+          cache-long = same-cache ∙ turning .cache-long;
+          boxes-long = same-boxes ∙ turning .boxes-long;
+          log-long = same-log ∙ turning .log-long;
+          done = λ plan state begins.
+              let so-far = turning .done plan state begins in
+              let before = worldWith state cache₀ boxes₀ log₀ in
+              subst
+              (λ (t : Turn).
+              Done plan scripts rights masks (first .quota) (steps + 1) t before (turned state t)
+              cache′ boxes′ log′)
+              (after-more first steps clock clock′)
+              (subst
+              (λ (s : State).
+              Done plan scripts rights masks (first .quota) (steps + 1) (turnAfter turn 1 clock′)
+              before s cache′ boxes′ log′)
+              (turned-twice state turn clock′) (
+                runs-on plan scripts (first .quota) steps 1 before
+                    (worldWith (turned state turn) cache boxes log) _ (so-far .0)
+                    (op-runs plan scripts rights masks (turned state turn) turn (so-far .1)
+                    cache boxes log op clock′ cache′ boxes′ log′ is ran),
+                next-turn plan scripts rights masks (turned state turn) turn (so-far .1) clock′,
+              ));
+        }
 
-  -- a record that the domain's part has room for lies within the log
-  pub record-room :
-      (cache boxes log : List ℕ) (steps : ℕ) (turn : Turn)
-      → Turning rights masks scripts limit first cache₀ boxes₀ log₀ cache boxes log steps turn
-      → turn .records < turn .quota
-      → 8 * (first .quota * first .owner + first .quota) ≤ length log₀
-      → 8 * (turn .quota * turn .owner + turn .records) + 8 ≤ length log
-  record-room cache boxes log steps turn turning below fits =
-      let before : turn .quota * turn .owner ≡ first .quota * first .owner = ap (λ (t : Turn). t .quota * t .owner) (turning .moved) in
-      omega (arith, ap (λ (t : Turn). t .quota) (turning .moved), turning .log-long)
-
-  -- a switch is next
-  pub turn-ends :
-      (cache boxes log : List ℕ) (steps : ℕ) (turn : Turn)
-      → Turning rights masks scripts limit first cache₀ boxes₀ log₀ cache boxes log steps turn
-      → End ≡ nextStepOf scripts turn
-      → (plan : Plan) (state : State)
-      → InTurn plan rights masks state first
-      → stepOf plan scripts (first .quota) (worldWith (turned state turn) cache boxes log)
-      ≡ switchOf plan (worldWith (turned state turn) cache boxes log)
-  turn-ends cache boxes log steps turn turning is plan state begins =
-      subst
-      (λ (quota : ℕ).
-      stepOf plan scripts quota (worldWith (turned state turn) cache boxes log) ≡ switchOf plan (worldWith (turned state turn) cache boxes log))
-      (ap (λ (t : Turn). t .quota) (turning .moved))
-      (step-switches plan scripts rights masks (turned state turn) turn (turning .done plan state begins .1) cache boxes log is)
+    -- a switch is next
+    pub turn-ends :
+        End ≡ nextStepOf scripts turn
+        → (plan : Plan) (state : State)
+        → InTurn plan rights masks state first
+        → stepOf plan scripts (first .quota) (worldWith (turned state turn) cache boxes log)
+        ≡ switchOf plan (worldWith (turned state turn) cache boxes log)
+    turn-ends is plan state begins =
+        step-switches plan scripts rights masks (turned state turn) turn
+        (turning .done plan state begins .1) cache boxes log is

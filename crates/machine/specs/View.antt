@@ -1,6 +1,6 @@
 -- Document 01, "Window, switch, run": what the code of a run is handed of a plan and a world, and what it answers beside the buffers.
 -- Assumes nothing.
-use Prim.Native.Nat.{ℕ, _+_, _^_, _≤_, _<_}
+use Prim.Native.Nat.{ℕ, _+_, _-_, _^_, _≤_, _<_, min}
 use mathlib.Core.Path.{_≡_}
 use mathlib.Core.List.{List}
 use lib.ListN.{length, set}
@@ -8,6 +8,7 @@ use Rattle.plan.specs.declared.Plan.{Plan}
 use Rattle.plan.specs.Limits.{dearestOp}
 use Rattle.plan.specs.Windows.{windowEnd, windowOwner, windowsTotal}
 use Rattle.script.specs.declared.Op.{Op}
+use Rattle.script.specs.Limits.{mostOps}
 use Rattle.state.specs.declared.State.{State}
 use Rattle.state.specs.World.{World, positionAt, recordsAt}
 use Rattle.machine.specs.declared.Turn.{Turn}
@@ -41,18 +42,23 @@ turned state turn =
       records = set (state .records) (turn .owner) (turn .records);
     }
 
--- a turn after one op more, which ends at a clock
-abbrev pub turnAt : Turn → ℕ → Turn
-turnAt turn clock =
+-- a turn after some ops more, the last of which ends at a clock
+abbrev pub turnAfter : Turn → ℕ → ℕ → Turn
+turnAfter turn ops clock =
     record {
       windows = turn .windows;
       owner = turn .owner;
       end = turn .end;
       quota = turn .quota;
       clock = clock;
-      position = turn .position + 1;
-      records = turn .records + 1;
+      position = turn .position + ops;
+      records = turn .records + ops;
     }
+
+-- how many ops more there can be at most: no more than a limit allows, than the domain's part of
+-- the log has room for, and than its script has positions
+abbrev pub opsAllowed : ℕ → Turn → ℕ
+opsAllowed limit turn = min (min limit (turn .quota - turn .records)) (mostOps - turn .position)
 
 -- a turn that has moved on: in the same window it has come to another clock, position and number of records
 abbrev pub turnMoved : Turn → Turn → Turn
@@ -76,15 +82,15 @@ pub record Stands (state : State) (turn : Turn) : Type 0 where
   pub positions-long : turn .owner < length (state .positions)
   pub records-long : turn .owner < length (state .records)
 
--- what an op leaves, with the turn after it
+-- what an op leaves, with the clock after it
 pub record OpRan
-    (view : Plan) (op : Op) (turn next : Turn) (cache boxes log cache′ boxes′ log′ : List ℕ) : Type 0 where
-  pub next-is : next ≡ turnAt turn (next .clock)
-  pub ticks : next .clock ≤ turn .clock + dearestOp
+    (view : Plan) (op : Op) (turn : Turn) (clock : ℕ)
+    (cache boxes log cache′ boxes′ log′ : List ℕ) : Type 0 where
+  pub ticks : clock ≤ turn .clock + dearestOp
   pub world :
       (state : State)
       → Stands state turn
-      → worldWith (turned state next) cache′ boxes′ log′
+      → worldWith (turned state (turnAfter turn 1 clock)) cache′ boxes′ log′
       ≡ opStepOf view (turn .quota) (turn .owner) op (worldWith state cache boxes log)
 
 -- the turn of a state in a run that has not ended, beside the plan's recipients and masks

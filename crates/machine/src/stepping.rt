@@ -12,10 +12,11 @@ use records::store_record;
 use script::Op;
 use script::ScriptItem;
 use script::fetch;
+use script::limits::MOST_OPS;
 use state::State;
 ghost use mathlib.Core.Path.{_≡_};
 ghost use mathlib.Core.Bool.{true};
-ghost use Prim.Native.Nat.{_+_, _*_, _-_, _<_, _≤_, max};
+ghost use Prim.Native.Nat.{_+_, _*_, _%_, _-_, _<_, _≤_, max, min};
 ghost use lib.ListN.{length};
 ghost use Rattle.plan.specs.Limits.{dearestOp, leastPad, mostDomains, mostPad};
 ghost use Rattle.plan.specs.Validity.{planValid};
@@ -26,7 +27,9 @@ ghost use Rattle.ops.specs.View.{viewOf};
 ghost use Rattle.state.specs.StateValidity.{stateValid};
 ghost use Rattle.machine.specs.Steps.{nextStepOf, runOf};
 ghost use Rattle.machine.specs.Switch.{flushedClock, paddedClock, switchedCache};
-ghost use Rattle.machine.specs.View.{InTurn, OpRan, RunsTo, TurnRan, WindowRan, clockBound, ranWith, turnMoved, turned, worldWith};
+ghost use Rattle.machine.specs.View.{InTurn, OpRan, RunsTo, TurnRan, WindowRan, clockBound};
+ghost use Rattle.machine.specs.View.{opsAllowed, ranWith, turnAfter, turnMoved, turned};
+ghost use Rattle.machine.specs.View.{worldWith};
 
 fn later(one: u64, other: u64) -> u64
     ensures { λ r. ⌜ r ≡ max one other ⌝ }
@@ -47,52 +50,77 @@ fn switch(cache: &mut [u16], clock: u64, end: u64, pad: u64) -> u64
     later(begun + kernel + l1, end + pad)
 }
 
-// The next step in a window.
-fn next_step(scripts: &[u32], turn: Turn) -> ScriptItem
-    requires { ⌜ (turn .owner < mostDomains) × (length (now scripts) ≡ scriptsLength) ⌝ }
-    ensures { λ r. ⌜ r ≡ nextStepOf (now (scripts .entry)) turn ⌝ }
+fn lesser(one: u64, other: u64) -> u64
+    ensures { λ r. ⌜ r ≡ min one other ⌝ }
 {
-    if (turn.end <= turn.clock) | (turn.quota <= turn.records) {
-        return ScriptItem::End;
-    }
-    fetch(scripts, turn.owner as u32, turn.position)
+    if one < other { one } else { other }
 }
 
-// One op of the running domain, with its record stored. Answers the turn after it.
+// What is left of a number of which some are used, and nothing where all are.
+fn left(whole: u64, used: u64) -> u64
+    ensures { λ r. ⌜ r ≡ whole - used ⌝ }
+{
+    if used < whole { whole - used } else { 0 }
+}
+
+// How many ops a window has at most, whatever its clock and its script say.
+fn ops_allowed(limit: u64, first: Turn) -> u64
+    ensures { λ r. ⌜ r ≡ opsAllowed limit first ⌝ }
+{
+    let records = left(first.quota, first.records);
+    let positions = left(MOST_OPS as u64, first.position);
+    lesser(lesser(limit, records), positions)
+}
+
+// The next step after some ops of a window, which end at a clock, where one op more is allowed.
+fn next_step(scripts: &[u32], first: Turn, steps: u64, clock: u64) -> ScriptItem
+    requires { ⌜ (first .owner < mostDomains) × (length (now scripts) ≡ scriptsLength)
+        × (first .records + steps < first .quota) × (first .position + steps < mostOps) ⌝ }
+    ensures { λ r. ⌜ r ≡ nextStepOf (now (scripts .entry)) (turnAfter first steps clock) ⌝ }
+{
+    if first.end <= clock {
+        return ScriptItem::End;
+    }
+    fetch(scripts, first.owner, first.position + steps)
+}
+
+// One op of the running domain, with its record stored. Answers the clock after it.
 fn op_step(
     rights: &[u32; 8],
     masks: &[u16; 8],
     op: Op,
-    turn: Turn,
+    first: Turn,
+    steps: u64,
+    clock: u64,
     cache: &mut [u16],
     boxes: &mut [u32],
     log: &mut [u8],
-) -> Turn
-    requires { ⌜ (turn .owner < mostDomains) × OpWithinLimits op × (turn .position < mostOps) × (turn .clock ≤ clockBound)
+) -> u64
+    requires { ⌜ (first .owner < mostDomains) × OpWithinLimits op × (clock ≤ clockBound)
         × (length (now cache) ≡ tableLength) × (length (now boxes) ≡ boxesLength)
-        × (8 * (turn .quota * turn .owner + turn .records) + 8 ≤ length (now log)) ⌝ }
-    ensures { λ r. ⌜ OpRan (viewOf (now (rights .entry)) (now (masks .entry))) op turn r
+        × (8 * (first .quota * first .owner + (first .records + steps)) + 8 ≤ length (now log)) ⌝ }
+    ensures { λ r. ⌜ OpRan (viewOf (now (rights .entry)) (now (masks .entry))) op
+        (turnAfter first steps clock) r
         (now (cache .entry)) (now (boxes .entry)) (now (log .entry))
         (now (cache .exit)) (now (boxes .exit)) (now (log .exit)) ⌝ }
 {
-    let owner = turn.owner;
+    let owner = first.owner;
     let done = operate(rights, masks, owner, op, cache, boxes);
-    let clock = turn.clock + done.ticks;
+    let after = clock + done.ticks;
     let seen = done.seen;
-    store_record(log, turn.quota, owner as u64, turn.records, seen, clock);
-    Turn {
-        windows: turn.windows,
-        owner,
-        end: turn.end,
-        quota: turn.quota,
-        clock,
-        position: turn.position + 1,
-        records: turn.records + 1,
-    }
+    store_record(
+        log,
+        first.quota,
+        owner as u64,
+        first.records + steps,
+        seen,
+        after,
+    );
+    after
 }
 
-// The ops of a window, at most `limit` of them, until a switch is due. The running domain's numbers are kept apart from the
-// state meanwhile.
+// The ops of a window, at most `limit` of them, until a switch is due. State and turn are left as
+// they are meanwhile: the number of ops done gives the domain's position and its number of records.
 fn run_window(
     rights: &[u32; 8],
     masks: &[u16; 8],
@@ -113,17 +141,29 @@ fn run_window(
         (worldWith state (now (cache .entry)) (now (boxes .entry)) (now (log .entry)))
         (worldWith (turned state (r .turn)) (now (cache .exit)) (now (boxes .exit)) (now (log .exit)))) ⌝ }
 {
+    let most = ops_allowed(limit, first);
     let mut steps: u64 = 0;
-    let mut turn = first;
-    while steps < limit {
-        let next = next_step(scripts, turn);
+    let mut clock = first.clock;
+    while steps < most {
+        let next = next_step(scripts, first, steps, clock);
         let ScriptItem::Op(op) = next else {
             break;
         };
-        turn = op_step(rights, masks, op, turn, cache, boxes, log);
+        clock = op_step(rights, masks, op, first, steps, clock, cache, boxes, log);
         steps += 1;
     }
-    WindowProgress { steps, turn }
+    WindowProgress {
+        steps,
+        turn: Turn {
+            windows: first.windows,
+            owner: first.owner,
+            end: first.end,
+            quota: first.quota,
+            clock,
+            position: first.position + steps,
+            records: first.records + steps,
+        },
+    }
 }
 
 // The ops of a window, and its switch where the limit allows one step more.
@@ -169,8 +209,18 @@ fn run_turn(
     }
 }
 
-// Steps up to a limit, or to the run's end, window by window. Only the first window's start is worked out: a switch leaves
-// the clock at the next one's.
+// The declared window that follows one: after the last comes the first.
+fn next_slot(slot: usize, declared: usize) -> usize
+    requires { ⌜ slot < declared ⌝ }
+    ensures { λ r. ⌜ r ≡ (slot + 1) % declared ⌝ }
+{
+    let next = slot + 1;
+    if next < declared { next } else { 0 }
+}
+
+// Steps up to a limit, or to the run's end, window by window. Only the first window's start is
+// worked out, and which declared window it is: a switch leaves the clock at the next one's start,
+// and declared windows follow in order.
 pub fn run_steps(
     plan: Plan,
     scripts: &[u32],
@@ -190,14 +240,14 @@ pub fn run_steps(
 {
     let rights = plan.rights;
     let masks = plan.masks;
-    let declared = plan.windows as u64;
+    let declared = plan.windows as usize;
     let pad = plan.pad as u64;
     let total = windows_total(plan);
     let mut steps: u64 = 0;
     let mut present = state;
     let mut start = window_start(plan, state.windows);
+    let mut slot = (state.windows % declared as u64) as usize;
     while (steps < limit) & (present.windows < total) {
-        let slot = (present.windows % declared) as usize;
         let owner = plan.owners[slot] as usize;
         let turn = Turn {
             windows: present.windows,
@@ -224,6 +274,7 @@ pub fn run_steps(
         present.positions[owner] = ran.turn.position;
         present.records[owner] = ran.turn.records;
         start = ran.turn.clock;
+        slot = next_slot(slot, declared);
         steps += ran.steps;
     }
     Advance {

@@ -6,9 +6,9 @@ use limits::LEAST_TICKS;
 use limits::MOST_OPS;
 use limits::MOST_TICKS;
 ghost use mathlib.Core.Path.{_≡_};
-ghost use Prim.Native.Nat.{_≤_};
+ghost use Prim.Native.Nat.{_<_, _≤_};
 ghost use lib.ListN.{length};
-ghost use Rattle.script.specs.Limits.{lastDomain, scriptsLength};
+ghost use Rattle.script.specs.Limits.{lastDomain, mostOps, scriptsLength};
 ghost use Rattle.script.specs.Stored.{packed, storedOf};
 ghost use Rattle.script.specs.Fetch.{decodeOf, fetchOf, opOf};
 
@@ -111,15 +111,13 @@ fn decode(number: u32) -> ScriptItem
     op_of(number / KIND_UNIT, other as u8, value as u16)
 }
 
-// What stands at a position of a domain's script. A script ends at position 256 at the latest.
-pub fn fetch(scripts: &[u32], domain: u32, position: u64) -> ScriptItem
-    requires { ⌜ (length (now scripts) ≡ scriptsLength) × (domain ≤ lastDomain) ⌝ }
+// What stands at a position of a domain's script that has an entry in the store.
+pub fn fetch(scripts: &[u32], domain: usize, position: u64) -> ScriptItem
+    requires { ⌜ (length (now scripts) ≡ scriptsLength)
+        × (domain ≤ lastDomain)
+        × (position < mostOps) ⌝ }
     ensures { λ r. ⌜ r ≡ fetchOf (now (scripts .entry)) domain position ⌝ }
 {
-    if position < MOST_OPS as u64 {
-        let index = MOST_OPS * (domain as usize) + position as usize;
-        decode(scripts[index])
-    } else {
-        ScriptItem::End
-    }
+    let index = MOST_OPS * domain + position as usize;
+    decode(scripts[index])
 }

@@ -5,7 +5,7 @@ use Prim.Native.Nat.{_-_, _<_}
 use native.Mathlib.Omega.{arith}
 use lib.ListN.{length}
 use borrow.Author.Needs.{needs}
-use Rattle.plan.specs.Windows.{windowLength, windowOwner, windowsTotal}
+use Rattle.plan.specs.Windows.{windowsTotal}
 use Rattle.plan.proofs.ValidPlans.{counts}
 use Rattle.machine.specs.declared.Turn.{Turn}
 use Rattle.machine.specs.View.{InTurn, worldWith}
@@ -16,16 +16,18 @@ use Rattle.machine.proofs.stepping.run_steps.Statement.{statement}
 use Rattle.machine.proofs.stepping.run_steps.Tie as tie
 
 abbrev Inv-loop : tie.InvT-loop
-Inv-loop scripts quota limit cache₀ boxes₀ log₀ plan _ _ _ _ _ _ present₀ _ cache boxes log steps present start =
-    Going plan scripts quota limit (worldWith present₀ cache₀ boxes₀ log₀) (worldWith present cache boxes log) steps start
+Inv-loop scripts quota limit cache₀ boxes₀ log₀ plan _ _ _ _ _ _ present₀ _ _
+    cache boxes log steps present start slot =
+    Going plan scripts quota limit (worldWith present₀ cache₀ boxes₀ log₀)
+    (worldWith present cache boxes log) steps start slot
 
 abbrev μ-loop : tie.MeasureT-loop
-μ-loop _ _ limit _ _ _ _ _ _ _ _ _ _ _ _ _ _ _ steps _ _ = limit - steps
+μ-loop _ _ limit _ _ _ _ _ _ _ _ _ _ _ _ _ _ _ _ steps _ _ _ = limit - steps
 
 -- ---- in the loop: the limit is not reached, and the run is in a window
 
 abbrev start : tie.In-loop Inv-loop μ-loop → tie.Start Inv-loop μ-loop
-start c = c .before .before .before .before .before .before .before .before .before .before
+start c = c .before .before .before .before .before .before .before .before .before .before .before
 
 -- the loop again, from the call of a turn
 abbrev in-loop : tie.After-run-turn Inv-loop μ-loop → tie.In-loop Inv-loop μ-loop
@@ -33,27 +35,38 @@ in-loop c = c .before .before .before .before .before .before .before .before .b
 
 module _ (c : tie.In-loop Inv-loop μ-loop) where
   more : (c .before .loop .steps < start c .args .limit) × (c .before .loop .present .windows < windowsTotal (start c .args .t1))
-  more = goes-on _ _ _ _ (rw (c .before .before .before .windows-total .ensures) at (c .loop-test .taken))
+  more =
+      goes-on _ _ _ _
+      (rw (c .before .before .before .before .windows-total .ensures) at (c .loop-test .taken))
 
-  smalls : Small (start c .args .t1) (c .before .loop .present .windows) (c .before .loop .start)
-  smalls = small _ _ _ (start c .pre .0) (c .before .loop .inv .starts (more .0)) (more .1)
+  smalls :
+      Small (start c .args .t1) (c .before .loop .present .windows)
+      (c .before .loop .start) (c .before .loop .slot)
+  smalls =
+      let inv = c .before .loop .inv in
+      small _ _ _ _ (start c .pre .0) (inv .starts (more .0)) (inv .slots (more .0)) (more .1)
 
   -- the turn, small enough for what follows, and the state's
   abbrev turn : Turn
-  turn = turnFrom (start c .args .t1) (start c .args .quota) (c .before .loop .present) (c .before .loop .start)
+  turn =
+      let loop = c .before .loop in
+      turnFrom (start c .args .t1) (start c .args .quota) (loop .present) (loop .start) (loop .slot)
 
   room : Room turn (length (c .before .loop .log))
   room =
       let pre = start c .pre in
       let inv = c .before .loop .inv in
-      turn-room _ _ (c .before .loop .present) _ (pre .0) (more .1) (inv .starts (more .0)) _
-      (going-clock _ _ _ _ _ _ _ _ inv (pre .0) (pre .1) (more .1)) (rw (inv .log-long) (pre .5))
+      turn-room _ _ (c .before .loop .present) _ _ (pre .0) (more .1)
+      (inv .starts (more .0)) (inv .slots (more .0)) _
+      (going-clock _ _ _ _ _ _ _ _ _ inv (pre .0) (pre .1) (more .1)) (rw (inv .log-long) (pre .5))
 
   here : InTurn (start c .args .t1) (start c .args .t1 .rights) (start c .args .t1 .masks) (c .before .loop .present) turn
   here =
-      let kept = going-counts _ _ _ _ _ _ _ _ (c .before .loop .inv) in
+      let inv = c .before .loop .inv in
+      let kept = going-counts _ _ _ _ _ _ _ _ _ inv in
       let good = start c .good .1 .1 .1 .1 .0 in
-      turn-here _ _ (c .before .loop .present) _ (start c .pre .0) (more .1) (c .before .loop .inv .starts (more .0))
+      turn-here _ _ (c .before .loop .present) _ _ (start c .pre .0) (more .1)
+      (inv .starts (more .0)) (inv .slots (more .0))
       (kept .0 ∙ search (needs, good)) (kept .1 ∙ search (needs, good))
 
 windows-total-requires : tie.Need-windows-total-requires Inv-loop μ-loop
@@ -64,11 +77,13 @@ window-start-requires c κs =
     let at = c .before .before .before .before .before .before .before in
     (at .pre .0, valid-scheduled _ _ (worldWith (at .args .state) [] [] []) (at .pre .0) (at .pre .1) .windows)
 
-loop-holds : tie.Need-loop-holds Inv-loop μ-loop
-loop-holds c = going-first _ _ _ _ _ _ (c .window-start .ensures)
-
 rem-slot : tie.Need-rem-slot Inv-loop μ-loop
-rem-slot c = counts _ (start c .pre .0) .windows-least
+rem-slot c =
+    let at = c .before .before .before .before .before .before .before .before .before in
+    counts _ (at .pre .0) .windows-least
+
+loop-holds : tie.Need-loop-holds Inv-loop μ-loop
+loop-holds c = going-first _ _ _ _ _ _ _ (c .before .window-start .ensures) refl
 
 mul-owner : tie.Need-mul-owner Inv-loop μ-loop
 mul-owner c = omega (arith, smalls c .slot-below)
@@ -77,44 +92,36 @@ element-copy-out-owner : tie.Need-element-copy-out-owner Inv-loop μ-loop
 element-copy-out-owner c = smalls c .slot-below
 
 cast-owner : tie.Need-cast-owner Inv-loop μ-loop
-unfolding windowOwner
 cast-owner c = omega (arith, smalls (c .before) .owner-below)
 
-mul-t31 : tie.Need-mul-t31 Inv-loop μ-loop
-mul-t31 c = omega (arith, smalls (c .before) .slot-below)
+mul-t32 : tie.Need-mul-t32 Inv-loop μ-loop
+mul-t32 c = omega (arith, smalls (c .before) .slot-below)
 
-element-copy-out-t34 : tie.Need-element-copy-out-t34 Inv-loop μ-loop
-element-copy-out-t34 c = smalls (c .before) .slot-below
+element-copy-out-t35 : tie.Need-element-copy-out-t35 Inv-loop μ-loop
+element-copy-out-t35 c = smalls (c .before) .slot-below
 
-cast-t30 : tie.Need-cast-t30 Inv-loop μ-loop
-unfolding windowLength
-cast-t30 c = omega (arith, smalls (c .before .before) .length-below)
+cast-t38 : tie.Need-cast-t38 Inv-loop μ-loop
+cast-t38 c = omega (arith, smalls (c .before .before) .length-below)
 
-add-t37 : tie.Need-add-t37 Inv-loop μ-loop
-unfolding windowLength
-add-t37 c = omega (arith, smalls (c .before .before))
+add-t39 : tie.Need-add-t39 Inv-loop μ-loop
+add-t39 c = omega (arith, smalls (c .before .before))
 
-mul-t39 : tie.Need-mul-t39 Inv-loop μ-loop
-unfolding windowOwner
-mul-t39 c = omega (arith, smalls (c .before .before) .owner-below)
+mul-t41 : tie.Need-mul-t41 Inv-loop μ-loop
+mul-t41 c = omega (arith, smalls (c .before .before) .owner-below)
 
-element-copy-out-t42 : tie.Need-element-copy-out-t42 Inv-loop μ-loop
-unfolding windowOwner
-element-copy-out-t42 c = smalls (c .before .before) .owner-below
+element-copy-out-t44 : tie.Need-element-copy-out-t44 Inv-loop μ-loop
+element-copy-out-t44 c = smalls (c .before .before) .owner-below
 
-mul-t43 : tie.Need-mul-t43 Inv-loop μ-loop
-unfolding windowOwner
-mul-t43 c = omega (arith, smalls (c .before .before .before) .owner-below)
+mul-t45 : tie.Need-mul-t45 Inv-loop μ-loop
+mul-t45 c = omega (arith, smalls (c .before .before .before) .owner-below)
 
-element-copy-out-t46 : tie.Need-element-copy-out-t46 Inv-loop μ-loop
-unfolding windowOwner
-element-copy-out-t46 c = smalls (c .before .before .before) .owner-below
+element-copy-out-t48 : tie.Need-element-copy-out-t48 Inv-loop μ-loop
+element-copy-out-t48 c = smalls (c .before .before .before) .owner-below
 
 sub-run-turn : tie.Need-sub-run-turn Inv-loop μ-loop
 sub-run-turn c = omega (arith, more (c .before .before .before .before .before .before) .0)
 
 run-turn-requires : tie.Need-run-turn-requires Inv-loop μ-loop
-unfolding windowOwner windowLength
 run-turn-requires c κs =
     let at = c .before .before .before .before .before .before .before .before .before in
     let pre = start at .pre in
@@ -135,51 +142,60 @@ run-turn-requires c κs =
     )
 
 mul-present : tie.Need-mul-present Inv-loop μ-loop
-unfolding windowOwner
 mul-present c = omega (arith, smalls (in-loop (c .before .before .before .before .before .before)) .owner-below)
 
 element-write-present : tie.Need-element-write-present Inv-loop μ-loop
-unfolding windowOwner
 element-write-present c = smalls (in-loop (c .before .before .before .before .before .before)) .owner-below
 
 mul-present-2 : tie.Need-mul-present-2 Inv-loop μ-loop
-unfolding windowOwner
 mul-present-2 c = omega (arith, smalls (in-loop (c .before .before .before .before .before .before)) .owner-below)
 
 element-write-present-2 : tie.Need-element-write-present-2 Inv-loop μ-loop
-unfolding windowOwner
 element-write-present-2 c = smalls (in-loop (c .before .before .before .before .before .before)) .owner-below
+
+-- the call of a turn, from that of the next slot
+abbrev turn-ran : tie.After-next-slot Inv-loop μ-loop → tie.After-run-turn Inv-loop μ-loop
+turn-ran c = c .before .before .before .before .before .before .before
+
+next-slot-requires : tie.Need-next-slot-requires Inv-loop μ-loop
+next-slot-requires c κs =
+    smalls (in-loop (c .before .before .before .before .before .before)) .slot-declared
 
 add-steps : tie.Need-add-steps Inv-loop μ-loop
 add-steps c =
-    let ran = c .before .before .before .before .before .before .before in
+    let ran = turn-ran (c .before) in
     omega (arith, more (in-loop ran) .0, ran .run-turn .ensures .0 .within, start (in-loop ran) .fits .limit)
 
 loop-less : tie.Need-loop-less Inv-loop μ-loop
-loop-less c = let ran = c .before .before .before .before .before .before .before in omega (arith, more (in-loop ran) .0, ran .run-turn .ensures .0 .some)
+loop-less c =
+    let ran = turn-ran (c .before) in
+    omega (arith, more (in-loop ran) .0, ran .run-turn .ensures .0 .some)
 
 loop-again : tie.Need-loop-again Inv-loop μ-loop
-unfolding windowOwner windowLength
 loop-again c =
-    let ran = c .before .before .before .before .before .before .before in
+    let ran = turn-ran (c .before) in
     let at = in-loop ran in
+    let inv = at .before .loop .inv in
     let did = ran .run-turn .ensures in
     let kept = ran .run-turn .kept .1 .1 .1 .1 .1 .1 in
-    going-turn (start at .args .t1) _ _ _ _ (at .before .loop .present) _ _ _ _ _ (turn at) (ran .run-turn .result) _ _ _
-    (at .before .loop .inv) (here at .end-is) (did .0) (did .1 _ _ (here at) refl) (kept .0) (kept .1 .0) (kept .1 .1 .0)
+    going-turn (start at .args .t1) _ _ _ _ (at .before .loop .present) _ _ _ _ _ _
+    (turn at) (ran .run-turn .result) _ _ _ _
+    inv (here at .end-is) (inv .slots (more at .0)) (did .0) (did .1 _ _ (here at) refl)
+    (c .before .next-slot .ensures) (kept .0) (kept .1 .0) (kept .1 .1 .0)
 
 returns : tie.Need-returns Inv-loop μ-loop
 returns c =
-    going-done _ _ _ _ _ _ _ _ (c .before .loop .inv)
-    (rw (c .before .before .before .windows-total .ensures) at (c .loop-test .left))
+    going-done _ _ _ _ _ _ _ _ _ (c .before .loop .inv)
+    (rw (c .before .before .before .before .windows-total .ensures) at (c .loop-test .left))
 
 pub run-steps-spec : {M : Type 1} → statement M
 run-steps-spec =
     tie.close
     (tie.spec
-    Inv-loop μ-loop (λ c. search needs) (λ c. search needs) windows-total-requires window-start-requires loop-holds
-    rem-slot mul-owner element-copy-out-owner cast-owner mul-t31 element-copy-out-t34 cast-t30 add-t37 mul-t39
-    element-copy-out-t42 mul-t43 element-copy-out-t46 sub-run-turn run-turn-requires mul-present
-    element-write-present mul-present-2 element-write-present-2 add-steps loop-less loop-again
+    Inv-loop μ-loop (λ c. search needs) (λ c. search needs) windows-total-requires
+    window-start-requires rem-slot loop-holds mul-owner element-copy-out-owner cast-owner mul-t32
+    element-copy-out-t35 cast-t38 add-t39 mul-t41 element-copy-out-t44 mul-t45
+    element-copy-out-t48 sub-run-turn run-turn-requires mul-present element-write-present
+    mul-present-2 element-write-present-2 next-slot-requires add-steps loop-less loop-again
     (λ c. c .before .loop .inv .cache-long) (λ c. c .before .loop .inv .boxes-long)
     (λ c. c .before .loop .inv .log-long) returns)
