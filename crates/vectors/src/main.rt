@@ -6,7 +6,9 @@ use bytes::scan::find;
 use check::same;
 use engine::Progress;
 use engine::lending::step;
+use lexer::Lookahead;
 use lexer::Token;
+use lexer::lookahead_at;
 use lexer::runs::number_from;
 use lexer::runs::word_from;
 use libc::STDIN_FILENO;
@@ -91,19 +93,21 @@ fn past(end: usize, length: usize) -> usize
 
 // The number that the first field is. A word, as `largest`, is the largest number; nothing is 0.
 fn number(fields: &[u8]) -> u64 {
-    let digits = number_from(fields, 0);
+    let next = lookahead_at(fields, 0);
+    let Lookahead::Run(first) = next else {
+        return 0;
+    };
+    let number = number_from(fields, first);
     if let Token::Number {
         start: _,
         end: _,
         value,
-    } = digits {
+    } = number {
         return value;
     }
-    let letters = word_from(fields, 0);
-    if let Token::Word { start, end } = letters {
-        if start < end {
-            return 18_446_744_073_709_551_615;
-        }
+    let word = word_from(fields, first);
+    if let Token::Word { start: _, end: _ } = word {
+        return 18_446_744_073_709_551_615;
     }
     0
 }
