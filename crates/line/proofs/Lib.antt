@@ -1,2 +1,3 @@
 pub mod GoodLine
 pub mod Heads
+pub mod Plain

@@ -1,6 +1,6 @@
 -- The beginning of a line and the rest of it, as the code reads them apart. They say nothing of
--- their own: by `line-by-head` of proofs/Heads they give the line that `lineAt` of Lines is. Assumes
--- nothing.
+-- their own: by `line-by-head` of proofs/Heads they give the line that `lineAt` of Lines is.
+-- Assumes nothing.
 use Prim.Native.Nat.{ℕ, _+_}
 use mathlib.Core.Bool.{cond}
 use mathlib.Core.List.{List}

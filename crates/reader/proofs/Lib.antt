@@ -1,8 +1,8 @@
 pub mod Accepted
+pub mod Apart
 pub mod Filling
 pub mod GoodDraft
 pub mod HighBits
 pub mod LastChecks
-pub mod OpLines
 pub mod Walking
 pub mod WholeText

@@ -11,9 +11,10 @@ use Rattle.forms.proofs.GoodForm.{GoodForm}
 use Rattle.forms.specs.declared.Form.{Form}
 use Rattle.forms.specs.declared.Form.the-variants.{Blank, Pad, Run, Domain, Window, Op as Script, Refused as RefusedForm}
 use Rattle.forms.specs.declared.DomainLine.{DomainLine}
-use Rattle.forms.specs.declared.OpLine.{OpLine}
+use Rattle.forms.specs.declared.WindowLine.{WindowLine}
 use Rattle.line.proofs.GoodLine.{GoodLine, line-good}
 use Rattle.line.proofs.Heads.{line-by-head}
+use Rattle.line.proofs.Plain.{Plain, PlainLine, plain-line}
 use Rattle.line.specs.declared.Head.{Head}
 use Rattle.line.specs.declared.Head.the-variants.{Op}
 use Rattle.line.specs.declared.Line.{Line}
@@ -22,15 +23,16 @@ use Rattle.refusal.proofs.Passed.{not-refused}
 use Rattle.refusal.specs.declared.Refusal.{Refusal}
 use Rattle.refusal.specs.declared.Verdict.{Verdict}
 use Rattle.refusal.specs.declared.Verdict.the-variants.{Accepted, Refused}
-use Rattle.plan.specs.Limits.{mostDomains}
+use Rattle.plan.specs.Limits.{mostDomains, mostWindows}
 use Rattle.syntax.specs.declared.TokenParse.{TokenParse}
 use Rattle.syntax.specs.declared.TokenParse.the-variants.{To, Refused as RefusedToken}
 use Rattle.script.specs.Limits.{scriptsLength}
+use Rattle.reader.proofs.Apart.{plain-refused, plain-taken, window-room}
 use Rattle.reader.proofs.GoodDraft.{GoodDraft, GoodOutcome, draft-first, line-taken}
 use Rattle.reader.specs.declared.Draft.{Draft}
 use Rattle.reader.specs.declared.DraftResult.{DraftResult}
 use Rattle.reader.specs.Draft.{DraftOutcome, noDraft, noOps, outcomeOf, takeForm, takeLine, taken}
-use Rattle.reader.specs.OpLines.{TakenOp, outcomeWith, verdictOf}
+use Rattle.reader.specs.Apart.{TakenOp, draftWith, formVerdict, outcomeWith, planWithForm, verdictOf}
 use Rattle.reader.specs.Read.{draftLine, linesOf, walkFrom}
 
 -- ---- a line that is taken up
@@ -149,11 +151,6 @@ module _ (text : List ℕ) (at : ℕ) (draft : Draft) (store : List ℕ) (whole 
         let form = subst (GoodForm (draft .plan .domains) (draft .named) (line .named) at (line .end)) known (good-line .form) in
         omega (arith, form .0)
 
-    pub turn-op : (op : OpLine) → line .form ≡ Script op → op .domain < mostDomains
-    turn-op op known =
-        let form = subst (GoodForm (draft .plan .domains) (draft .named) (line .named) at (line .end)) known (good-line .form) in
-        omega (arith, form .0, left .good .domains .most)
-
     -- ---- and by what it came to
 
     module _ (result : DraftResult) (filled : List ℕ) (came : outcomeOf result filled ≡ takeLine line draft store) where
@@ -165,18 +162,18 @@ module _ (text : List ℕ) (at : ℕ) (draft : Draft) (store : List ℕ) (whole 
       enough-left zero enough same = absurd (omega arith)
       enough-left (suc lines) enough same = (lines, refl, same)
 
-      pub turn-refused : (why : Refusal) → result .verdict ≡ Refused why → outcomeOf result filled ≡ whole
+      turn-refused : (why : Refusal) → result .verdict ≡ Refused why → outcomeOf result filled ≡ whole
       turn-refused why known =
           let more = enough-left (left .lines) (left .enough) (left .same) in
           after-refused text (more .0) line (result .draft) filled (result .verdict) why known ∙ sym (turned (more .0)) ∙ more .2
 
-      pub turn-reach : result .verdict ≡ Accepted → at ≤ line .end
+      turn-reach : result .verdict ≡ Accepted → at ≤ line .end
       unfolding takeLine
       turn-reach known =
           taken-reaches (line .form) _ (line .bracket) at (line .end) (draft .named) (line .named) draft store (good-line .form)
           (ap (λ (outcome : DraftOutcome). outcome .verdict) (sym came) ∙ known)
 
-      pub turn-next : result .verdict ≡ Accepted → LinesLeft text (line .end + 1) (result .draft) filled whole
+      turn-next : result .verdict ≡ Accepted → LinesLeft text (line .end + 1) (result .draft) filled whole
       turn-next known =
           let more = enough-left (left .lines) (left .enough) (left .same) in
           record {
@@ -194,6 +191,44 @@ module _ (text : List ℕ) (at : ℕ) (draft : Draft) (store : List ℕ) (whole 
   module _ (below : at < length text) {head : Head} (is : head ≡ headAt text at) where
     pub headed : {line : Line} → line ≡ lineOf text (draft .plan .domains) (draft .named) head → line ≡ draftLine text at draft
     headed of = of ∙ ap (lineOf text (draft .plan .domains) (draft .named)) is ∙ sym (line-by-head text (draft .plan .domains) (draft .named) at)
+
+    -- ---- and is no op line
+
+    module _ {line : Line} (of : line ≡ lineOf text (draft .plan .domains) (draft .named) head)
+        (other : (bracket inside : ℕ) → head ≡ Op bracket inside → ⊥) {verdict : Verdict}
+        (found : verdict ≡ formVerdict (line .form) (line .bracket) (draft .plan .pad) (draft .plan .run) (draft .plan .windows)) where
+      plain : Plain (draft .named) (line .named) (line .form)
+      plain = subst (PlainLine (draft .named)) (sym of) (plain-line text (draft .plan .domains) (draft .named) head other) .form
+
+      pub other-refused : {why : Refusal} → verdict ≡ Refused why → outcomeWith verdict draft store ≡ whole
+      unfolding takeLine
+      other-refused {why} known =
+          turn-refused below line (headed of) (record { verdict = verdict; draft = draft }) store
+          (ap (λ (v : Verdict). outcomeWith v draft store) known
+          ∙ plain-refused (line .bracket) draft (line .named) store (line .form) plain (sym found ∙ known))
+          why known
+
+      module _ (known : verdict ≡ Accepted) where
+        pub other-window : (window : WindowLine) → line .form ≡ Window window → draft .plan .windows < mostWindows
+        other-window window is-window =
+            window-room (draft .plan .windows) (line .bracket)
+            (ap (λ (form : Form). formVerdict form (line .bracket) (draft .plan .pad) (draft .plan .run) (draft .plan .windows)) (sym is-window)
+            ∙ sym found ∙ known)
+
+        abbrev next : Draft
+        next = draftWith (planWithForm (draft .plan) (line .form)) (draft .counts) (line .named)
+
+        came : outcomeWith verdict next store ≡ takeLine line draft store
+        unfolding takeLine
+        came =
+            ap (λ (v : Verdict). outcomeWith v next store) known
+            ∙ plain-taken (line .bracket) draft (line .named) store (line .form) plain (sym found ∙ known)
+
+        pub other-reach : at ≤ line .end
+        other-reach = turn-reach below line (headed of) (record { verdict = verdict; draft = next }) store came known
+
+        pub other-next : LinesLeft text (line .end + 1) next store whole
+        other-next = turn-next below line (headed of) (record { verdict = verdict; draft = next }) store came known
 
     -- ---- and is an op line
 

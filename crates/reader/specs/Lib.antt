@@ -1,4 +1,4 @@
+pub mod Apart
 pub mod Draft
 pub mod Final
-pub mod OpLines
 pub mod Read

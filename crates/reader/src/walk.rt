@@ -2,8 +2,9 @@
 // so the parts of the draft are kept apart, and an op line touches only the counts and the store.
 use crate::Draft;
 use crate::DraftResult;
+use crate::drafting::form_verdict;
 use crate::drafting::no_draft;
-use crate::drafting::take_line;
+use crate::drafting::plan_with_form;
 use crate::drafting::take_op;
 use line::Head;
 use line::OpLineParse;
@@ -23,7 +24,7 @@ ghost use Rattle.line.specs.Heads.{lineOf};
 ghost use Rattle.plan.specs.Limits.{mostDomains};
 ghost use Rattle.script.specs.Limits.{scriptsLength};
 ghost use Rattle.reader.specs.Draft.{noDraft, outcomeOf};
-ghost use Rattle.reader.specs.OpLines.{TakenOp, draftWith};
+ghost use Rattle.reader.specs.Apart.{TakenOp, draftWith};
 ghost use Rattle.reader.specs.Read.{walkFrom};
 
 // An op line is taken up, from past its word: the offset of its end, or the refusal, with counts
@@ -88,20 +89,20 @@ pub fn walk(text: &[u8], store: &mut [u32; SCRIPTS_LENGTH]) -> DraftResult
             continue;
         }
         let line = line_of(text, declared, named, head);
-        let draft = Draft {
-            plan,
-            counts,
-            named,
-        };
-        let added = take_line(line, draft, store);
-        let verdict = added.verdict;
+        let form = line.form;
+        let verdict = form_verdict(form, line.bracket, plan.pad, plan.run, plan.windows);
         if let Verdict::Refused(_) = verdict {
-            return added;
+            return DraftResult {
+                verdict,
+                draft: Draft {
+                    plan,
+                    counts,
+                    named,
+                },
+            };
         }
-        let next = added.draft;
-        plan = next.plan;
-        counts = next.counts;
-        named = next.named;
+        plan = plan_with_form(plan, form);
+        named = line.named;
         at = line.end + 1;
     }
     DraftResult {

@@ -2,7 +2,7 @@
 use native.Mathlib.Omega.{arith}
 use borrow.Author.Needs.{needs}
 use Rattle.line.proofs.GoodLine.{op-declared}
-use Rattle.reader.proofs.OpLines.{not-read, op-not-taken, op-taken}
+use Rattle.reader.proofs.Apart.{not-read, op-not-taken, op-taken}
 use Rattle.reader.proofs.walk.take_op_line.Statement.{statement}
 use Rattle.reader.proofs.walk.take_op_line.Tie as tie
 

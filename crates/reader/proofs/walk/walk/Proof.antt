@@ -5,11 +5,12 @@ use lib.ListN.{length}
 use borrow.Author.Needs.{needs}
 use Rattle.line.proofs.Heads.{no-op}
 use Rattle.reader.specs.Draft.{noDraft}
-use Rattle.reader.specs.OpLines.{draftWith}
+use Rattle.reader.specs.Apart.{draftWith}
 use Rattle.reader.specs.Read.{walkFrom}
 use Rattle.reader.proofs.GoodDraft.{draft-first}
-use Rattle.reader.proofs.Walking.{LinesLeft, lines-end, lines-first, turn-domain, turn-next, turn-op, turn-reach, turn-refused, turn-within}
-use Rattle.reader.proofs.Walking.{headed, op-next, op-reach, op-refused, op-within}
+use Rattle.reader.proofs.Walking.{LinesLeft, headed, lines-end, lines-first, turn-domain, turn-within}
+use Rattle.reader.proofs.Walking.{op-next, op-reach, op-refused, op-within}
+use Rattle.reader.proofs.Walking.{other-next, other-reach, other-refused, other-window}
 use Rattle.reader.proofs.walk.walk.Statement.{statement}
 use Rattle.reader.proofs.walk.walk.Tie as tie
 
@@ -69,58 +70,60 @@ loop-again c =
 line-of-requires : tie.Need-line-of-requires Inv-loop μ-loop
 line-of-requires c κs = no-op (c .match .keys2)
 
-take-line-requires : tie.Need-take-line-requires Inv-loop μ-loop
-take-line-requires c κs =
-    let turn = c .before .before .before in
-    let left = turn .before .before .loop .inv in
-    let below = turn .before .loop-test .taken in
-    let is = headed _ _ _ _ _ left below (turn .head-at .ensures) (c .before .line-of .ensures) in
-    (turn-domain _ _ _ _ _ left below _ is, turn-op _ _ _ _ _ left below _ is)
-
 returns-2 : tie.Need-returns-2 Inv-loop μ-loop
 returns-2 c =
-    let taken = c .before .before in
-    let turn = taken .before .before .before .before in
+    let judged = c .before .before in
+    let turn = judged .before .before .before in
     let left = turn .before .before .loop .inv in
     let below = turn .before .loop-test .taken in
-    turn-refused _ _ _ _ _ left below _ (headed _ _ _ _ _ left below (turn .head-at .ensures) (taken .before .before .line-of .ensures))
-    (taken .take-line .result) _ (taken .take-line .ensures) _ (c .enum-told .given .1)
+    other-refused _ _ _ _ _ left below (turn .head-at .ensures) (judged .before .line-of .ensures)
+    (no-op (judged .before .before .match .keys2)) (judged .form-verdict .ensures) (c .enum-told .given .1)
+
+plan-with-form-requires : tie.Need-plan-with-form-requires Inv-loop μ-loop
+plan-with-form-requires c κs =
+    let judged = c .before .before in
+    let turn = judged .before .before .before in
+    let left = turn .before .before .loop .inv in
+    let below = turn .before .loop-test .taken in (
+      turn-domain _ _ _ _ _ left below _ (headed _ _ _ _ _ left below (turn .head-at .ensures) (judged .before .line-of .ensures)),
+      other-window _ _ _ _ _ left below (turn .head-at .ensures) (judged .before .line-of .ensures)
+          (no-op (judged .before .before .match .keys2)) (judged .form-verdict .ensures) (c .enum-told2 .given .1),
+    )
 
 add-at-2 : tie.Need-add-at-2 Inv-loop μ-loop
 add-at-2 c =
-    let taken = c .before .before .before .before .before .before .before in
-    let turn = taken .before .before .before .before in
+    let judged = c .before .before .before .before .before in
+    let turn = judged .before .before .before in
     let left = turn .before .before .loop .inv in
     let below = turn .before .loop-test .taken in
     omega (
       arith,
       turn .before .before .before .before .before .before .before,
-      turn-within _ _ _ _ _ left below _
-          (headed _ _ _ _ _ left below (turn .head-at .ensures) (taken .before .before .line-of .ensures)),
+      turn-within _ _ _ _ _ left below _ (headed _ _ _ _ _ left below (turn .head-at .ensures) (judged .before .line-of .ensures)),
     )
 
 loop-less-2 : tie.Need-loop-less-2 Inv-loop μ-loop
 loop-less-2 c =
-    let taken = c .before .before .before .before .before .before .before in
-    let turn = taken .before .before .before .before in
+    let judged = c .before .before .before .before .before in
+    let turn = judged .before .before .before in
     let left = turn .before .before .loop .inv in
     let below = turn .before .loop-test .taken in
     omega (
       arith,
       below,
-      turn-reach _ _ _ _ _ left below _
-          (headed _ _ _ _ _ left below (turn .head-at .ensures) (taken .before .before .line-of .ensures))
-          (taken .take-line .result) _ (taken .take-line .ensures) (c .before .before .before .before .before .enum-told2 .given .1),
+      other-reach _ _ _ _ _ left below (turn .head-at .ensures) (judged .before .line-of .ensures)
+          (no-op (judged .before .before .match .keys2)) (judged .form-verdict .ensures) (c .before .before .before .enum-told2 .given .1),
     )
 
 loop-again-2 : tie.Need-loop-again-2 Inv-loop μ-loop
 loop-again-2 c =
-    let taken = c .before .before .before .before .before .before .before in
-    let turn = taken .before .before .before .before in
+    let judged = c .before .before .before .before .before in
+    let turn = judged .before .before .before in
     let left = turn .before .before .loop .inv in
     let below = turn .before .loop-test .taken in
-    turn-next _ _ _ _ _ left below _ (headed _ _ _ _ _ left below (turn .head-at .ensures) (taken .before .before .line-of .ensures))
-    (taken .take-line .result) _ (taken .take-line .ensures) (c .before .before .before .before .before .enum-told2 .given .1)
+    rw (c .before .before .plan-with-form .ensures)
+    (other-next _ _ _ _ _ left below (turn .head-at .ensures) (judged .before .line-of .ensures)
+    (no-op (judged .before .before .match .keys2)) (judged .form-verdict .ensures) (c .before .before .before .enum-told2 .given .1))
 
 returns-3 : tie.Need-returns-3 Inv-loop μ-loop
 returns-3 c = lines-end _ _ _ _ _ (c .before .loop .inv) (c .loop-test .left)
@@ -130,5 +133,5 @@ walk-spec =
     tie.close
     (tie.spec
     Inv-loop μ-loop (λ c κs. tt) loop-holds (λ c κs. tt) (λ c. search needs) take-op-line-requires (λ c. search needs)
-    (λ c. search needs) returns add-at loop-less loop-again line-of-requires take-line-requires (λ c. search needs)
-    returns-2 (λ c. search needs) add-at-2 loop-less-2 loop-again-2 returns-3)
+    (λ c. search needs) returns add-at loop-less loop-again line-of-requires (λ c κs. tt) (λ c. search needs)
+    returns-2 (λ c. search needs) plan-with-form-requires add-at-2 loop-less-2 loop-again-2 returns-3)
