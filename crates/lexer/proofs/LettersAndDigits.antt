@@ -112,7 +112,7 @@ module _ (inside stops : ℕ → Bool)
   -- the same of a text
   module _ (text : List ℕ) (start end past : ℕ) (ended : end ≡ scanOf outside text start)
       (passed : past ≡ scanOf stops text end) where
-    past-same : past ≡ scanOf stops text start
+    pub past-same : past ≡ scanOf stops text start
     unfolding scanOf
     past-same =
         let first = scanFrom outside (drop start text) start in
@@ -142,30 +142,30 @@ longest-to text start past passed =
     ap (λ (n : ℕ). runToken (part start (n - start) text) start n) (sym passed)
 
 no-word-run : (run : List ℕ) (start end : ℕ) → allBytes isLetter run ≡ false
-    → asWord (runToken run start end) ≡ Other start end
+    → asWord (runToken run start end) ≡ Other start start
 unfolding runToken digitsToken asWord
 no-word-run run start end none = rw none (go (allBytes isDigit run) (leb (length run) mostDigits))
   where
     go : (digits few : Bool)
         → let number = cond few (Number start end (decimalValue run)) (LongNumber start end) in
-        asWord (cond digits number (Other start end)) ≡ Other start end
+        asWord (cond digits number (Other start end)) ≡ Other start start
     go true true = refl
     go true false = refl
     go false few = refl
 
 no-number-run : (run : List ℕ) (start end : ℕ) → allBytes isDigit run ≡ false
-    → asNumber (runToken run start end) ≡ Other start end
+    → asNumber (runToken run start end) ≡ Other start start
 unfolding runToken asNumber
 no-number-run run start end none = rw none (go (allBytes isLetter run))
   where
     go : (letters : Bool)
-        → asNumber (cond letters (Word start end) (Other start end)) ≡ Other start end
+        → asNumber (cond letters (Word start end) (Other start end)) ≡ Other start start
     go true = refl
     go false = refl
 
 -- no bytes are no number
 empty-run : (text : List ℕ) (start count end : ℕ) → count ≡ 0
-    → asNumber (runToken (part start count text) start end) ≡ Other start end
+    → asNumber (runToken (part start count text) start end) ≡ Other start start
 unfolding runToken asNumber part allBytes
 empty-run text start count end none = rw none
 
@@ -192,42 +192,46 @@ scan-inside stops text start some = go (leb start (length text)) refl
         let past = leb-false start (length text) e in
         omega (arith, scan-end stops text start (omega arith))
 
-module _ (text : List ℕ) (start end past : ℕ) (passed : past ≡ scanOf endsRun text end) where
+module _ (text : List ℕ) (start end : ℕ) where
+  -- where a run that has come to `end` ends
+  abbrev past : ℕ
+  past = scanOf endsRun text end
+
   module _ (ended : end ≡ scanOf isNoLetter text start) where
     -- the longest run, which is of letters alone where they reach to its end
     word-longest : longestRun text start ≡ runToken (part start (past - start) text) start past
     word-longest =
         longest-to text start past
-        (past-same isLetter endsRun letters-apart text start end past ended passed)
+        (past-same isLetter endsRun letters-apart text start end past ended refl)
 
     word-letters : allBytes isLetter (part start (past - start) text) ≡ eqb end past
-    word-letters = all-same isLetter endsRun letters-apart text start end past ended passed
+    word-letters = all-same isLetter endsRun letters-apart text start end past ended refl
 
-    pub word-found : end ≡ past → Word start end ≡ asWord (longestRun text start)
+    pub word-found : eqb end past ≡ true → Word start end ≡ asWord (longestRun text start)
     unfolding runToken asWord
     word-found all =
-        ap (Word start) all ∙ sym (ap asWord word-longest ∙ rw (word-letters, eq-eqb end past all))
+        ap (Word start) (eqb-true end past all)
+        ∙ sym (ap asWord word-longest ∙ rw (word-letters, all))
 
-    pub word-missed : (end ≡ past → ⊥) → Other start past ≡ asWord (longestRun text start)
+    pub word-missed : eqb end past ≡ false → Other start start ≡ asWord (longestRun text start)
     word-missed some =
-        sym (ap asWord word-longest
-        ∙ no-word-run _ start past (word-letters ∙ ne-eqb end past some))
+        sym (ap asWord word-longest ∙ no-word-run _ start past (word-letters ∙ some))
 
   module _ (ended : end ≡ scanOf isNoDigit text start) where
     number-longest : longestRun text start ≡ runToken (part start (past - start) text) start past
     number-longest =
         longest-to text start past
-        (past-same isDigit endsRun digits-apart text start end past ended passed)
+        (past-same isDigit endsRun digits-apart text start end past ended refl)
 
     number-digits : allBytes isDigit (part start (past - start) text) ≡ eqb end past
-    number-digits = all-same isDigit endsRun digits-apart text start end past ended passed
+    number-digits = all-same isDigit endsRun digits-apart text start end past ended refl
 
     pub number-missed : (eqb end past && ltb start end) ≡ false
-        → Other start past ≡ asNumber (longestRun text start)
+        → Other start start ≡ asNumber (longestRun text start)
     number-missed test = sym (ap asNumber number-longest ∙ go (eqb end past) refl test)
       where
         go : (all : Bool) → eqb end past ≡ all → (all && ltb start end) ≡ false
-            → asNumber (runToken (part start (past - start) text) start past) ≡ Other start past
+            → asNumber (runToken (part start (past - start) text) start past) ≡ Other start start
         go false e none = no-number-run _ start past (number-digits ∙ e)
         go true e none =
             empty-run text start (past - start) past

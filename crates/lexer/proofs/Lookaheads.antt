@@ -13,6 +13,7 @@ use mir.Val.{hasKey}
 use types.Run.{OneOf, miss}
 use Rattle.lexer.proofs.Lookahead.{the-type}
 use Rattle.lexer.proofs.Token.{the-type as token-type}
+use Rattle.lexer.proofs.LettersAndDigits.{past-same}
 use Rattle.lexer.proofs.OtherKind.{no-word}
 use Rattle.lexer.proofs.Reached.{cond-holds, word-within}
 use Rattle.lexer.specs.declared.Lookahead.{Lookahead}
@@ -22,6 +23,7 @@ use Rattle.lexer.specs.declared.Token.{Token}
 use Rattle.lexer.specs.declared.Token.the-variants.{LineEnd, Open, Close, Word, Number}
 use Rattle.lexer.specs.declared.Token.the-variants.{LongNumber, Other}
 use Rattle.lexer.specs.Bytes.{isClose, isDigit, isLetter, isLineFeed, isNoSpace, isOpen}
+use Rattle.lexer.specs.Bytes.{isSpace}
 use Rattle.lexer.specs.Limits.{mostDigits}
 use Rattle.lexer.specs.Lookaheads.{asNumber, asWord, lookaheadAt, lookaheadFrom}
 use Rattle.lexer.specs.Lookaheads.{lookaheadStart}
@@ -84,6 +86,15 @@ from-shown text start =
 pub token-shown : (text : List ℕ) (at : ℕ) → shown (tokenAt text at) ≡ lookaheadAt text at
 unfolding tokenAt lookaheadAt
 token-shown text at = from-shown text (scanOf isNoSpace text at)
+
+-- spaces that were passed over before change nothing
+pub past-indent : (text : List ℕ) (at first : ℕ) → first ≡ scanOf isNoSpace text at
+    → lookaheadAt text first ≡ lookaheadAt text at
+unfolding lookaheadAt
+past-indent text at first passed =
+    ap (lookaheadFrom text)
+    (past-same isSpace isNoSpace (λ (byte : ℕ) (h : isSpace byte ≡ true). ap not h) text at first
+    (scanOf isNoSpace text first) passed refl)
 
 -- ---- where it stands
 

@@ -5,9 +5,11 @@ use native.Mathlib.Numerals.{add-one}
 use native.Mathlib.Omega.{arith}
 use mathlib.Core.Bool.{Bool, true, false, and-eq-true-iff}
 use mathlib.Core.List.{List, [], _∷_}
-use mathlib.Core.Path.{_≡_}
+use mathlib.Core.Path.{_≡_, refl, sym}
+use lib.Dec.{eqb}
 use lib.ListN.{length, getD, drop, drop-of-length-le, length-drop}
 use lib.Seq.{drop-cons}
+use borrow.Author.Tests.{eq-eqb, ne-eqb}
 use Rattle.lexer.specs.Scan.{allBytes, scanFrom, scanOf}
 
 -- ---- the first byte that passes a test
@@ -53,6 +55,21 @@ module _ (stops : ℕ → Bool) where
   pub scan-most : (text : List ℕ) (at : ℕ) → at ≤ length text → scanOf stops text at ≤ length text
   unfolding scanOf
   scan-most text at h = omega (arith, scan-from-most (drop at text) at, length-drop at text)
+
+  -- it stops at once where the byte passes the test
+  pub scan-stops : (text : List ℕ) (at : ℕ) → at < length text
+      → stops (getD text at 0) ≡ eqb at (scanOf stops text at)
+  scan-stops text at h = go (stops (getD text at 0)) refl
+    where
+      go : (test : Bool) → stops (getD text at 0) ≡ test → test ≡ eqb at (scanOf stops text at)
+      go true e = sym (eq-eqb at _ (sym (scan-here text at h e)))
+      go false e =
+          sym (ne-eqb at _ (λ same. omega (arith, scan-next text at h e, scan-least text (at + 1))))
+
+  -- and past the last byte
+  pub scan-stops-end : (text : List ℕ) (at : ℕ) → length text ≤ at
+      → true ≡ eqb at (scanOf stops text at)
+  scan-stops-end text at h = sym (eq-eqb at _ (sym (scan-end text at h)))
 
 -- ---- every byte passes a test
 

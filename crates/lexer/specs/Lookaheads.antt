@@ -12,7 +12,7 @@ use Rattle.lexer.specs.declared.Token.{Token}
 use Rattle.lexer.specs.declared.Token.the-variants.{Other}
 use Rattle.lexer.specs.Bytes.{isClose, isLineFeed, isNoSpace, isOpen}
 use Rattle.lexer.specs.Scan.{scanOf}
-use Rattle.lexer.specs.Tokens.{longNumberKind, numberKind, tokenEnd, tokenKind, tokenStart}
+use Rattle.lexer.specs.Tokens.{longNumberKind, numberKind, tokenKind, tokenStart}
 use Rattle.lexer.specs.Tokens.{wordKind}
 
 -- what stands at an offset that holds no space
@@ -37,13 +37,14 @@ lookaheadStart (Run at) = at
 
 -- ---- a run where one kind is due
 
--- where a word is due, a run that is none counts as neither word nor number
+-- where a word is due, a run that is none counts as neither word nor number; nobody asks for its
+-- end, which is not looked for
 unfoldable pub asWord : Token → Token
 asWord token =
-    cond (eqb (tokenKind token) wordKind) token (Other (tokenStart token) (tokenEnd token))
+    cond (eqb (tokenKind token) wordKind) token (Other (tokenStart token) (tokenStart token))
 
 -- where a number is due, a run that is none counts as neither, too
 unfoldable pub asNumber : Token → Token
 asNumber token =
     cond (eqb (tokenKind token) numberKind || eqb (tokenKind token) longNumberKind) token
-    (Other (tokenStart token) (tokenEnd token))
+    (Other (tokenStart token) (tokenStart token))

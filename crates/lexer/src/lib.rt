@@ -4,7 +4,7 @@ mod bytes;
 pub mod decimal;
 mod limits;
 pub mod runs;
-mod scan;
+pub mod scan;
 
 use scan::skip_spaces;
 ghost use mathlib.Core.Path.{_≡_};

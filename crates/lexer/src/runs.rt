@@ -3,7 +3,7 @@ use crate::Token;
 use crate::limits::MOST_DIGITS;
 use crate::scan::digits_end;
 use crate::scan::letters_end;
-use crate::scan::run_end;
+use crate::scan::run_ends;
 ghost use mathlib.Core.Bool.{true};
 ghost use mathlib.Core.Path.{_≡_};
 ghost use Prim.Native.Nat.{_≤_};
@@ -49,11 +49,10 @@ pub fn word_from(text: &[u8], start: usize) -> Token
     ensures { λ r. ⌜ r ≡ asWord (longestRun (now (text .entry)) start) ⌝ }
 {
     let end = letters_end(text, start);
-    let past = run_end(text, end);
-    if end == past {
+    if run_ends(text, end) {
         Token::Word { start, end }
     } else {
-        Token::Other { start, end: past }
+        Token::Other { start, end: start }
     }
 }
 
@@ -62,10 +61,9 @@ pub fn number_from(text: &[u8], start: usize) -> Token
     ensures { λ r. ⌜ r ≡ asNumber (longestRun (now (text .entry)) start) ⌝ }
 {
     let end = digits_end(text, start);
-    let past = run_end(text, end);
-    if (end == past) & (start < end) {
+    if run_ends(text, end) & (start < end) {
         digits_token(&text[start..end], start, end)
     } else {
-        Token::Other { start, end: past }
+        Token::Other { start, end: start }
     }
 }

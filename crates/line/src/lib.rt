@@ -13,6 +13,7 @@ use forms::windows::window_form;
 use lexer::Lookahead;
 use lexer::lookahead_at;
 use lexer::lookahead_start;
+use lexer::scan::skip_indent;
 use refusal::Refusal;
 use syntax::KeywordParse;
 use syntax::TokenParse;
@@ -74,7 +75,8 @@ fn form_head(text: &[u8], bracket: usize) -> Head
 pub fn head_at(text: &[u8], at: usize) -> Head
     ensures { λ r. ⌜ r ≡ headAt (now (text .entry)) at ⌝ }
 {
-    let next = lookahead_at(text, at);
+    let first = skip_indent(text, at);
+    let next = lookahead_at(text, first);
     if let Lookahead::LineEnd(end) = next {
         return Head::Blank(end);
     }
