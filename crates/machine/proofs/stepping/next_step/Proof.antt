@@ -1,11 +1,14 @@
 -- `machine::stepping::next_step` meets its contract. Assumes nothing.
 use borrow.Author.Needs.{needs}
+use Rattle.machine.specs.View.{turnAfter}
 use Rattle.machine.proofs.Turns.{next-item, next-late}
 use Rattle.machine.proofs.stepping.next_step.Statement.{statement}
 use Rattle.machine.proofs.stepping.next_step.Tie as tie
 
 returns : tie.Need-returns
-returns c = next-late _ _ (c .if1 .taken)
+returns c =
+    let args = c .before .before .before .args in
+    next-late _ (turnAfter (args .first) (args .steps) (args .clock)) (c .if1 .taken)
 
 returns-2 : tie.Need-returns-2
 returns-2 c =
