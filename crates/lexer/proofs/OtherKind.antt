@@ -11,7 +11,7 @@ use types.Run.{OneOf, miss}
 use Rattle.lexer.proofs.Token.{the-type}
 use Rattle.lexer.specs.declared.Token.{Token}
 use Rattle.lexer.specs.declared.Token.the-variants.{LineEnd, Open, Close, Word, Number, LongNumber, Other}
-use Rattle.lexer.specs.Tokens.{closeKind, lineEndKind, longNumberKind, numberKind, openKind, tokenKind, wordKind}
+use Rattle.lexer.specs.Tokens.{longNumberKind, numberKind, tokenKind, wordKind}
 
 tag-kind : (token : Token) → tagOf the-type token ≡ tokenKind token
 tag-kind (LineEnd at) = refl
@@ -28,15 +28,6 @@ other-kind : (tags : List ℕ) (kind : ℕ) → T (not (hasKey tags kind)) → (
 other-kind tags kind lacks token known =
     ne-eqb (tokenKind token) kind (λ same. miss tags kind lacks (subst (OneOf tags) (tag-kind token ∙ same) known))
 
-pub no-line-end : (token : Token) → OneOf (1 ∷ 2 ∷ 3 ∷ 4 ∷ 5 ∷ 6 ∷ []) (tagOf the-type token) → eqb (tokenKind token) lineEndKind ≡ false
-no-line-end = other-kind (1 ∷ 2 ∷ 3 ∷ 4 ∷ 5 ∷ 6 ∷ []) lineEndKind tt
-
-pub no-open : (token : Token) → OneOf (0 ∷ 2 ∷ 3 ∷ 4 ∷ 5 ∷ 6 ∷ []) (tagOf the-type token) → eqb (tokenKind token) openKind ≡ false
-no-open = other-kind (0 ∷ 2 ∷ 3 ∷ 4 ∷ 5 ∷ 6 ∷ []) openKind tt
-
-pub no-close : (token : Token) → OneOf (0 ∷ 1 ∷ 3 ∷ 4 ∷ 5 ∷ 6 ∷ []) (tagOf the-type token) → eqb (tokenKind token) closeKind ≡ false
-no-close = other-kind (0 ∷ 1 ∷ 3 ∷ 4 ∷ 5 ∷ 6 ∷ []) closeKind tt
-
 pub no-word : (token : Token) → OneOf (0 ∷ 1 ∷ 2 ∷ 4 ∷ 5 ∷ 6 ∷ []) (tagOf the-type token) → eqb (tokenKind token) wordKind ≡ false
 no-word = other-kind (0 ∷ 1 ∷ 2 ∷ 4 ∷ 5 ∷ 6 ∷ []) wordKind tt
 
@@ -47,4 +38,4 @@ pub no-long-number : (token : Token) → OneOf (0 ∷ 1 ∷ 2 ∷ 3 ∷ 4 ∷ 6 
 no-long-number = other-kind (0 ∷ 1 ∷ 2 ∷ 3 ∷ 4 ∷ 6 ∷ []) longNumberKind tt
 
 -- for a `simp` that is handed what the branch knows
-pub ruleset kinds = (no-line-end, no-open, no-close, no-word, no-number, no-long-number)
+pub ruleset kinds = (no-number, no-long-number)

@@ -10,7 +10,7 @@ use runs::longest_run;
 use scan::skip_spaces;
 ghost use mathlib.Core.Path.{_≡_};
 ghost use Rattle.lexer.specs.Lookaheads.{lookaheadAt, lookaheadFrom, lookaheadStart};
-ghost use Rattle.lexer.specs.Tokens.{tokenStart, tokenAt, tokenFrom};
+ghost use Rattle.lexer.specs.Tokens.{tokenAt, tokenFrom};
 
 // What stands next in a line. `start` is the offset of the token's first byte and `end` the offset
 // past its last.
@@ -79,25 +79,6 @@ pub fn token_at(text: &[u8], at: usize) -> Token
 {
     let start = skip_spaces(text, at);
     token_from(text, start)
-}
-
-// The offset of a token's first byte, or of the line's end.
-pub fn token_start(token: Token) -> usize
-    ensures { λ r. ⌜ r ≡ tokenStart token ⌝ }
-{
-    match token {
-        Token::LineEnd(at) => at,
-        Token::Open(at) => at,
-        Token::Close(at) => at,
-        Token::Word { start, end: _ } => start,
-        Token::Number {
-            start,
-            end: _,
-            value: _,
-        } => start,
-        Token::LongNumber { start, end: _ } => start,
-        Token::Other { start, end: _ } => start,
-    }
 }
 
 // What stands at `start`, where no space stands.
