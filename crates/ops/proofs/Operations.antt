@@ -74,10 +74,12 @@ module _
       → index ≡ boxIndex sender recipient
       → reached ≡ accessOf true (firstBoxLine + setCount * index) table .ticks
       → last ≡ accessOf true (firstBoxLine + setCount * index) table .table
-      → effectWith (record { ticks = entered + reached; seen = passed }) last (set boxes index number)
+      → effectWith (record { ticks = entered + reached; seen = passed }) last
+      (set boxes index number)
       ≡ messageOf plan sender recipient denied passed number cache boxes
   unfolding messageOf
-  message-passed entered reached index table last may e t i r l = rw (handed, may, r, l, e, t, i) refl
+  message-passed entered reached index table last may e t i r l =
+      rw (handed, may, r, l, e, t, i) refl
 
 -- an access's answer is no larger than any access's
 pub answered-ticks : (writes : Bool) (line answer : ℕ) (table : List ℕ) → answer ≡ accessOf writes line table .ticks
@@ -91,7 +93,11 @@ pub message-ticks :
     → reached ≡ accessOf true line table .ticks
     → entered + reached ≤ messageTicks + mostAccessTicks + mostAccessTicks
 message-ticks entered reached line cache table e r =
-    omega (arith, access-ticks false kernelEntryLine cache, answered-ticks true line reached table r)
+    omega (
+      arith,
+      access-ticks false kernelEntryLine cache,
+      answered-ticks true line reached table r,
+    )
 
 -- the other domain of a send or a receive has a number below 8
 pub send-below : (recipient word : ℕ) → OpWithinLimits (Send recipient word) → recipient < mostDomains

@@ -113,11 +113,12 @@ fn enter_kernel(cache: &mut [u16]) -> u64
     MESSAGE_TICKS + entry.ticks
 }
 
-// How a send or a receive reaches a box that it has the right to: the box's line is written. Answers
-// the ticks of that.
+// How a send or a receive reaches a box that it has the right to: the box's line is written.
+// Answers the ticks of that.
 fn reach_box(index: usize, cache: &mut [u16]) -> u64
     requires { ⌜ (index < boxesLength) × (length (now cache) ≡ tableLength) ⌝ }
-    ensures { λ r. ⌜ (r ≡ accessOf true (firstBoxLine + setCount * index) (now (cache .entry)) .ticks)
+    ensures { λ r.
+        ⌜ (r ≡ accessOf true (firstBoxLine + setCount * index) (now (cache .entry)) .ticks)
         × (now (cache .exit)
         ≡ accessOf true (firstBoxLine + setCount * index) (now (cache .entry)) .table) ⌝ }
 {

@@ -135,12 +135,14 @@ pub all-below-block :
 all-below-block test count more before block =
     below-all test (count + more) (λ index below. go index below (ltb index count) refl)
   where
-    go : (index : ℕ) → index < count + more → (earlier : Bool) → ltb index count ≡ earlier → test index ≡ true
+    go : (index : ℕ) → index < count + more → (earlier : Bool) → ltb index count ≡ earlier
+        → test index ≡ true
     go index below true e = all-below test count index before (ltb-true index count e)
     go index below false e =
         let past : count ≤ index = ltb-false index count e in
         let place : count + (index - count) ≡ index = omega arith in
-        ap test (sym place) ∙ all-below (λ k. test (count + k)) more (index - count) block (omega arith)
+        ap test (sym place)
+        ∙ all-below (λ k. test (count + k)) more (index - count) block (omega arith)
 
 -- a test that fails over a block fails over any number of indices that has the block
 pub all-below-block-fails :

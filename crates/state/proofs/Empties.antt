@@ -1,5 +1,5 @@
--- Numbers that are all empty: a walk over them with no way out before the last; sets and boxes that hold nothing are
--- valid. Assumes nothing.
+-- Numbers that are all empty: a walk over them with no way out before the last; sets and boxes
+-- that hold nothing are valid. Assumes nothing.
 use mathlib.Core.Path.{_≡_, refl, sym, ap, _∙_}
 use mathlib.Core.Bool.{Bool, true, false, _&&_}
 use mathlib.Core.List.{List, [], _∷_}
@@ -41,11 +41,15 @@ empty-next none list index within so-far =
     ∙ so-far
 
 -- all are seen
-pub empty-end : (none : Bool) (list : List ℕ) (index : ℕ) → length list ≤ index → EmptySoFar none list index
+pub empty-end :
+    (none : Bool) (list : List ℕ) (index : ℕ)
+    → length list ≤ index
+    → EmptySoFar none list index
     → none ≡ allEmpty list
 unfolding allEmpty
 empty-end none list index past so-far =
-    go none (ap (λ (rest : List ℕ). none && allEmpty rest) (sym (drop-of-length-le list past)) ∙ so-far)
+    let nothing = sym (drop-of-length-le list past) in
+    go none (ap (λ (rest : List ℕ). none && allEmpty rest) nothing ∙ so-far)
   where
     go : (seen : Bool) → (seen && allEmpty []) ≡ allEmpty list → seen ≡ allEmpty list
     go true is = is
@@ -54,7 +58,8 @@ empty-end none list index past so-far =
 -- ---- the numbers of an empty list
 
 -- the first of empty numbers is 0, and the others are empty
-empty-first : (way : ℕ) (ways : List ℕ) → allEmpty (way ∷ ways) ≡ true → (eqb way 0 ≡ true) × (allEmpty ways ≡ true)
+empty-first : (way : ℕ) (ways : List ℕ) → allEmpty (way ∷ ways) ≡ true
+    → (eqb way 0 ≡ true) × (allEmpty ways ≡ true)
 unfolding allEmpty
 empty-first way ways empty = both (eqb way 0) (allEmpty ways) empty
 
@@ -62,10 +67,12 @@ empty-first way ways empty = both (eqb way 0) (allEmpty ways) empty
 empty-each : (list : List ℕ) (index : ℕ) → allEmpty list ≡ true → getD list index 0 ≡ 0
 empty-each [] index empty = refl
 empty-each (number ∷ rest) zero empty = eqb-true number 0 (empty-first number rest empty .0)
-empty-each (number ∷ rest) (suc index) empty = empty-each rest index (empty-first number rest empty .1)
+empty-each (number ∷ rest) (suc index) empty =
+    empty-each rest index (empty-first number rest empty .1)
 
 -- ways whose numbers are all 0 are empty
-empty-cells : (ways : List ℕ) → ((cell : ℕ) → cell < length ways → getD ways cell 0 ≡ 0) → allEmpty ways ≡ true
+empty-cells : (ways : List ℕ) → ((cell : ℕ) → cell < length ways → getD ways cell 0 ≡ 0)
+    → allEmpty ways ≡ true
 unfolding allEmpty
 empty-cells [] zeros = refl
 empty-cells (way ∷ ways) zeros =
@@ -78,10 +85,13 @@ empty-cells (way ∷ ways) zeros =
 pub empty-valid : (set : ℕ) (ways : List ℕ) → allEmpty ways ≡ true → waysValid set ways ≡ true
 unfolding waysValid
 empty-valid set [] empty = refl
-empty-valid set (way ∷ ways) empty = let parts = empty-first way ways empty in rw (parts .0) (parts .1)
+empty-valid set (way ∷ ways) empty =
+    let parts = empty-first way ways empty in rw (parts .0) (parts .1)
 
 -- a set of the table whose numbers are all 0 is valid
-pub zero-set : (cache : List ℕ) (set : ℕ) → ((way : ℕ) → way < waysPerSet → getD cache (setIndex set + way) 0 ≡ 0)
+pub zero-set :
+    (cache : List ℕ) (set : ℕ)
+    → ((way : ℕ) → way < waysPerSet → getD cache (setIndex set + way) 0 ≡ 0)
     → setValid cache set ≡ true
 unfolding setValid
 zero-set cache set zeros =
@@ -96,18 +106,23 @@ pub empty-block :
     (cache : List ℕ) (first count : ℕ)
     → allEmpty (part (setIndex first) (waysPerSet * count) cache) ≡ true
     → allBelow (λ k. setValid cache (first + k)) count ≡ true
-empty-block cache first count empty = below-all _ count (λ k below. zero-set cache (first + k) (zero-way k below))
+empty-block cache first count empty =
+    below-all _ count (λ k below. zero-set cache (first + k) (zero-way k below))
   where
-    zero-way : (k : ℕ) → k < count → (way : ℕ) → way < waysPerSet → getD cache (setIndex (first + k) + way) 0 ≡ 0
+    zero-way : (k : ℕ) → k < count → (way : ℕ) → way < waysPerSet
+        → getD cache (setIndex (first + k) + way) 0 ≡ 0
     zero-way k below way inside =
-        let block = part (setIndex first) (waysPerSet * count) cache in
-        let place : setIndex (first + k) + way ≡ setIndex first + (waysPerSet * k + way) = omega arith in
+        let from = setIndex first in
+        let numbers = waysPerSet * count in
+        let behind = waysPerSet * k + way in
+        let place : setIndex (first + k) + way ≡ from + behind = omega arith in
         ap (λ (index : ℕ). getD cache index 0) place
-        ∙ sym (part-at (setIndex first) (waysPerSet * count) (waysPerSet * k + way) cache (omega arith))
-        ∙ empty-each block (waysPerSet * k + way) empty
+        ∙ sym (part-at from numbers behind cache (omega arith))
+        ∙ empty-each (part from numbers cache) behind empty
 
 -- empty boxes are valid, whatever the rights
 pub empty-boxes : (plan : Plan) (boxes : List ℕ) (count : ℕ) → allEmpty boxes ≡ true
     → allBelow (boxValid plan boxes) count ≡ true
 unfolding boxValid
-empty-boxes plan boxes count empty = below-all _ count (λ index below. rw (empty-each boxes index empty) refl)
+empty-boxes plan boxes count empty =
+    below-all _ count (λ index below. rw (empty-each boxes index empty) refl)

@@ -16,7 +16,8 @@ use Rattle.plan.specs.Colours.{hasBit, maskAt}
 use Rattle.lists.proofs.Tests.{both}
 use Rattle.cache.specs.Lines.{cleanEntry, colourOf, kernelColour, l1Index, mostLine}
 use Rattle.state.specs.declared.State.{State}
-use Rattle.state.specs.TableValidity.{l1EntryValid, lineAllowed, entryLine, standsForLine, unmarked}
+use Rattle.state.specs.TableValidity.{l1EntryValid, lineAllowed, entryLine, standsForLine}
+use Rattle.state.specs.TableValidity.{unmarked}
 use Rattle.state.specs.World.{endedOf, runningOf}
 
 -- from an index on, what is left of a list decides the whole list's answer

@@ -21,13 +21,15 @@ returns c =
 
 add-t30 : tie.Need-add-t30
 add-t30 c =
-    let args = c .before .before .before .before .before .before .before .before .before .before .args in
+    let lacked = c .before .before .before .before .before .before .before in
+    let args = lacked .before .before .before .args in
     let dirty = isDirty (getD (args .table .now) (l1Index (args .line)) 0) in
     omega (arith, l2-ticks true dirty hit2Ticks _ refl (c .before .choose-number .ensures))
 
 add-t32 : tie.Need-add-t32
 add-t32 c =
-    let args = c .before .before .before .before .before .before .before .before .before .before .args in
+    let lacked = c .before .before .before .before .before .before .before in
+    let args = lacked .before .before .before .args in
     let dirty = isDirty (getD (args .table .now) (l1Index (args .line)) 0) in
     omega (arith, l2-ticks false dirty missTicks _ refl (c .before .choose-number .ensures))
 
@@ -59,4 +61,5 @@ access-spec =
     (λ c κs. search needs) (λ c. search needs) (λ c. search needs) (λ c. search needs) returns (λ c. search needs)
     (λ c. search needs) (λ c. search needs) (λ c. search needs) (λ c. search needs) (λ c. search needs)
     (λ c. search needs) (λ c κs. search needs) (λ c κs. search needs) (λ c. search needs) (λ c. search needs)
-    (λ c κs. search needs) add-t30 add-t32 (λ c. search needs) returns-2 (λ c. search needs) returns-3)
+    (λ c κs. search needs) add-t30 add-t32 (λ c. search needs) returns-2 (λ c. search needs)
+    returns-3)

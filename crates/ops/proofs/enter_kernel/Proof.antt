@@ -9,7 +9,10 @@ use Rattle.ops.proofs.enter_kernel.Tie as tie
 
 add-result : tie.Need-add-result
 add-result c =
-    omega (arith, answered-ticks false kernelEntryLine _ _ (c .before .before .before .access .ensures .1))
+    let entry = c .before .before .before .access in
+    omega (arith, answered-ticks false kernelEntryLine _ _ (entry .ensures .1))
 
 pub enter-kernel-spec : {M : Type 1} → statement M
-enter-kernel-spec = tie.close (tie.spec (λ c κs. search needs) add-result (λ c. search needs) (λ c. search needs))
+enter-kernel-spec =
+    tie.close
+    (tie.spec (λ c κs. search needs) add-result (λ c. search needs) (λ c. search needs))

@@ -1,5 +1,5 @@
--- `state::table_validity::block_valid` meets its contract. The loop's invariant: the sets of the block passed are
--- sound. Assumes nothing.
+-- `state::table_validity::block_valid` meets its contract. The loop's invariant: the sets of the
+-- block passed are sound. Assumes nothing.
 use mathlib.Core.Bool.{true}
 use mathlib.Core.Path.{_∙_, _≡_, ap, refl, sym}
 use Prim.Native.Nat.{_+_, _*_, _-_, _≤_}
@@ -46,7 +46,8 @@ loop-again c =
     let loop = c .before .before .before .loop in
     let passes = sym (c .before .set-valid .ensures) ∙ not-false _ (c .if2 .left) in (
       omega (arith, c .before .before .loop-test),
-      all-below-more (λ k. setValid (args .cache .now) (args .first + k)) (loop .set) (loop .inv .1) passes,
+      all-below-more (λ k. setValid (args .cache .now) (args .first + k)) (loop .set)
+          (loop .inv .1) passes,
     )
 
 returns-3 : tie.Need-returns-3 Inv-loop μ-loop
@@ -59,6 +60,7 @@ pub block-valid-spec : {M : Type 1} → statement M
 block-valid-spec =
     tie.close
     (tie.spec
-    Inv-loop μ-loop (λ c. search needs) (λ c. search needs) (λ c. search needs) (λ c. search needs) (λ c. search needs)
-    (λ c. search needs) (λ c. search needs) (λ c. search needs) (λ c κs. search needs) returns loop-holds
-    (λ c. omega arith) (λ c κs. omega arith) returns-2 (λ c. omega arith) (λ c. omega arith) loop-again returns-3)
+    Inv-loop μ-loop (λ c. search needs) (λ c. search needs) (λ c. search needs)
+    (λ c. search needs) (λ c. search needs) (λ c. search needs) (λ c. search needs)
+    (λ c. search needs) (λ c κs. search needs) returns loop-holds (λ c. omega arith)
+    (λ c κs. omega arith) returns-2 (λ c. omega arith) (λ c. omega arith) loop-again returns-3)

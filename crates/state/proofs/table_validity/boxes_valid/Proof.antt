@@ -44,7 +44,8 @@ loop-again c =
     let loop = c .before .before .before .loop in (
       omega (arith, c .before .before .loop-test),
       λ plan rights.
-          let passes = sym (c .before .box-valid .ensures plan rights) ∙ not-false _ (c .if2 .left) in
+          let passes = sym (c .before .box-valid .ensures plan rights)
+          ∙ not-false _ (c .if2 .left) in
           all-below-more _ (loop .index) (loop .inv .1 plan rights) passes,
     )
 
@@ -57,5 +58,5 @@ pub boxes-valid-spec : {M : Type 1} → statement M
 boxes-valid-spec =
     tie.close
     (tie.spec
-    Inv-loop μ-loop (λ c κs. search needs) returns loop-holds box-valid-requires returns-2 (λ c. omega arith)
-    (λ c. omega arith) loop-again returns-3)
+    Inv-loop μ-loop (λ c κs. search needs) returns loop-holds box-valid-requires returns-2
+    (λ c. omega arith) (λ c. omega arith) loop-again returns-3)

@@ -1,5 +1,5 @@
--- `state::table_validity::no_word` meets its contract. The loop's invariant: the boxes seen so far and what is left
--- decide the answer. Assumes nothing.
+-- `state::table_validity::no_word` meets its contract. The loop's invariant: the boxes seen so
+-- far and what is left decide the answer. Assumes nothing.
 use mathlib.Core.Path.{refl}
 use Prim.Native.Nat.{_-_}
 use native.Mathlib.Omega.{arith}
@@ -26,5 +26,5 @@ pub no-word-spec : {M : Type 1} → statement M
 no-word-spec =
     tie.close
     (tie.spec
-    Inv-loop μ-loop (λ c. refl) (λ c. omega arith) (λ c. omega arith) (λ c. omega arith) (λ c. omega arith)
-    loop-again returns)
+    Inv-loop μ-loop (λ c. refl) (λ c. omega arith) (λ c. omega arith) (λ c. omega arith)
+    (λ c. omega arith) loop-again returns)

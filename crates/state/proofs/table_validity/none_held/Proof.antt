@@ -1,5 +1,5 @@
--- `state::table_validity::none_held` meets its contract. The loop's invariant: the numbers seen so far and what is left
--- decide the answer. Assumes nothing.
+-- `state::table_validity::none_held` meets its contract. The loop's invariant: the numbers seen so
+-- far and what is left decide the answer. Assumes nothing.
 use mathlib.Core.Path.{refl}
 use Prim.Native.Nat.{_-_}
 use native.Mathlib.Omega.{arith}
@@ -26,5 +26,5 @@ pub none-held-spec : {M : Type 1} → statement M
 none-held-spec =
     tie.close
     (tie.spec
-    Inv-loop μ-loop (λ c. refl) (λ c. omega arith) (λ c. omega arith) (λ c. omega arith) (λ c. omega arith)
-    loop-again returns)
+    Inv-loop μ-loop (λ c. refl) (λ c. omega arith) (λ c. omega arith) (λ c. omega arith)
+    (λ c. omega arith) loop-again returns)

@@ -1,5 +1,5 @@
--- `state::table_validity::sets_valid` meets its contract. The loop's invariant: whole blocks are passed, and their sets
--- are sound. Assumes nothing.
+-- `state::table_validity::sets_valid` meets its contract. The loop's invariant: whole blocks are
+-- passed, and their sets are sound. Assumes nothing.
 use mathlib.Core.Bool.{true}
 use mathlib.Core.Path.{_∙_, _≡_, ap, refl, sym}
 use Prim.Native.Nat.{ℕ, _-_, _%_, _≤_}
@@ -33,7 +33,8 @@ block-valid-requires c κs = (c .before .before .before .pre, omega arith)
 returns : tie.Need-returns Inv-loop μ-loop
 returns c =
     let fails = sym (c .before .block-valid .ensures) ∙ not-true _ (c .if1 .taken) in
-    all-below-block-fails _ setCount (c .before .before .before .loop .first) setsPerBlock (omega arith) fails
+    let first = c .before .before .before .loop .first in
+    all-below-block-fails _ setCount first setsPerBlock (omega arith) fails
 
 loop-again : tie.Need-loop-again Inv-loop μ-loop
 loop-again c =
@@ -50,4 +51,5 @@ pub sets-valid-spec : {M : Type 1} → statement M
 sets-valid-spec =
     tie.close
     (tie.spec
-    Inv-loop μ-loop loop-holds block-valid-requires returns (λ c. omega arith) (λ c. omega arith) loop-again returns-2)
+    Inv-loop μ-loop loop-holds block-valid-requires returns (λ c. omega arith) (λ c. omega arith)
+    loop-again returns-2)
