@@ -16,8 +16,9 @@ use Rattle.cache.specs.Lines.{waysPerSet}
 use Rattle.cache.proofs.Laws.{kernel-flush-length, l1-flush-length}
 use Rattle.state.specs.declared.State.{State}
 use Rattle.state.specs.TableValidity.{setValid, waysValid}
+use Rattle.state.proofs.Empties.{zero-set}
 use Rattle.reachable.proofs.Cells.{cell-zeros, zeros-length}
-use Rattle.reachable.proofs.Lines.{CacheValid, zero-entry, zero-set}
+use Rattle.reachable.proofs.Lines.{CacheValid, zero-entry}
 
 module _ (cache : List ℕ) (long : length cache ≡ tableLength) where
   kernel-long : length (kernelFlushed cache) ≡ tableLength

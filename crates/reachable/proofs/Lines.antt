@@ -1,27 +1,26 @@
 -- A sound cache table while a domain runs: its length, the lines that L1 may hold, and sound sets. An access of a line
 -- that the domain may have leaves a sound table, and a table of zeros is sound. Assumes nothing.
-use Prim.Native.Nat.{ℕ, suc, _+_, _-_, _≤_, _<_}
+use Prim.Native.Nat.{ℕ, _+_, _-_, _≤_, _<_}
 use mathlib.Core.Bool.{Bool, true, false, cond, not}
-use mathlib.Core.List.{List, [], _∷_}
+use mathlib.Core.List.{List}
 use mathlib.Core.Path.{_≡_, refl, ap, _∙_}
 use native.Mathlib.Omega.{arith}
 use lib.Dec.{eqb}
 use lib.ListN.{getD, length, replicate}
 use borrow.Author.Tests.{eq-eqb, le-leb, lt-leb}
-use Rattle.lists.specs.Part.{part}
-use Rattle.lists.proofs.Parts.{part-at, part-limit}
 use Rattle.plan.specs.declared.Plan.{Plan}
 use Rattle.cache.specs.Access.{accessOf}
 use Rattle.cache.specs.Lines.{cleanEntry, dirtyEntry, dirtyMark, l1Index, l1Length, mostLine, setCount, setIndex, setOf}
-use Rattle.cache.specs.Lines.{tableLength, waysPerSet}
+use Rattle.cache.specs.Lines.{tableLength}
 use Rattle.cache.proofs.Laws.{access-length}
 use Rattle.state.specs.declared.State.{State}
-use Rattle.state.specs.TableValidity.{allEmpty, entryValid, lineAllowed, entryLine, setValid, unmarked}
+use Rattle.state.specs.TableValidity.{entryValid, lineAllowed, entryLine, setValid, unmarked}
 use Rattle.state.specs.World.{endedOf, runningOf}
+use Rattle.state.proofs.Empties.{zero-set}
 use Rattle.lists.proofs.Tests.{both-pass, first-passes, second-passes}
 use Rattle.reachable.proofs.Accesses.{access-index, access-sets}
 use Rattle.reachable.proofs.Cells.{cell-zeros, zeros-length}
-use Rattle.reachable.proofs.Ways.{empty-valid, line-stands}
+use Rattle.reachable.proofs.Ways.{line-stands}
 
 pub record CacheValid (plan : Plan) (state : State) (cache : List ℕ) : Type 0 where
   pub long : length cache ≡ tableLength
@@ -69,25 +68,6 @@ module _ (plan : Plan) (state : State) (running : endedOf plan state ≡ false) 
       }
 
 -- ---- empty cells
-
--- ways whose cells are all 0 are empty
-empty-cells : (ways : List ℕ) → ((cell : ℕ) → cell < length ways → getD ways cell 0 ≡ 0) → allEmpty ways ≡ true
-unfolding allEmpty
-empty-cells [] zeros = refl
-empty-cells (way ∷ ways) zeros =
-    both-pass (eqb way 0) (allEmpty ways) (eq-eqb way 0 (zeros 0 (omega arith)))
-    (empty-cells ways (λ cell below. zeros (suc cell) (omega arith)))
-
--- a set whose cells are all 0 is sound
-pub zero-set : (cache : List ℕ) (set : ℕ) → ((way : ℕ) → way < waysPerSet → getD cache (setIndex set + way) 0 ≡ 0)
-    → setValid cache set ≡ true
-unfolding setValid
-zero-set cache set zeros =
-    empty-valid set _
-    (empty-cells (part (setIndex set) waysPerSet cache)
-    (λ cell inside.
-    let short = part-limit (setIndex set) waysPerSet cache in
-    part-at (setIndex set) waysPerSet cell cache (omega arith) ∙ zeros cell (omega arith)))
 
 -- an empty L1 number is sound
 pub zero-entry : (plan : Plan) (state : State) (index entry : ℕ) → entry ≡ 0 → entryValid plan state index entry ≡ true

@@ -12,6 +12,7 @@ use Rattle.cache.specs.Lines.{cleanEntry, mostLine, setOf}
 use Rattle.cache.specs.Sets.{has, moveToFront}
 use Rattle.cache.proofs.Ways.{behind, moved}
 use Rattle.state.specs.TableValidity.{allEmpty, entryLine, standsForLine, waysValid}
+use Rattle.state.proofs.Empties.{empty-first, empty-valid}
 use Rattle.lists.proofs.Tests.{both-pass, neither}
 
 -- ---- the first way of a sound set is empty and so are the others, or it is a line that the others lack
@@ -49,19 +50,6 @@ first-line : (set way : ℕ) (ways : List ℕ) → FirstLine set way ways → wa
 unfolding waysValid
 first-line set way ways first =
     rw (first .some, waysValid) (both-pass _ _ (both-pass _ _ (first .line) (ap not (first .once))) (first .rest))
-
--- ---- empty ways
-
-empty-first : (way : ℕ) (ways : List ℕ) → allEmpty (way ∷ ways) ≡ true → (eqb way 0 ≡ true) × (allEmpty ways ≡ true)
-unfolding allEmpty
-empty-first way ways empty = and-eq-true-iff (eqb way 0) (allEmpty ways) .0 empty
-
--- a set of empties is sound
-pub empty-valid : (set : ℕ) (ways : List ℕ) → allEmpty ways ≡ true → waysValid set ways ≡ true
-unfolding waysValid
-empty-valid set [] empty = refl
-empty-valid set (way ∷ ways) empty =
-    let parts = empty-first way ways empty in first-empty set way ways (parts .0) (parts .1)
 
 -- the ways behind the first of a sound set are sound
 rest-valid : (set way : ℕ) (ways : List ℕ) → waysValid set (way ∷ ways) ≡ true → waysValid set ways ≡ true

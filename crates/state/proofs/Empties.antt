@@ -58,7 +58,7 @@ empty-end none list index past so-far =
 -- ---- the numbers of an empty list
 
 -- the first of empty numbers is 0, and the others are empty
-empty-first : (way : ℕ) (ways : List ℕ) → allEmpty (way ∷ ways) ≡ true
+pub empty-first : (way : ℕ) (ways : List ℕ) → allEmpty (way ∷ ways) ≡ true
     → (eqb way 0 ≡ true) × (allEmpty ways ≡ true)
 unfolding allEmpty
 empty-first way ways empty = both (eqb way 0) (allEmpty ways) empty
