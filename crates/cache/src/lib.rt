@@ -47,7 +47,8 @@ fn choose_number(test: bool, first: u64, second: u64) -> u64
 }
 
 // An access of a line. The ways of its set are lent on to be rewritten, and only where L1 lacks the
-// line. Each of the three answers names its kind, so that no caller has to find out which it is.
+// line. Each of the three answers is built in its own branch, so that a caller's match on the kind
+// is settled there.
 pub fn access(table: &mut [u16], line: u16, writes: bool) -> AccessResult
     requires { ⌜ (length (now table) ≡ tableLength) × (line ≤ mostLine) ⌝ }
     ensures { λ r.

@@ -42,7 +42,7 @@ turned state turn =
       records = set (state .records) (turn .owner) (turn .records);
     }
 
--- a turn after some ops more, the last of which ends at a clock
+-- a turn after some ops more, that has come to a clock
 abbrev pub turnAfter : Turn → ℕ → ℕ → Turn
 turnAfter turn ops clock =
     record {

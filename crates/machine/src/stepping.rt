@@ -56,19 +56,19 @@ fn lesser(one: u64, other: u64) -> u64
     if one < other { one } else { other }
 }
 
-// What is left of a number of which some are used, and nothing where all are.
-fn left(whole: u64, used: u64) -> u64
+// What remains of a number of which some are used, and nothing where all are.
+fn remaining(whole: u64, used: u64) -> u64
     ensures { λ r. ⌜ r ≡ whole - used ⌝ }
 {
     if used < whole { whole - used } else { 0 }
 }
 
-// How many ops a window has at most, whatever its clock and its script say.
+// How many ops more limit, log and positions allow; clock and stored numbers may end it sooner.
 fn ops_allowed(limit: u64, first: Turn) -> u64
     ensures { λ r. ⌜ r ≡ opsAllowed limit first ⌝ }
 {
-    let records = left(first.quota, first.records);
-    let positions = left(MOST_OPS as u64, first.position);
+    let records = remaining(first.quota, first.records);
+    let positions = remaining(MOST_OPS as u64, first.position);
     lesser(lesser(limit, records), positions)
 }
 

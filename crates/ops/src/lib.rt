@@ -145,18 +145,18 @@ fn send(
         → effectWith r (now (cache .exit)) (now (boxes .exit))
         ≡ sendOf plan sender recipient word (now (cache .entry)) (now (boxes .entry))) ⌝ }
 {
-    let entry = enter_kernel(cache);
+    let entry_ticks = enter_kernel(cache);
     if !has_bit(rights[sender], recipient as u32) {
         return OpResult {
-            ticks: entry,
+            ticks: entry_ticks,
             seen: Observation::Denied(recipient),
         };
     }
     let index = box_index(sender, recipient as usize);
-    let reached = reach_box(index, cache);
+    let box_ticks = reach_box(index, cache);
     boxes[index] = word as u32 + 1;
     OpResult {
-        ticks: entry + reached,
+        ticks: entry_ticks + box_ticks,
         seen: Observation::Sent(recipient),
     }
 }
@@ -190,19 +190,19 @@ fn receive(
         ≡ receiveOf plan receiver sender (now (cache .entry)) (now (boxes .entry))) ⌝ }
 {
     let from = sender as usize;
-    let entry = enter_kernel(cache);
+    let entry_ticks = enter_kernel(cache);
     if !has_bit(rights[from], receiver as u32) {
         return OpResult {
-            ticks: entry,
+            ticks: entry_ticks,
             seen: Observation::Denied(sender),
         };
     }
     let index = box_index(from, receiver);
-    let reached = reach_box(index, cache);
+    let box_ticks = reach_box(index, cache);
     let number = boxes[index];
     boxes[index] = 0;
     OpResult {
-        ticks: entry + reached,
+        ticks: entry_ticks + box_ticks,
         seen: box_observation(sender, number),
     }
 }

@@ -140,8 +140,8 @@ all-below-block test count more before block =
     go index below true e = all-below test count index before (ltb-true index count e)
     go index below false e =
         let past : count ≤ index = ltb-false index count e in
-        let place : count + (index - count) ≡ index = omega arith in
-        ap test (sym place)
+        let same-index : count + (index - count) ≡ index = omega arith in
+        ap test (sym same-index)
         ∙ all-below (λ k. test (count + k)) more (index - count) block (omega arith)
 
 -- a test that fails over a block fails over any number of indices that has the block

@@ -1,7 +1,7 @@
 -- Numbers that are all empty: a walk over them with no way out before the last; sets and boxes
 -- that hold nothing are valid. Assumes nothing.
 use mathlib.Core.Path.{_≡_, refl, sym, ap, _∙_}
-use mathlib.Core.Bool.{Bool, true, false, _&&_}
+use mathlib.Core.Bool.{Bool, true, false, _&&_, and-assoc}
 use mathlib.Core.List.{List, [], _∷_}
 use Prim.Native.Nat.{ℕ, zero, suc, _+_, _*_, _≤_, _<_}
 use native.Mathlib.Omega.{arith}
@@ -24,10 +24,6 @@ use Rattle.state.proofs.TableLaws.{here-first}
 abbrev pub EmptySoFar : Bool → List ℕ → ℕ → Type 0
 EmptySoFar none list index = (none && allEmpty (drop index list)) ≡ allEmpty list
 
-and-joined : (one two three : Bool) → ((one && two) && three) ≡ (one && (two && three))
-and-joined true two three = refl
-and-joined false two three = refl
-
 -- one number more is seen
 pub empty-next :
     (none : Bool) (list : List ℕ) (index : ℕ)
@@ -36,7 +32,7 @@ pub empty-next :
     → EmptySoFar (none && eqb (getD list index 0) 0) list (index + 1)
 unfolding allEmpty
 empty-next none list index within so-far =
-    and-joined none (eqb (getD list index 0) 0) (allEmpty (drop (index + 1) list))
+    and-assoc none (eqb (getD list index 0) 0) (allEmpty (drop (index + 1) list))
     ∙ ap (λ (rest : Bool). none && rest) (sym (here-first allEmpty list index within))
     ∙ so-far
 
@@ -115,8 +111,8 @@ empty-block cache first count empty =
         let from = setIndex first in
         let numbers = waysPerSet * count in
         let behind = waysPerSet * k + way in
-        let place : setIndex (first + k) + way ≡ from + behind = omega arith in
-        ap (λ (index : ℕ). getD cache index 0) place
+        let same-index : setIndex (first + k) + way ≡ from + behind = omega arith in
+        ap (λ (index : ℕ). getD cache index 0) same-index
         ∙ sym (part-at from numbers behind cache (omega arith))
         ∙ empty-each (part from numbers cache) behind empty
 

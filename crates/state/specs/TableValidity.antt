@@ -28,7 +28,7 @@ entryLine entry = entry - 1
 
 -- ---- L2
 
--- the numbers of a set behind an empty one are empty
+-- all these numbers are empty
 unfoldable pub allEmpty : List ℕ → Bool
 allEmpty [] = true
 allEmpty (way ∷ ways) = eqb way 0 && allEmpty ways

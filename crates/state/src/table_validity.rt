@@ -29,7 +29,8 @@ ghost use Rattle.state.specs.TableValidity.{standsForLine, tablesValid, 
 ghost use Rattle.state.specs.TableValidity.{waysValid};
 ghost use Rattle.state.specs.World.{endedOf, runningOf};
 
-// How many sets are looked at together: for speed alone, it stands for nothing in the paper.
+// How many sets are looked at together: for speed alone, it stands for nothing in the paper. It
+// divides the number of sets, so that no block reaches past the last.
 const SETS_PER_BLOCK: usize = 8;
 
 // An L1 number without its dirty mark.
@@ -90,7 +91,8 @@ fn l1_valid(cache: &[u16], ended: bool, mask: u16) -> bool
     true
 }
 
-// Whether every number is empty.
+// Whether every number is empty. It ends at the first that is not: for the few numbers behind an
+// empty way. `none_held` answers the same of a block.
 fn all_empty(ways: &[u16]) -> bool
     ensures { λ r. ⌜ r ≡ allEmpty (now (ways .entry)) ⌝ }
 {
@@ -161,8 +163,8 @@ fn set_valid(cache: &[u16], set: usize) -> bool
     ways_valid(&cache[from..to], set)
 }
 
-// Whether no line is held by these numbers. All are looked at, with no way out before the last, so
-// that the compiler can look at several at once.
+// Whether every number is empty, as `all_empty` answers, but of a block: all are looked at, with
+// no way out before the last, so that the compiler can look at several at once.
 fn none_held(numbers: &[u16]) -> bool
     ensures { λ r. ⌜ r ≡ allEmpty (now (numbers .entry)) ⌝ }
 {

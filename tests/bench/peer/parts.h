@@ -76,6 +76,13 @@ enum refusal {
 /* The kinds of a stored op. */
 enum op_kind { OP_READ = 1, OP_WRITE, OP_SEND, OP_RECEIVE, OP_COMPUTE };
 
+/* A stored op: its kind, the other domain, and a value, which is MOST_VALUE at most. */
+enum {
+    OP_KIND_SHIFT = 20,
+    OP_OTHER_SHIFT = 16,
+    OP_OTHER_MASK = 15
+};
+
 /* The 92 numbers of a plan, in their order. */
 struct plan {
     uint32_t pad;
@@ -149,7 +156,8 @@ static inline uint64_t all_windows(const struct plan *plan)
     return (uint64_t)plan->run * plan->windows;
 }
 
-/* Reader: on acceptance both are written; on refusal neither is of any use, but scripts stay. */
+/* Reader: on acceptance both are written; on refusal the scripts stay, and the plan is of no
+ * use. */
 enum refusal read_text(const uint8_t *text, size_t length, uint32_t *scripts, struct plan *plan,
                        uint64_t *companion);
 

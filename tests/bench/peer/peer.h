@@ -1,6 +1,6 @@
-/* The same five calls as include/pirkvezo.h, in plain C and unproved: a second program to time the
- * library beside. docs/HOST.md says what each array holds and what each call answers; the caller
- * sees to the same three things. */
+/* The same five calls as include/pirkvezo.h, in plain C and unproved: a third implementation
+ * beside the library and the Rust reference, to time the library against. docs/HOST.md says what
+ * each array holds and what each call answers; the caller sees to the same three things. */
 #ifndef PEER_H
 #define PEER_H
 

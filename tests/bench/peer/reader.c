@@ -63,6 +63,9 @@ static inline bool line_ends(const struct reader *reader, const uint8_t *at)
     return at == reader->end || *at == '\n';
 }
 
+/* How long a word is that the source spells out. */
+#define LENGTH(word) (sizeof(word) - 1)
+
 /* Whether the token here is this word. */
 static inline bool is_word(const struct reader *reader, const uint8_t *at, const char *word,
                            size_t length)
@@ -71,7 +74,7 @@ static inline bool is_word(const struct reader *reader, const uint8_t *at, const
         && run_ends(reader, at + length);
 }
 
-#define IS_WORD(reader, at, word) is_word(reader, at, word, sizeof(word) - 1)
+#define IS_WORD(reader, at, word) is_word(reader, at, word, LENGTH(word))
 
 static inline const uint8_t *take_bracket(struct reader *reader, const uint8_t *at, uint8_t bracket)
 {
@@ -97,7 +100,7 @@ static inline const uint8_t *take_opened(struct reader *reader, const uint8_t *a
     return at + length;
 }
 
-#define TAKE_OPENED(reader, at, word) take_opened(reader, at, word, sizeof(word) - 1)
+#define TAKE_OPENED(reader, at, word) take_opened(reader, at, word, LENGTH(word))
 
 /* A number between two limits. A longer run of digits wraps, and is refused for its length. */
 static inline const uint8_t *take_number(struct reader *reader, const uint8_t *at, uint32_t least,
@@ -244,24 +247,24 @@ static inline const uint8_t *take_act(struct reader *reader, const uint8_t *at, 
     at = skip_spaces(reader, at);
     if (IS_WORD(reader, at, "read")) {
         kind = OP_READ;
-        at = take_number(reader, at + 4, 0, MOST_VALUE, &value);
+        at = take_number(reader, at + LENGTH("read"), 0, MOST_VALUE, &value);
     } else if (IS_WORD(reader, at, "write")) {
         kind = OP_WRITE;
-        at = take_number(reader, at + 5, 0, MOST_VALUE, &value);
+        at = take_number(reader, at + LENGTH("write"), 0, MOST_VALUE, &value);
     } else if (IS_WORD(reader, at, "send")) {
         kind = OP_SEND;
-        at = take_number(reader, at + 4, 0, DOMAINS - 1, &other);
+        at = take_number(reader, at + LENGTH("send"), 0, DOMAINS - 1, &other);
         at = at == NULL ? NULL : take_number(reader, at, 0, MOST_VALUE, &value);
     } else if (IS_WORD(reader, at, "receive")) {
         kind = OP_RECEIVE;
-        at = take_number(reader, at + 7, 0, DOMAINS - 1, &other);
+        at = take_number(reader, at + LENGTH("receive"), 0, DOMAINS - 1, &other);
     } else if (IS_WORD(reader, at, "compute")) {
         kind = OP_COMPUTE;
-        at = take_number(reader, at + 7, 1, MOST_COMPUTE, &value);
+        at = take_number(reader, at + LENGTH("compute"), 1, MOST_COMPUTE, &value);
     } else {
         return refuse_at(reader, SHAPE_BROKEN, at);
     }
-    *act = (uint32_t)kind << 20 | other << 16 | value;
+    *act = (uint32_t)kind << OP_KIND_SHIFT | other << OP_OTHER_SHIFT | value;
     return at;
 }
 
@@ -291,19 +294,19 @@ static const uint8_t *take_line(struct reader *reader, const uint8_t *bracket)
     }
     at = skip_spaces(reader, at);
     if (IS_WORD(reader, at, "op")) {
-        return take_op(reader, at + 2, bracket);
+        return take_op(reader, at + LENGTH("op"), bracket);
     }
     if (IS_WORD(reader, at, "window")) {
-        return take_window(reader, at + 6, bracket);
+        return take_window(reader, at + LENGTH("window"), bracket);
     }
     if (IS_WORD(reader, at, "domain")) {
-        return take_domain(reader, at + 6);
+        return take_domain(reader, at + LENGTH("domain"));
     }
     if (IS_WORD(reader, at, "pad")) {
-        return take_single(reader, at + 3, bracket, LEAST_PAD, MOST_PAD, &plan->pad);
+        return take_single(reader, at + LENGTH("pad"), bracket, LEAST_PAD, MOST_PAD, &plan->pad);
     }
     if (IS_WORD(reader, at, "run")) {
-        return take_single(reader, at + 3, bracket, 1, MOST_RUN, &plan->run);
+        return take_single(reader, at + LENGTH("run"), bracket, 1, MOST_RUN, &plan->run);
     }
     return refuse_at(reader, SHAPE_BROKEN, at);
 }

@@ -136,9 +136,9 @@ static inline void receive_word(const struct machine *machine, uint32_t domain, 
 static inline bool do_op(const struct machine *machine, uint32_t domain, uint32_t number,
                          struct outcome *outcome)
 {
-    uint32_t other = number >> 16 & 15;
+    uint32_t other = number >> OP_OTHER_SHIFT & OP_OTHER_MASK;
     uint32_t value = number & MOST_VALUE;
-    switch (number >> 20) {
+    switch (number >> OP_KIND_SHIFT) {
     case OP_READ:
         if (other != 0) {
             return false;

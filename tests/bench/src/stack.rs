@@ -4,7 +4,7 @@
 
 use crate::subjects::{Subject, LIBRARY, PEER, REFERENCE};
 use crate::table::{Cell, Table};
-use crate::timing::{measure, Settings, Spread};
+use crate::timing::{measure_rounds, Settings, Spread};
 use crate::workloads;
 use std::collections::BTreeSet;
 use std::hint::black_box;
@@ -15,6 +15,11 @@ const PAGE: usize = 4_096;
 /// Frames begin at multiples of this.
 const APART: usize = 16;
 const POSITIONS: usize = PAGE / APART;
+
+/// A position has one round for so many of the bench's, and an engine a shorter
+/// turn in it: there are 256 positions, and each text is read at all of them.
+const ROUNDS_FOR_ONE: usize = 4;
+const TURN: Duration = Duration::from_micros(100);
 
 /// The engines that read: the first three of all.
 const ENGINES: usize = 3;
@@ -49,27 +54,27 @@ pub fn table(settings: &Settings, subjects: &mut [Box<dyn Subject>]) -> Table {
 
 /// Several rounds at each position. All positions have their turn before one has
 /// its second: what slows the machine for a while then meets many positions
-/// once, and not a few in all their rounds.
+/// once, and not a few in all their rounds. Another engine begins at the next
+/// position, and in a position's next round.
 fn at_all_positions(
     settings: &Settings,
     subjects: &mut [Box<dyn Subject>],
     text: &[u8],
 ) -> Vec<Vec<Round>> {
-    let once = Settings {
-        rounds: 1,
-        turn: Duration::from_micros(100),
-    };
     let mut read = |subject: &mut dyn Subject| {
         assert_eq!(subject.read(text), 0, "a good text");
         text.len() as u64
     };
     let mut positions = vec![Vec::new(); POSITIONS];
     let mut offsets = BTreeSet::new();
-    for _ in 0..settings.rounds.div_ceil(4) {
+    for round in 0..settings.rounds.div_ceil(ROUNDS_FOR_ONE) {
         for (position, rounds) in positions.iter_mut().enumerate() {
             from_position(position, &mut || {
                 offsets.insert(address_of_frame() % PAGE);
-                let times = measure(&once, &mut subjects[..ENGINES], |_| {}, &mut read);
+                let number = round + position;
+                let once = number..number + 1;
+                let engines = &mut subjects[..ENGINES];
+                let times = measure_rounds(once, TURN, engines, |_| {}, &mut read);
                 rounds.push([0, 1, 2].map(|engine| times.median(engine)));
             });
         }

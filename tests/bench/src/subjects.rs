@@ -29,7 +29,7 @@ pub const REFERENCE: usize = 0;
 pub const LIBRARY: usize = 1;
 pub const PEER: usize = 2;
 
-/// All that is timed beside this library, in the order of their turns.
+/// All that are timed, in the order of their turns.
 pub fn all(library: Box<dyn Engine>) -> Vec<Box<dyn Subject>> {
     vec![
         Box::new(Plain::new(Box::new(Reference))),

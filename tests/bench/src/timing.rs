@@ -3,6 +3,7 @@
 use crate::subjects::Subject;
 use std::fmt;
 use std::hint::black_box;
+use std::ops::Range;
 use std::time::{Duration, Instant};
 
 pub struct Settings {
@@ -46,6 +47,18 @@ pub struct Times(Vec<Vec<f64>>);
 pub fn measure(
     settings: &Settings,
     subjects: &mut [Box<dyn Subject>],
+    prepare: impl FnMut(&mut dyn Subject),
+    work: impl FnMut(&mut dyn Subject) -> u64,
+) -> Times {
+    measure_rounds(0..settings.rounds, settings.turn, subjects, prepare, work)
+}
+
+/// The same for the rounds of these numbers. A round's number says which engine
+/// begins it.
+pub fn measure_rounds(
+    rounds: Range<usize>,
+    turn: Duration,
+    subjects: &mut [Box<dyn Subject>],
     mut prepare: impl FnMut(&mut dyn Subject),
     mut work: impl FnMut(&mut dyn Subject) -> u64,
 ) -> Times {
@@ -61,11 +74,11 @@ pub fn measure(
             once(&mut **subject);
             let (time, _) = once(&mut **subject);
             let nanoseconds = time.as_nanos().max(50);
-            (settings.turn.as_nanos() / nanoseconds).clamp(1, 100_000) as u32
+            (turn.as_nanos() / nanoseconds).clamp(1, 100_000) as u32
         })
         .collect();
-    let mut times = vec![Vec::with_capacity(settings.rounds); subjects.len()];
-    for round in 0..settings.rounds {
+    let mut times = vec![Vec::with_capacity(rounds.len()); subjects.len()];
+    for round in rounds {
         // Each round begins with another engine, else other work that gets the
         // processor as often as a round comes would meet the same one each time.
         for turn in 0..subjects.len() {

@@ -1,5 +1,6 @@
 //! Document 01's entry points over plain numbers, whoever implements them.
 
+mod c_engine;
 #[cfg(linked)]
 mod linked;
 mod reference;
