@@ -1,4 +1,5 @@
-// A word that is one of five. How many letters it has is looked at first: few words have as many.
+// A word that is one of five. How many letters it has is looked at first: at most two of the five
+// are as long.
 use crate::KeywordParse;
 use crate::tokens::is_word;
 use lexer::Lookahead;
@@ -10,18 +11,13 @@ use refusal::Refusal;
 ghost use mathlib.Core.Path.{_≡_};
 ghost use Prim.Native.Nat.{_≤_};
 ghost use lib.ListN.{length};
-ghost use Rattle.lists.specs.Ascii.{bytesOf};
 ghost use Rattle.syntax.specs.declared.KeywordParse.the-variants.{Refused as RefusedKeyword};
-ghost use Rattle.syntax.specs.Keywords.{fiveWords, follows, keywordAt};
+ghost use Rattle.syntax.specs.Keywords.{follows, formWords, keywordAt, opWords};
 
 // Which op's word stands from `start` up to `end`.
 fn op_word(text: &[u8], start: usize, end: usize) -> KeywordParse
     requires { ⌜ (start ≤ end) × (end ≤ length (now text)) ⌝ }
-    ensures { λ r.
-        ⌜ r ≡ follows
-        (fiveWords (bytesOf "read") (bytesOf "write") (bytesOf "send")
-        (bytesOf "receive") (bytesOf "compute"))
-        (now (text .entry)) start end RefusedKeyword ⌝ }
+    ensures { λ r. ⌜ r ≡ follows opWords (now (text .entry)) start end RefusedKeyword ⌝ }
 {
     let letters = end - start;
     if letters == b"read".len() {
@@ -51,11 +47,7 @@ fn op_word(text: &[u8], start: usize, end: usize) -> KeywordParse
 // Which form's word stands from `start` up to `end`.
 fn form_word(text: &[u8], start: usize, end: usize) -> KeywordParse
     requires { ⌜ (start ≤ end) × (end ≤ length (now text)) ⌝ }
-    ensures { λ r.
-        ⌜ r ≡ follows
-        (fiveWords (bytesOf "pad") (bytesOf "run") (bytesOf "domain")
-        (bytesOf "window") (bytesOf "op"))
-        (now (text .entry)) start end RefusedKeyword ⌝ }
+    ensures { λ r. ⌜ r ≡ follows formWords (now (text .entry)) start end RefusedKeyword ⌝ }
 {
     let letters = end - start;
     if letters == b"op".len() {
@@ -84,11 +76,7 @@ fn form_word(text: &[u8], start: usize, end: usize) -> KeywordParse
 
 // The word of an op was due.
 pub fn op_keyword_at(text: &[u8], at: usize) -> KeywordParse
-    ensures { λ r.
-        ⌜ r ≡ keywordAt
-        (fiveWords (bytesOf "read") (bytesOf "write") (bytesOf "send")
-        (bytesOf "receive") (bytesOf "compute"))
-        (now (text .entry)) at ⌝ }
+    ensures { λ r. ⌜ r ≡ keywordAt opWords (now (text .entry)) at ⌝ }
 {
     let next = lookahead_at(text, at);
     let Lookahead::Run(first) = next else {
@@ -103,11 +91,7 @@ pub fn op_keyword_at(text: &[u8], at: usize) -> KeywordParse
 
 // The word of a form was due.
 pub fn form_keyword_at(text: &[u8], at: usize) -> KeywordParse
-    ensures { λ r.
-        ⌜ r ≡ keywordAt
-        (fiveWords (bytesOf "pad") (bytesOf "run") (bytesOf "domain")
-        (bytesOf "window") (bytesOf "op"))
-        (now (text .entry)) at ⌝ }
+    ensures { λ r. ⌜ r ≡ keywordAt formWords (now (text .entry)) at ⌝ }
 {
     let next = lookahead_at(text, at);
     let Lookahead::Run(first) = next else {
