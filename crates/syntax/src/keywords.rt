@@ -1,12 +1,9 @@
 // A word that is one of five. How many letters it has is looked at first: at most two of the five
 // are as long.
 use crate::KeywordParse;
+use crate::WordParse;
 use crate::tokens::is_word;
-use lexer::Lookahead;
-use lexer::Token;
-use lexer::lookahead_at;
-use lexer::lookahead_start;
-use lexer::runs::word_from;
+use crate::tokens::word_at;
 use refusal::Refusal;
 ghost use mathlib.Core.Path.{_≡_};
 ghost use Prim.Native.Nat.{_≤_};
@@ -78,28 +75,20 @@ fn form_word(text: &[u8], start: usize, end: usize) -> KeywordParse
 pub fn op_keyword_at(text: &[u8], at: usize) -> KeywordParse
     ensures { λ r. ⌜ r ≡ keywordAt opWords (now (text .entry)) at ⌝ }
 {
-    let next = lookahead_at(text, at);
-    let Lookahead::Run(first) = next else {
-        return KeywordParse::Refused(Refusal::BrokenShape(lookahead_start(next)));
-    };
-    let token = word_from(text, first);
-    let Token::Word { start, end } = token else {
-        return KeywordParse::Refused(Refusal::BrokenShape(first));
-    };
-    op_word(text, start, end)
+    let found = word_at(text, at);
+    match found {
+        WordParse::Refused(refusal) => KeywordParse::Refused(refusal),
+        WordParse::Word { start, end } => op_word(text, start, end),
+    }
 }
 
 // The word of a form was due.
 pub fn form_keyword_at(text: &[u8], at: usize) -> KeywordParse
     ensures { λ r. ⌜ r ≡ keywordAt formWords (now (text .entry)) at ⌝ }
 {
-    let next = lookahead_at(text, at);
-    let Lookahead::Run(first) = next else {
-        return KeywordParse::Refused(Refusal::BrokenShape(lookahead_start(next)));
-    };
-    let token = word_from(text, first);
-    let Token::Word { start, end } = token else {
-        return KeywordParse::Refused(Refusal::BrokenShape(first));
-    };
-    form_word(text, start, end)
+    let found = word_at(text, at);
+    match found {
+        WordParse::Refused(refusal) => KeywordParse::Refused(refusal),
+        WordParse::Word { start, end } => form_word(text, start, end),
+    }
 }
