@@ -197,60 +197,67 @@ module _ (text : List ℕ) (start end : ℕ) where
   abbrev past : ℕ
   past = scanOf endsRun text end
 
-  module _ (ended : end ≡ scanOf isNoLetter text start) where
+  module _ (ended : end ≡ scanOf isNoLetter text start) {ends : Bool}
+      (told : ends ≡ eqb end past) where
     -- the longest run, which is of letters alone where they reach to its end
     word-longest : longestRun text start ≡ runToken (part start (past - start) text) start past
     word-longest =
         longest-to text start past
         (past-same isLetter endsRun letters-apart text start end past ended refl)
 
-    word-letters : allBytes isLetter (part start (past - start) text) ≡ eqb end past
-    word-letters = all-same isLetter endsRun letters-apart text start end past ended refl
+    word-letters : allBytes isLetter (part start (past - start) text) ≡ ends
+    word-letters =
+        all-same isLetter endsRun letters-apart text start end past ended refl ∙ sym told
 
-    pub word-found : eqb end past ≡ true → Word start end ≡ asWord (longestRun text start)
+    pub word-found : ends ≡ true → Word start end ≡ asWord (longestRun text start)
     unfolding runToken asWord
     word-found all =
-        ap (Word start) (eqb-true end past all)
+        ap (Word start) (eqb-true end past (sym told ∙ all))
         ∙ sym (ap asWord word-longest ∙ rw (word-letters, all))
 
-    pub word-missed : eqb end past ≡ false → Other start start ≡ asWord (longestRun text start)
+    pub word-missed : ends ≡ false → Other start start ≡ asWord (longestRun text start)
     word-missed some =
         sym (ap asWord word-longest ∙ no-word-run _ start past (word-letters ∙ some))
 
-  module _ (ended : end ≡ scanOf isNoDigit text start) where
+  module _ (ended : end ≡ scanOf isNoDigit text start) {ends : Bool}
+      (told : ends ≡ eqb end past) where
     number-longest : longestRun text start ≡ runToken (part start (past - start) text) start past
     number-longest =
         longest-to text start past
         (past-same isDigit endsRun digits-apart text start end past ended refl)
 
-    number-digits : allBytes isDigit (part start (past - start) text) ≡ eqb end past
-    number-digits = all-same isDigit endsRun digits-apart text start end past ended refl
+    number-digits : allBytes isDigit (part start (past - start) text) ≡ ends
+    number-digits =
+        all-same isDigit endsRun digits-apart text start end past ended refl ∙ sym told
 
-    pub number-missed : (eqb end past && ltb start end) ≡ false
+    pub number-missed : (ends && ltb start end) ≡ false
         → Other start start ≡ asNumber (longestRun text start)
-    number-missed test = sym (ap asNumber number-longest ∙ go (eqb end past) refl test)
+    number-missed test = sym (ap asNumber number-longest ∙ go ends refl test)
       where
-        go : (all : Bool) → eqb end past ≡ all → (all && ltb start end) ≡ false
+        go : (all : Bool) → ends ≡ all → (all && ltb start end) ≡ false
             → asNumber (runToken (part start (past - start) text) start past) ≡ Other start start
         go false e none = no-number-run _ start past (number-digits ∙ e)
         go true e none =
             empty-run text start (past - start) past
-            (omega (arith, ltb-false start end none, eqb-true end past e))
+            (omega (arith, ltb-false start end none, eqb-true end past (sym told ∙ e)))
 
-    module _ (test : (eqb end past && ltb start end) ≡ true) where
-      all : end ≡ past
-      all = eqb-true end past (and-eq-true-iff (eqb end past) (ltb start end) .0 test .0)
+    module _ (test : (ends && ltb start end) ≡ true) where
+      all : ends ≡ true
+      all = and-eq-true-iff ends (ltb start end) .0 test .0
+
+      to-past : end ≡ past
+      to-past = eqb-true end past (sym told ∙ all)
 
       pub digits-some : start < end
-      digits-some = ltb-true start end (and-eq-true-iff (eqb end past) (ltb start end) .0 test .1)
+      digits-some = ltb-true start end (and-eq-true-iff ends (ltb start end) .0 test .1)
 
       pub digits-inside : end ≤ length text
       digits-inside = rw ended (scan-inside isNoDigit text start (rw (← ended) digits-some))
 
       pub digits-alone : allBytes isDigit (part start (end - start) text) ≡ true
       digits-alone =
-          ap (λ (n : ℕ). allBytes isDigit (part start (n - start) text)) all ∙ number-digits
-          ∙ eq-eqb end past all
+          ap (λ (n : ℕ). allBytes isDigit (part start (n - start) text)) to-past ∙ number-digits
+          ∙ all
 
       some-digit : 0 < length (part start (end - start) text)
       some-digit =
@@ -261,5 +268,5 @@ module _ (text : List ℕ) (start end : ℕ) where
           digitsToken (part start (end - start) text) start end ≡ asNumber (longestRun text start)
       number-found =
           sym (ap asNumber number-longest
-          ∙ ap (λ (n : ℕ). asNumber (runToken (part start (n - start) text) start n)) (sym all)
+          ∙ ap (λ (n : ℕ). asNumber (runToken (part start (n - start) text) start n)) (sym to-past)
           ∙ number-run _ start end some-digit digits-alone)

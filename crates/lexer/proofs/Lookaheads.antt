@@ -1,7 +1,7 @@
 -- What stands next in a line by its first byte is what the next token shows of itself: a bracket, a
 -- line's end, or that a run begins and where. So it decides between these kinds of token, and where
 -- a run begins, the token is the longest run from there. Assumes nothing.
-use Prim.Native.Nat.{ℕ, _≤_, min}
+use Prim.Native.Nat.{ℕ, min}
 use mathlib.Core.Bool.{Bool, true, false, cond, not, _||_}
 use mathlib.Core.List.{List, [], _∷_}
 use mathlib.Core.Path.{_≡_, refl, sym, ap, subst, _∙_}
@@ -15,7 +15,7 @@ use Rattle.lexer.proofs.Lookahead.{the-type}
 use Rattle.lexer.proofs.Token.{the-type as token-type}
 use Rattle.lexer.proofs.LettersAndDigits.{past-same}
 use Rattle.lexer.proofs.OtherKind.{no-word}
-use Rattle.lexer.proofs.Reached.{cond-holds, word-within}
+use Rattle.lexer.proofs.Reached.{cond-holds}
 use Rattle.lexer.specs.declared.Lookahead.{Lookahead}
 use Rattle.lexer.specs.declared.Lookahead.the-variants.{LineEnd as EndNext, Open as OpenNext}
 use Rattle.lexer.specs.declared.Lookahead.the-variants.{Close as CloseNext, Run as RunNext}
@@ -83,7 +83,7 @@ from-shown text start =
     go true false false true = refl
     go true false false false = run-shown text start
 
-pub token-shown : (text : List ℕ) (at : ℕ) → shown (tokenAt text at) ≡ lookaheadAt text at
+token-shown : (text : List ℕ) (at : ℕ) → shown (tokenAt text at) ≡ lookaheadAt text at
 unfolding tokenAt lookaheadAt
 token-shown text at = from-shown text (scanOf isNoSpace text at)
 
@@ -199,7 +199,7 @@ module _ (text : List ℕ) (at : ℕ) {next : Lookahead} (asked : next ≡ looka
   close-next = goes-next
 
   -- where a run begins, the token is the longest run from there
-  pub run-next : {start : ℕ} → next ≡ RunNext start → tokenAt text at ≡ longestRun text start
+  run-next : {start : ℕ} → next ≡ RunNext start → tokenAt text at ≡ longestRun text start
   unfolding tokenAt tokenFrom lookaheadAt lookaheadFrom
   run-next {start} known =
       let here = scanOf isNoSpace text at in
@@ -272,9 +272,6 @@ module _ (text : List ℕ) (at : ℕ) {next : Lookahead} (asked : next ≡ looka
 
     pub word-known : {start end : ℕ} → token ≡ Word start end → tokenAt text at ≡ Word start end
     word-known found = as-word-known (tokenAt text at) (sym word-next ∙ found)
-
-    pub word-bytes : {start end : ℕ} → token ≡ Word start end → (start ≤ end) × (end ≤ length text)
-    word-bytes found = word-within text at refl (word-known found)
 
     pub no-word-known : OneOf (0 ∷ 1 ∷ 2 ∷ 4 ∷ 5 ∷ 6 ∷ []) (tagOf token-type token)
         → eqb (tokenKind (tokenAt text at)) wordKind ≡ false

@@ -4,14 +4,16 @@ mod bytes;
 pub mod decimal;
 mod limits;
 pub mod runs;
-pub mod scan;
+mod scan;
 
+use scan::skip_indent;
 use scan::skip_spaces;
 ghost use mathlib.Core.Path.{_≡_};
 ghost use Rattle.lexer.specs.Lookaheads.{lookaheadAt, lookaheadFrom, lookaheadStart};
 
-// What stands next in a line. `start` is the offset of the token's first byte and `end` the offset
-// past its last.
+// A token of a line. `start` is the offset of its first byte and `end` the offset past its last.
+// The definition of a text's tokens has every kind. The code makes words, numbers and `Other`
+// alone: a bracket or a line's end is answered as a lookahead.
 pub enum Token {
     // no token is left in the line; the offset of its LF, or the text's length
     LineEnd(usize),
@@ -33,7 +35,8 @@ pub enum Token {
         start: usize,
         end: usize,
     },
-    // a run that is neither a word nor a number
+    // a run that is neither a word nor a number. The code also answers it where one of the two is
+    // due and a run of the other kind stands. It does not look for the run's end: `end` is `start`.
     Other {
         start: usize,
         end: usize,
@@ -117,4 +120,12 @@ pub fn lookahead_at(text: &[u8], at: usize) -> Lookahead
 {
     let mut reader = Reader { text, at };
     reader.next()
+}
+
+// What stands first in the line that begins at `at`: the spaces before it are passed over first.
+pub fn first_in_line(text: &[u8], at: usize) -> Lookahead
+    ensures { λ r. ⌜ r ≡ lookaheadAt (now (text .entry)) at ⌝ }
+{
+    let first = skip_indent(text, at);
+    lookahead_at(text, first)
 }

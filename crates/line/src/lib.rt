@@ -11,9 +11,8 @@ use forms::pad_and_run::pad_form;
 use forms::pad_and_run::run_form;
 use forms::windows::window_form;
 use lexer::Lookahead;
-use lexer::lookahead_at;
+use lexer::first_in_line;
 use lexer::lookahead_start;
-use lexer::scan::skip_indent;
 use refusal::Refusal;
 use syntax::KeywordParse;
 use syntax::TokenParse;
@@ -81,8 +80,7 @@ fn form_head(text: &[u8], bracket: usize) -> Head
 pub fn head_at(text: &[u8], at: usize) -> Head
     ensures { λ r. ⌜ r ≡ headAt (now (text .entry)) at ⌝ }
 {
-    let first = skip_indent(text, at);
-    let next = lookahead_at(text, first);
+    let next = first_in_line(text, at);
     if let Lookahead::LineEnd(end) = next {
         return Head::Plain(PlainHead::Blank(end));
     }

@@ -7,4 +7,5 @@ pub mod NewBit
 pub mod NumberDue
 pub mod PastOp
 pub mod WhichWord
+pub mod WordDue
 pub mod Words

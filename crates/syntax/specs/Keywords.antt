@@ -48,5 +48,17 @@ fiveWords first second third fourth fifth =
     ∷ record { word = fifth; follow = Fifth }
     ∷ []
 
+-- the words of the ops, in the order of `opKeywords` of Ops
+abbrev pub opWords : List (Keyword KeywordParse)
+opWords =
+    fiveWords (bytesOf "read") (bytesOf "write") (bytesOf "send") (bytesOf "receive")
+    (bytesOf "compute")
+
+-- the words of the forms, in the order of `formKeywords` of crate line
+abbrev pub formWords : List (Keyword KeywordParse)
+formWords =
+    fiveWords (bytesOf "pad") (bytesOf "run") (bytesOf "domain") (bytesOf "window") (bytesOf "op")
+
+-- which of them the next token is
 unfoldable pub keywordAt : List (Keyword KeywordParse) → List ℕ → ℕ → KeywordParse
 keywordAt keywords text at = oneOf keywords text at RefusedKeyword

@@ -12,6 +12,8 @@ use Rattle.lexer.specs.Tokens.{closeKind, lineEndKind, longNumberKind, numberKi
 use Rattle.lexer.specs.Tokens.{tokenAt, tokenEnd, tokenKind, tokenStart, tokenValue, wordKind}
 use Rattle.syntax.specs.declared.TokenParse.{TokenParse}
 use Rattle.syntax.specs.declared.TokenParse.the-variants.{To, Refused}
+use Rattle.syntax.specs.declared.WordParse.{WordParse}
+use Rattle.syntax.specs.declared.WordParse.the-variants.{Word, Refused as RefusedWord}
 use Rattle.syntax.specs.declared.NumberParse.{NumberParse}
 use Rattle.syntax.specs.declared.NumberParse.the-variants.{Number as Is}
 use Rattle.syntax.specs.declared.NumberParse.the-variants.{Refused as RefusedNumber}
@@ -45,6 +47,10 @@ sameBytes (a ∷ as₀) (b ∷ bs) = eqb a b && sameBytes as₀ bs
 -- the bytes of a text from one offset up to another are this word's
 unfoldable pub isWord : List ℕ → ℕ → ℕ → List ℕ → Bool
 isWord text start end word = sameBytes (part start (end - start) text) word
+
+-- a word is due, whichever it is: what the code finds first
+unfoldable pub wordAt : List ℕ → ℕ → WordParse
+wordAt text at = due wordKind (tokenAt text at) RefusedWord Word
 
 -- this word is due
 unfoldable pub passWord : List ℕ → List ℕ → ℕ → TokenParse

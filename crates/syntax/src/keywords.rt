@@ -1,27 +1,20 @@
-// A word that is one of five. How many letters it has is looked at first: few words have as many.
+// A word that is one of five. How many letters it has is looked at first: at most two of the five
+// are as long.
 use crate::KeywordParse;
+use crate::WordParse;
 use crate::tokens::is_word;
-use lexer::Lookahead;
-use lexer::Token;
-use lexer::lookahead_at;
-use lexer::lookahead_start;
-use lexer::runs::word_from;
+use crate::tokens::word_at;
 use refusal::Refusal;
 ghost use mathlib.Core.Path.{_≡_};
 ghost use Prim.Native.Nat.{_≤_};
 ghost use lib.ListN.{length};
-ghost use Rattle.lists.specs.Ascii.{bytesOf};
 ghost use Rattle.syntax.specs.declared.KeywordParse.the-variants.{Refused as RefusedKeyword};
-ghost use Rattle.syntax.specs.Keywords.{fiveWords, follows, keywordAt};
+ghost use Rattle.syntax.specs.Keywords.{follows, formWords, keywordAt, opWords};
 
 // Which op's word stands from `start` up to `end`.
 fn op_word(text: &[u8], start: usize, end: usize) -> KeywordParse
     requires { ⌜ (start ≤ end) × (end ≤ length (now text)) ⌝ }
-    ensures { λ r.
-        ⌜ r ≡ follows
-        (fiveWords (bytesOf "read") (bytesOf "write") (bytesOf "send")
-        (bytesOf "receive") (bytesOf "compute"))
-        (now (text .entry)) start end RefusedKeyword ⌝ }
+    ensures { λ r. ⌜ r ≡ follows opWords (now (text .entry)) start end RefusedKeyword ⌝ }
 {
     let letters = end - start;
     if letters == b"read".len() {
@@ -51,11 +44,7 @@ fn op_word(text: &[u8], start: usize, end: usize) -> KeywordParse
 // Which form's word stands from `start` up to `end`.
 fn form_word(text: &[u8], start: usize, end: usize) -> KeywordParse
     requires { ⌜ (start ≤ end) × (end ≤ length (now text)) ⌝ }
-    ensures { λ r.
-        ⌜ r ≡ follows
-        (fiveWords (bytesOf "pad") (bytesOf "run") (bytesOf "domain")
-        (bytesOf "window") (bytesOf "op"))
-        (now (text .entry)) start end RefusedKeyword ⌝ }
+    ensures { λ r. ⌜ r ≡ follows formWords (now (text .entry)) start end RefusedKeyword ⌝ }
 {
     let letters = end - start;
     if letters == b"op".len() {
@@ -84,38 +73,22 @@ fn form_word(text: &[u8], start: usize, end: usize) -> KeywordParse
 
 // The word of an op was due.
 pub fn op_keyword_at(text: &[u8], at: usize) -> KeywordParse
-    ensures { λ r.
-        ⌜ r ≡ keywordAt
-        (fiveWords (bytesOf "read") (bytesOf "write") (bytesOf "send")
-        (bytesOf "receive") (bytesOf "compute"))
-        (now (text .entry)) at ⌝ }
+    ensures { λ r. ⌜ r ≡ keywordAt opWords (now (text .entry)) at ⌝ }
 {
-    let next = lookahead_at(text, at);
-    let Lookahead::Run(first) = next else {
-        return KeywordParse::Refused(Refusal::BrokenShape(lookahead_start(next)));
-    };
-    let token = word_from(text, first);
-    let Token::Word { start, end } = token else {
-        return KeywordParse::Refused(Refusal::BrokenShape(first));
-    };
-    op_word(text, start, end)
+    let found = word_at(text, at);
+    match found {
+        WordParse::Refused(refusal) => KeywordParse::Refused(refusal),
+        WordParse::Word { start, end } => op_word(text, start, end),
+    }
 }
 
 // The word of a form was due.
 pub fn form_keyword_at(text: &[u8], at: usize) -> KeywordParse
-    ensures { λ r.
-        ⌜ r ≡ keywordAt
-        (fiveWords (bytesOf "pad") (bytesOf "run") (bytesOf "domain")
-        (bytesOf "window") (bytesOf "op"))
-        (now (text .entry)) at ⌝ }
+    ensures { λ r. ⌜ r ≡ keywordAt formWords (now (text .entry)) at ⌝ }
 {
-    let next = lookahead_at(text, at);
-    let Lookahead::Run(first) = next else {
-        return KeywordParse::Refused(Refusal::BrokenShape(lookahead_start(next)));
-    };
-    let token = word_from(text, first);
-    let Token::Word { start, end } = token else {
-        return KeywordParse::Refused(Refusal::BrokenShape(first));
-    };
-    form_word(text, start, end)
+    let found = word_at(text, at);
+    match found {
+        WordParse::Refused(refusal) => KeywordParse::Refused(refusal),
+        WordParse::Word { start, end } => form_word(text, start, end),
+    }
 }

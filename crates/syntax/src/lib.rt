@@ -26,6 +26,12 @@ pub enum NumberParse {
     Refused(Refusal),
 }
 
+// A word was due: the offset of its first byte and the offset past its last, or the refusal.
+enum WordParse {
+    Word { start: usize, end: usize },
+    Refused(Refusal),
+}
+
 // One of five words was due: which it is, and the offset past it, or the refusal.
 pub enum KeywordParse {
     First(usize),

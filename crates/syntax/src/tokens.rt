@@ -1,6 +1,7 @@
 // What is due is taken from the next token, or the line is refused.
 use crate::NumberParse;
 use crate::TokenParse;
+use crate::WordParse;
 use lexer::Lookahead;
 use lexer::Token;
 use lexer::lookahead_at;
@@ -12,7 +13,7 @@ ghost use mathlib.Core.Path.{_≡_};
 ghost use Prim.Native.Nat.{_≤_};
 ghost use lib.ListN.{length};
 ghost use Rattle.syntax.specs.Tokens.{isWord, passClose, passLineEnd, passOpen, passWord};
-ghost use Rattle.syntax.specs.Tokens.{sameBytes, takeNumber};
+ghost use Rattle.syntax.specs.Tokens.{sameBytes, takeNumber, wordAt};
 
 // Whether two runs of bytes are equal.
 fn same_bytes(a: &[u8], b: &[u8]) -> bool
@@ -72,22 +73,35 @@ pub fn pass_line_end(text: &[u8], at: usize) -> TokenParse
     TokenParse::To(end)
 }
 
+// A word was due.
+pub fn word_at(text: &[u8], at: usize) -> WordParse
+    ensures { λ r. ⌜ r ≡ wordAt (now (text .entry)) at ⌝ }
+{
+    let next = lookahead_at(text, at);
+    let Lookahead::Run(first) = next else {
+        return WordParse::Refused(Refusal::BrokenShape(lookahead_start(next)));
+    };
+    let token = word_from(text, first);
+    let Token::Word { start, end } = token else {
+        return WordParse::Refused(Refusal::BrokenShape(first));
+    };
+    WordParse::Word { start, end }
+}
+
 // This word was due.
 pub fn pass_word(text: &[u8], word: &[u8], at: usize) -> TokenParse
     ensures { λ r. ⌜ r ≡ passWord (now (text .entry)) (now (word .entry)) at ⌝ }
 {
-    let next = lookahead_at(text, at);
-    let Lookahead::Run(first) = next else {
-        return TokenParse::Refused(Refusal::BrokenShape(lookahead_start(next)));
-    };
-    let token = word_from(text, first);
-    let Token::Word { start, end } = token else {
-        return TokenParse::Refused(Refusal::BrokenShape(first));
-    };
-    if is_word(text, start, end, word) {
-        TokenParse::To(end)
-    } else {
-        TokenParse::Refused(Refusal::BrokenShape(start))
+    let found = word_at(text, at);
+    match found {
+        WordParse::Refused(refusal) => TokenParse::Refused(refusal),
+        WordParse::Word { start, end } => {
+            if is_word(text, start, end, word) {
+                TokenParse::To(end)
+            } else {
+                TokenParse::Refused(Refusal::BrokenShape(start))
+            }
+        }
     }
 }
 

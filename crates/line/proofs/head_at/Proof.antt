@@ -1,9 +1,8 @@
 -- `line::head_at` meets its contract. Assumes nothing.
 use native.Mathlib.Omega.{arith}
-use mathlib.Core.Path.{refl, _∙_}
+use mathlib.Core.Path.{refl}
 use borrow.Author.Needs.{needs}
-use Rattle.lexer.proofs.Lookaheads.{end-next, no-end-next, no-open-next, open-next, past-indent}
-use Rattle.lexer.proofs.Lookaheads.{start-next}
+use Rattle.lexer.proofs.Lookaheads.{end-next, no-end-next, no-open-next, open-next, start-next}
 use Rattle.lexer.proofs.Reached.{reached}
 use Rattle.line.specs.Heads.{headAt}
 use Rattle.line.proofs.head_at.Statement.{statement}
@@ -12,15 +11,13 @@ use Rattle.line.proofs.head_at.Tie as tie
 returns : tie.Need-returns
 unfolding headAt
 returns c =
-    let asked = c .before .before .before .lookahead-at .ensures
-    ∙ past-indent _ _ _ (c .before .before .before .before .skip-indent .ensures) in
-    simp (end-next _ _ asked (c .before .next .given .1))
+    simp (end-next _ _ (c .before .before .before .first-in-line .ensures)
+    (c .before .next .given .1))
 
 returns-2 : tie.Need-returns-2
 unfolding headAt
 returns-2 c =
-    let asked = c .before .before .before .lookahead-at .ensures
-    ∙ past-indent _ _ _ (c .before .before .before .before .skip-indent .ensures) in
+    let asked = c .before .before .before .first-in-line .ensures in
     simp (
       no-end-next _ _ asked (c .before .before .match .keys2),
       no-open-next _ _ asked (c .before .match2 .keys2),
@@ -29,18 +26,17 @@ returns-2 c =
 
 form-head-requires : tie.Need-form-head-requires
 form-head-requires c κs =
-    let asked = c .before .before .before .before .lookahead-at .ensures in
+    let asked = c .before .before .before .before .first-in-line .ensures in
     omega (arith, reached _ _ refl (open-next _ _ asked (c .before .next2 .given .1)))
 
 returns-3 : tie.Need-returns-3
 unfolding headAt
 returns-3 c =
-    let asked = c .before .before .before .before .before .lookahead-at .ensures
-    ∙ past-indent _ _ _ (c .before .before .before .before .before .before .skip-indent .ensures) in
+    let asked = c .before .before .before .before .before .first-in-line .ensures in
     simp (open-next _ _ asked (c .before .before .next2 .given .1), ← (c .form-head .ensures))
 
 pub head-at-spec : {M : Type 1} → statement M
 head-at-spec =
     tie.close
-    (tie.spec (λ c κs. tt) (λ c κs. tt) (λ c. search needs) returns (λ c. search needs) (λ c κs. tt)
-    returns-2 form-head-requires returns-3)
+    (tie.spec (λ c κs. tt) (λ c. search needs) returns (λ c. search needs) (λ c κs. tt) returns-2
+    form-head-requires returns-3)

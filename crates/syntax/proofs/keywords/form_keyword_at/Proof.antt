@@ -1,52 +1,31 @@
 -- `syntax::keywords::form_keyword_at` meets its contract. Assumes nothing.
-use mathlib.Core.Path.{sym, ap}
 use borrow.Author.Needs.{needs}
-use Rattle.lexer.specs.Lookaheads.{lookaheadStart}
-use Rattle.lexer.proofs.Lookaheads.{no-word-known, no-word-next, start-next, word-bytes, word-known}
 use Rattle.syntax.specs.Keywords.{keywordAt}
+use Rattle.syntax.proofs.WordDue.{word-bytes, word-found, word-refused}
 use Rattle.syntax.proofs.keywords.form_keyword_at.Statement.{statement}
 use Rattle.syntax.proofs.keywords.form_keyword_at.Tie as tie
 
 returns : tie.Need-returns
 unfolding keywordAt
 returns c =
-    simp (
-      no-word-next _ _ (c .before .before .lookahead-at .ensures) (c .before .match .keys2),
-      ← (start-next _ _ (c .before .before .lookahead-at .ensures) (c .lookahead-start .ensures)),
-    )
+    let none = word-refused _ _ (c .before .before .before .word-at .ensures)
+    (c .before .found .given .1) in
+    simp (none .other, ← (none .told))
+
+form-word-requires : tie.Need-form-word-requires
+form-word-requires c κs =
+    word-bytes _ _ (c .before .before .before .word-at .ensures) (c .before .found2 .given .1)
 
 returns-2 : tie.Need-returns-2
 unfolding keywordAt
 returns-2 c =
-    let asked = c .before .before .before .before .before .lookahead-at .ensures in
-    let known = c .before .before .before .next .given .1 in
     simp (
-      no-word-known _ _ asked known (c .before .word-from .ensures) (c .match2 .keys2),
-      ← (start-next _ _ asked (sym (ap lookaheadStart known))),
-    )
-
-form-word-requires : tie.Need-form-word-requires
-form-word-requires c κs =
-    word-bytes _ _
-    (c .before .before .before .before .before .before .before .lookahead-at .ensures)
-    (c .before .before .before .before .before .next .given .1)
-    (c .before .before .before .word-from .ensures) (c .before .token .given .1)
-
-returns-3 : tie.Need-returns-3
-unfolding keywordAt
-returns-3 c =
-    simp (
-      word-known _ _
-          (c .before .before .before .before .before .before .before .before .lookahead-at .ensures)
-          (c .before .before .before .before .before .before .next .given .1)
-          (c .before .before .before .before .word-from .ensures)
-          (c .before .before .token .given .1),
+      word-found _ _ (c .before .before .before .before .word-at .ensures)
+          (c .before .before .found2 .given .1),
       ← (c .form-word .ensures),
     )
 
 pub form-keyword-at-spec : {M : Type 1} → statement M
 form-keyword-at-spec =
     tie.close
-    (tie.spec (λ c κs. tt) (λ c. search needs) (λ c κs. tt) returns (λ c κs. tt) (λ c. search needs)
-    returns-2
-    form-word-requires returns-3)
+    (tie.spec (λ c κs. tt) (λ c. search needs) (λ c. search needs) form-word-requires returns returns-2)

@@ -1,61 +1,37 @@
 -- `syntax::tokens::pass_word` meets its contract. Assumes nothing.
-use mathlib.Core.Path.{sym, ap}
 use borrow.Author.Needs.{needs}
-use Rattle.lexer.specs.Lookaheads.{lookaheadStart}
-use Rattle.lexer.proofs.Lookaheads.{no-word-known, no-word-next, start-next, word-bytes, word-known}
 use Rattle.syntax.specs.Tokens.{passWord}
+use Rattle.syntax.proofs.WordDue.{word-bytes, word-found, word-refused}
 use Rattle.syntax.proofs.tokens.pass_word.Statement.{statement}
 use Rattle.syntax.proofs.tokens.pass_word.Tie as tie
+
+is-word-requires : tie.Need-is-word-requires
+is-word-requires c κs =
+    word-bytes _ _ (c .before .before .before .word-at .ensures) (c .before .found2 .given .1)
 
 returns : tie.Need-returns
 unfolding passWord
 returns c =
-    simp (
-      no-word-next _ _ (c .before .before .lookahead-at .ensures) (c .before .match .keys2),
-      ← (start-next _ _ (c .before .before .lookahead-at .ensures) (c .lookahead-start .ensures)),
-    )
+    let none = word-refused _ _ (c .before .before .before .word-at .ensures)
+    (c .before .found .given .1) in
+    simp (none .other, ← (none .told))
 
 returns-2 : tie.Need-returns-2
 unfolding passWord
 returns-2 c =
-    let asked = c .before .before .before .before .before .lookahead-at .ensures in
-    let known = c .before .before .before .next .given .1 in
     simp (
-      no-word-known _ _ asked known (c .before .word-from .ensures) (c .match2 .keys2),
-      ← (start-next _ _ asked (sym (ap lookaheadStart known))),
+      word-found _ _ (c .before .before .before .before .before .word-at .ensures)
+          (c .before .before .before .found2 .given .1),
+      ← (c .before .is-word .ensures),
+      c .if1 .taken,
     )
-
-is-word-requires : tie.Need-is-word-requires
-is-word-requires c κs =
-    word-bytes _ _
-    (c .before .before .before .before .before .before .before .lookahead-at .ensures)
-    (c .before .before .before .before .before .next .given .1)
-    (c .before .before .before .word-from .ensures) (c .before .token .given .1)
 
 returns-3 : tie.Need-returns-3
 unfolding passWord
 returns-3 c =
     simp (
-      word-known _ _
-          (c .before .before .before .before .before .before .before .before .before .lookahead-at
-          .ensures)
-          (c .before .before .before .before .before .before .before .next .given .1)
-          (c .before .before .before .before .before .word-from .ensures)
-          (c .before .before .before .token .given .1),
-      ← (c .before .is-word .ensures),
-      c .if1 .taken,
-    )
-
-returns-4 : tie.Need-returns-4
-unfolding passWord
-returns-4 c =
-    simp (
-      word-known _ _
-          (c .before .before .before .before .before .before .before .before .before .lookahead-at
-          .ensures)
-          (c .before .before .before .before .before .before .before .next .given .1)
-          (c .before .before .before .before .before .word-from .ensures)
-          (c .before .before .before .token .given .1),
+      word-found _ _ (c .before .before .before .before .before .word-at .ensures)
+          (c .before .before .before .found2 .given .1),
       ← (c .before .is-word .ensures),
       c .if1 .left,
     )
@@ -63,6 +39,5 @@ returns-4 c =
 pub pass-word-spec : {M : Type 1} → statement M
 pass-word-spec =
     tie.close
-    (tie.spec (λ c κs. tt) (λ c. search needs) (λ c κs. tt) returns (λ c κs. tt) (λ c. search needs)
-    returns-2
-    is-word-requires returns-3 returns-4)
+    (tie.spec (λ c κs. tt) (λ c. search needs) (λ c. search needs) is-word-requires returns
+    returns-2 returns-3)
