@@ -7,7 +7,6 @@ use mathlib.Core.Path.{_≡_, refl, sym, subst, _∙_}
 use lib.Dec.{eqb}
 use denote.Enum.Declared.{tagOf}
 use types.Run.{OneOf, miss}
-use Rattle.lists.specs.Ascii.{bytesOf}
 use Rattle.forms.proofs.Form.{the-type}
 use Rattle.forms.specs.declared.Form.{Form}
 use Rattle.forms.specs.declared.Form.the-variants.{Blank, Pad, Run, Domain, Window}
@@ -31,7 +30,7 @@ use Rattle.syntax.specs.declared.OpParse.{OpParse}
 use Rattle.syntax.specs.declared.OpParse.the-variants.{Op as Is, Refused as RefusedOp}
 use Rattle.syntax.specs.Brackets.{bracketedOp}
 use Rattle.syntax.specs.Ops.{thenOp}
-use Rattle.syntax.specs.Keywords.{Keyword, fiveWords, keywordAt}
+use Rattle.syntax.specs.Keywords.{formWords, keywordAt}
 use Rattle.syntax.specs.Tokens.{passClose, passLineEnd, then, thenNumber}
 use Rattle.line.specs.declared.Head.the-variants.{Plain}
 use Rattle.line.specs.declared.Line.{Line}
@@ -45,13 +44,9 @@ module _ (text : List ℕ) (declared : ℕ) (named : List ℕ) where
   form-by-head : (bracket : ℕ)
       → formLine text declared named bracket ≡ headLine text declared named (formHead text bracket)
   unfolding formLine formKeywords formHead
-  form-by-head bracket = go (keywordAt words text (bracket + 1)) refl
+  form-by-head bracket = go (keywordAt formWords text (bracket + 1)) refl
     where
-      words : List (Keyword KeywordParse)
-      words =
-          fiveWords (bytesOf "pad") (bytesOf "run") (bytesOf "domain") (bytesOf "window") (bytesOf "op")
-
-      go : (keyword : KeywordParse) → keywordAt words text (bracket + 1) ≡ keyword
+      go : (keyword : KeywordParse) → keywordAt formWords text (bracket + 1) ≡ keyword
           → formLine text declared named bracket
           ≡ headLine text declared named (wordHead bracket keyword)
       go (First inside) is = sym (by-keyword _ _ _ _ _ _ _ _ refl is refl)

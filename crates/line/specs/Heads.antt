@@ -5,7 +5,6 @@ use Prim.Native.Nat.{ℕ, _+_}
 use mathlib.Core.Bool.{cond}
 use mathlib.Core.List.{List}
 use lib.Dec.{eqb}
-use Rattle.lists.specs.Ascii.{bytesOf}
 use Rattle.forms.specs.declared.Form.the-variants.{Blank, Op as Script}
 use Rattle.forms.specs.Forms.{domainForm, opForm, padForm, runForm, windowForm}
 use Rattle.syntax.specs.declared.KeywordParse.{KeywordParse}
@@ -13,7 +12,7 @@ use Rattle.syntax.specs.declared.KeywordParse.the-variants.{First, Second, Thir
 use Rattle.syntax.specs.declared.KeywordParse.the-variants.{Refused as RefusedKeyword}
 use Rattle.syntax.specs.declared.TokenParse.{TokenParse}
 use Rattle.syntax.specs.declared.TokenParse.the-variants.{Refused as RefusedToken}
-use Rattle.syntax.specs.Keywords.{fiveWords, keywordAt}
+use Rattle.syntax.specs.Keywords.{formWords, keywordAt}
 use Rattle.syntax.specs.Tokens.{due, passClose, passLineEnd, then}
 use Rattle.lexer.specs.declared.Token.{Token}
 use Rattle.lexer.specs.Tokens.{lineEndKind, openKind, tokenAt, tokenKind, tokenStart}
@@ -40,11 +39,7 @@ wordHead bracket (RefusedKeyword refusal) = Plain (Refused bracket refusal)
 
 -- past an opening bracket
 unfoldable pub formHead : List ℕ → ℕ → Head
-formHead text bracket =
-    wordHead bracket
-    (keywordAt
-    (fiveWords (bytesOf "pad") (bytesOf "run") (bytesOf "domain") (bytesOf "window") (bytesOf "op"))
-    text (bracket + 1))
+formHead text bracket = wordHead bracket (keywordAt formWords text (bracket + 1))
 
 -- by the line's first token
 abbrev pub tokenHead : List ℕ → Token → Head
