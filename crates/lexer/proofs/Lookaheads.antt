@@ -34,7 +34,7 @@ use Rattle.lexer.specs.Tokens.{tokenAt, tokenFrom, tokenKind, tokenStart
 
 -- ---- what a token shows by its first byte
 
-abbrev pub shown : Token → Lookahead
+abbrev shown : Token → Lookahead
 shown (LineEnd at) = EndNext at
 shown (Open at) = OpenNext at
 shown (Close at) = CloseNext at
@@ -74,9 +74,11 @@ from-shown text start =
   where
     go : (within feed opens closes : Bool)
         → shown (cond within (cond feed (LineEnd start)
-        (cond opens (Open start) (cond closes (Close start) (longestRun text start)))) (LineEnd start))
+        (cond opens (Open start) (cond closes (Close start) (longestRun text start))))
+        (LineEnd start))
         ≡ cond within (cond feed (EndNext start)
-        (cond opens (OpenNext start) (cond closes (CloseNext start) (RunNext start)))) (EndNext start)
+        (cond opens (OpenNext start) (cond closes (CloseNext start) (RunNext start))))
+        (EndNext start)
     go false feed opens closes = refl
     go true true opens closes = refl
     go true false true closes = refl
@@ -107,7 +109,7 @@ shown-start (Number start end value) = refl
 shown-start (LongNumber start end) = refl
 shown-start (Other start end) = refl
 
-pub next-start : (text : List ℕ) (at : ℕ)
+next-start : (text : List ℕ) (at : ℕ)
     → tokenStart (tokenAt text at) ≡ lookaheadStart (lookaheadAt text at)
 next-start text at = shown-start (tokenAt text at) ∙ ap lookaheadStart (token-shown text at)
 

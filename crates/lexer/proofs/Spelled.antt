@@ -31,7 +31,8 @@ pub digit-in-run : (byte : ℕ) → isDigit byte ≡ true → inRun byte ≡ tru
 digit-in-run byte digit = in-run byte (omega (arith, digit-least byte digit))
 
 -- a run of digits is no word
-pub digits-no-word : (run : List ℕ) → 0 < length run → allBytes isDigit run ≡ true → allBytes isLetter run ≡ false
+pub digits-no-word : (run : List ℕ) → 0 < length run → allBytes isDigit run ≡ true
+    → allBytes isLetter run ≡ false
 unfolding allBytes
 digits-no-word [] some digits = absurd (not-suc-le-zero some)
 digits-no-word (byte ∷ run) some digits =

@@ -21,8 +21,8 @@ pub fn skip_spaces(text: &[u8], at: usize) -> usize
     here
 }
 
-// The same at a line's beginning, where many spaces may stand: two are looked at in a turn. A loop of
-// one is so short that its time would hang on the address at which it happens to be linked.
+// The same at a line's beginning, where many spaces may stand: two are looked at in a turn. A loop
+// of one is so short that its time would hang on the address at which it happens to be linked.
 pub fn skip_indent(text: &[u8], at: usize) -> usize
     ensures { λ r. ⌜ r ≡ scanOf isNoSpace (now (text .entry)) at ⌝ }
 {

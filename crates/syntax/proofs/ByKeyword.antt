@@ -15,7 +15,7 @@ use Rattle.syntax.proofs.Choices.{choice-holds}
 use Rattle.syntax.specs.declared.KeywordParse.{KeywordParse}
 use Rattle.syntax.specs.declared.KeywordParse.the-variants.{First, Second, Third, Fourth, Fifth, Refused as RefusedKeyword}
 use Rattle.syntax.specs.Keywords.{Keyword, fiveWords, follows, keywordAt, oneOf}
-use Rattle.syntax.specs.Tokens.{due, isWord}
+use Rattle.syntax.specs.Tokens.{isWord}
 
 -- ---- what holds of each
 

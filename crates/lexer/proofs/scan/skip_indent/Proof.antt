@@ -1,5 +1,5 @@
--- `lexer::scan::skip_indent` meets its contract: from the offset reached the walk goes on as it would
--- from the first. Assumes nothing.
+-- `lexer::scan::skip_indent` meets its contract: from the offset reached the walk goes on as it
+-- would from the first. Assumes nothing.
 use Prim.Native.Nat.{_-_}
 use mathlib.Core.Path.{_≡_, refl, sym, _∙_}
 use lib.ListN.{length}
@@ -33,14 +33,16 @@ returns c =
 returns-2 : tie.Need-returns-2 Inv-loop μ-loop
 returns-2 c =
     sym (scan-here isNoSpace _ _ (search needs) (simp (ne-eqb _ _ (c .if3 .taken))))
-    ∙ scan-next isNoSpace _ _ (search needs) (simp (eq-eqb _ _ (c .before .before .before .if1 .left)))
+    ∙ scan-next isNoSpace _ _ (search needs)
+    (simp (eq-eqb _ _ (c .before .before .before .if1 .left)))
     ∙ c .before .before .before .before .before .before .loop .inv
 
 -- both were spaces
 loop-again : tie.Need-loop-again Inv-loop μ-loop
 loop-again c =
     scan-next isNoSpace _ _ (search needs) (simp (eq-eqb _ _ (c .if3 .left)))
-    ∙ scan-next isNoSpace _ _ (search needs) (simp (eq-eqb _ _ (c .before .before .before .if1 .left)))
+    ∙ scan-next isNoSpace _ _ (search needs)
+    (simp (eq-eqb _ _ (c .before .before .before .if1 .left)))
     ∙ c .before .before .before .before .before .before .loop .inv
 
 returns-3 : tie.Need-returns-3 Inv-loop μ-loop

@@ -28,4 +28,5 @@ returns-2 c =
 pub form-keyword-at-spec : {M : Type 1} → statement M
 form-keyword-at-spec =
     tie.close
-    (tie.spec (λ c κs. tt) (λ c. search needs) (λ c. search needs) form-word-requires returns returns-2)
+    (tie.spec (λ c κs. tt) (λ c. search needs) (λ c. search needs) form-word-requires returns
+    returns-2)

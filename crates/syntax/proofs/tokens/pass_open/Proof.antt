@@ -18,11 +18,8 @@ returns c =
 
 add-t7 : tie.Need-add-t7
 add-t7 c =
-    omega (
-      arith,
-      reached _ _ refl
-          (open-next _ _ (c .before .before .before .lookahead-at .ensures) (c .before .next .given .1)),
-    )
+    let asked = c .before .before .before .lookahead-at .ensures in
+    omega (arith, reached _ _ refl (open-next _ _ asked (c .before .next .given .1)))
 
 returns-2 : tie.Need-returns-2
 unfolding passOpen

@@ -37,5 +37,4 @@ pub word-at-spec : {M : Type 1} → statement M
 word-at-spec =
     tie.close
     (tie.spec (λ c κs. tt) (λ c. search needs) (λ c κs. tt) returns (λ c κs. tt) (λ c. search needs)
-    returns-2
-    returns-3)
+    returns-2 returns-3)
