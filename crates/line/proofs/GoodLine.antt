@@ -6,7 +6,8 @@ use mathlib.Core.List.{List, []}
 use mathlib.Core.Path.{_≡_, sym, subst, ap, _∙_}
 use lib.Dec.{eqb}
 use lib.ListN.{length}
-use Rattle.forms.proofs.GoodForm.{Good, GoodForm, domain-good, op-good, pad-good, run-good, window-good}
+use Rattle.forms.proofs.GoodForm.{Good, GoodForm}
+use Rattle.forms.proofs.GoodForm.{domain-good, op-good, pad-good, run-good, window-good}
 use Rattle.forms.specs.declared.Form.{Form}
 use Rattle.forms.specs.declared.Form.the-variants.{Blank, Pad, Run, Domain, Window, Op as Script, Refused as NoForm}
 use Rattle.forms.specs.declared.FormParse.{FormParse}
@@ -18,11 +19,10 @@ use Rattle.syntax.proofs.Advance.{due-holds, then-close, then-line-end}
 use Rattle.syntax.proofs.ByKeyword.{one-of-holds}
 use Rattle.lexer.proofs.Reached.{cond-holds, token-bounds}
 use Rattle.lexer.specs.Tokens.{lineEndKind, openKind, tokenAt, tokenKind, tokenStart}
-use Rattle.line.specs.declared.Head.the-variants.{Op}
 use Rattle.line.specs.declared.Line.{Line}
 use Rattle.line.specs.declared.OpLineParse.{OpLineParse}
 use Rattle.line.specs.declared.OpLineParse.the-variants.{Op as TookOp}
-use Rattle.line.specs.Heads.{lineOf, opLineWith}
+use Rattle.line.specs.Heads.{opLineOf, opLineWith}
 use Rattle.line.specs.Lines.{closedLine, notedLine, formKeywords, formLine, lineAt, lineWith, refusedLine}
 
 pub record GoodLine (text : List ℕ) (declared : ℕ) (named : List ℕ) (at : ℕ) (line : Line) : Type 0 where
@@ -84,9 +84,13 @@ module _ (text : List ℕ) (declared : ℕ) (named : List ℕ) (at : ℕ) where
       λ bracket inside least order ends. form-good bracket eight (omega arith))
 
 -- the domain of an op line that was read apart is declared
-pub op-declared : (text : List ℕ) (declared inside : ℕ) {parse : OpLineParse} {line : OpLine} {end : ℕ}
-    → ((bracket : ℕ) (named : List ℕ) → opLineWith bracket named parse ≡ lineOf text declared named (Op bracket inside))
+pub op-declared : (text : List ℕ) (declared inside : ℕ) {parse : OpLineParse} {line : OpLine}
+    {end : ℕ}
+    → ((bracket : ℕ) (named : List ℕ)
+    → opLineWith bracket named parse ≡ opLineOf text declared named bracket inside)
     → parse ≡ TookOp line end → line .domain < declared
 op-declared text declared inside {parse} {line} {end} read known =
-    subst (GoodLine text declared [] inside) (sym (read inside []) ∙ ap (opLineWith inside []) known)
-    (closed-good text declared [] inside inside [] _ (op-good text declared [] inside inside (omega arith))) .form .0
+    let good = op-good text declared [] inside inside (omega arith) in
+    subst (GoodLine text declared [] inside)
+    (sym (read inside []) ∙ ap (opLineWith inside []) known)
+    (closed-good text declared [] inside inside [] _ good) .form .0

@@ -22,7 +22,7 @@ use syntax::tokens::pass_line_end;
 ghost use mathlib.Core.List.{List};
 ghost use mathlib.Core.Path.{_≡_};
 ghost use Prim.Native.Nat.{ℕ, _+_, _^_, _<_};
-ghost use Rattle.line.specs.Heads.{closedEnd, formHead, headAt, lineOf, opLineWith};
+ghost use Rattle.line.specs.Heads.{closedEnd, formHead, headAt, lineOf, opLineOf, opLineWith};
 ghost use Rattle.line.specs.Lines.{closedLine, notedLine, refusedLine};
 
 // A line's form, the offset of its first bracket, and the offset of its end.
@@ -34,8 +34,15 @@ pub struct Line {
     pub named: [usize; 8],
 }
 
-// The beginning of a line, up to the word that opens its form.
+// The beginning of a line, up to the word that opens its form: an op's apart from the others.
 pub enum Head {
+    // the offset of the opening bracket, and that past the word
+    Op { bracket: usize, inside: usize },
+    Plain(PlainHead),
+}
+
+// The beginning of a line that opens no op.
+pub enum PlainHead {
     // a line without a token, and the offset of its end
     Blank(usize),
     // no form is opened: the offset of the line's first token, and the refusal
@@ -45,7 +52,6 @@ pub enum Head {
     Run { bracket: usize, inside: usize },
     Domain { bracket: usize, inside: usize },
     Window { bracket: usize, inside: usize },
-    Op { bracket: usize, inside: usize },
 }
 
 // An op line past its word: what it says and the offset of its end, or the refusal.
@@ -61,12 +67,12 @@ fn form_head(text: &[u8], bracket: usize) -> Head
 {
     let keyword = form_keyword_at(text, bracket + 1);
     match keyword {
-        KeywordParse::First(inside) => Head::Pad { bracket, inside },
-        KeywordParse::Second(inside) => Head::Run { bracket, inside },
-        KeywordParse::Third(inside) => Head::Domain { bracket, inside },
-        KeywordParse::Fourth(inside) => Head::Window { bracket, inside },
+        KeywordParse::First(inside) => Head::Plain(PlainHead::Pad { bracket, inside }),
+        KeywordParse::Second(inside) => Head::Plain(PlainHead::Run { bracket, inside }),
+        KeywordParse::Third(inside) => Head::Plain(PlainHead::Domain { bracket, inside }),
+        KeywordParse::Fourth(inside) => Head::Plain(PlainHead::Window { bracket, inside }),
         KeywordParse::Fifth(inside) => Head::Op { bracket, inside },
-        KeywordParse::Refused(refusal) => Head::Refused { bracket, refusal },
+        KeywordParse::Refused(refusal) => Head::Plain(PlainHead::Refused { bracket, refusal }),
     }
 }
 
@@ -76,14 +82,14 @@ pub fn head_at(text: &[u8], at: usize) -> Head
 {
     let next = first_in_line(text, at);
     if let Lookahead::LineEnd(end) = next {
-        return Head::Blank(end);
+        return Head::Plain(PlainHead::Blank(end));
     }
     let Lookahead::Open(bracket) = next else {
         let start = lookahead_start(next);
-        return Head::Refused {
+        return Head::Plain(PlainHead::Refused {
             bracket: start,
             refusal: Refusal::BrokenShape(start),
-        };
+        });
     };
     form_head(text, bracket)
 }
@@ -104,7 +110,7 @@ fn closed_end(text: &[u8], at: usize) -> TokenParse
 pub fn op_line(text: &[u8], declared: u32, inside: usize) -> OpLineParse
     ensures { λ r. ⌜ ((bracket : ℕ) (named : List ℕ)
         → opLineWith bracket named r
-        ≡ lineOf (now (text .entry)) declared named (Head.Op bracket inside)) ⌝ }
+        ≡ opLineOf (now (text .entry)) declared named bracket inside) ⌝ }
 {
     let parse = op_form(text, declared, inside);
     match parse {
@@ -168,33 +174,28 @@ fn noted_line(text: &[u8], bracket: usize, domain: DomainParse) -> Line
 }
 
 // The line of a beginning that opens no op, with `declared` domains above it.
-pub fn line_of(text: &[u8], declared: u32, named: [usize; 8], head: Head) -> Line
-    requires { ⌜ ((bracket inside : ℕ) → head ≡ Head.Op bracket inside → ⊥) ⌝ }
+pub fn line_of(text: &[u8], declared: u32, named: [usize; 8], head: PlainHead) -> Line
     ensures { λ r. ⌜ r ≡ lineOf (now (text .entry)) declared named head ⌝ }
 {
     match head {
-        Head::Blank(end) => Line {
+        PlainHead::Blank(end) => Line {
             form: Form::Blank,
             bracket: end,
             end,
             named,
         },
-        Head::Pad { bracket, inside } => {
+        PlainHead::Pad { bracket, inside } => {
             closed_line(text, bracket, named, pad_form(text, inside))
         }
-        Head::Run { bracket, inside } => {
+        PlainHead::Run { bracket, inside } => {
             closed_line(text, bracket, named, run_form(text, inside))
         }
-        Head::Domain { bracket, inside } => {
+        PlainHead::Domain { bracket, inside } => {
             noted_line(text, bracket, domain_form(text, declared, named, inside))
         }
-        Head::Window { bracket, inside } => {
+        PlainHead::Window { bracket, inside } => {
             closed_line(text, bracket, named, window_form(text, declared, inside))
         }
-        // never: `op_line` reads an op, so any answer would do
-        Head::Op { bracket, inside } => {
-            refused_line(bracket, named, Refusal::BrokenShape(inside))
-        }
-        Head::Refused { bracket, refusal } => refused_line(bracket, named, refusal),
+        PlainHead::Refused { bracket, refusal } => refused_line(bracket, named, refusal),
     }
 }

@@ -1,5 +1,5 @@
 pub mod Accepted
-pub mod Apart
+pub mod DraftParts
 pub mod Filling
 pub mod GoodDraft
 pub mod HighBits

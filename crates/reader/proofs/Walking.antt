@@ -14,11 +14,12 @@ use Rattle.forms.specs.declared.DomainLine.{DomainLine}
 use Rattle.forms.specs.declared.WindowLine.{WindowLine}
 use Rattle.line.proofs.GoodLine.{GoodLine, line-good}
 use Rattle.line.proofs.Heads.{line-by-head}
-use Rattle.line.proofs.Plain.{Plain, PlainLine, plain-line}
+use Rattle.line.proofs.Plain.{IsPlain, PlainLine, plain-line}
 use Rattle.line.specs.declared.Head.{Head}
-use Rattle.line.specs.declared.Head.the-variants.{Op}
+use Rattle.line.specs.declared.Head.the-variants.{Op, Plain}
 use Rattle.line.specs.declared.Line.{Line}
-use Rattle.line.specs.Heads.{headAt, lineOf}
+use Rattle.line.specs.declared.PlainHead.{PlainHead}
+use Rattle.line.specs.Heads.{headAt, headLine, lineOf, opLineOf}
 use Rattle.refusal.proofs.Passed.{not-refused}
 use Rattle.refusal.specs.declared.Refusal.{Refusal}
 use Rattle.refusal.specs.declared.Verdict.{Verdict}
@@ -27,12 +28,13 @@ use Rattle.plan.specs.Limits.{mostDomains, mostWindows}
 use Rattle.syntax.specs.declared.TokenParse.{TokenParse}
 use Rattle.syntax.specs.declared.TokenParse.the-variants.{To, Refused as RefusedToken}
 use Rattle.script.specs.Limits.{scriptsLength}
-use Rattle.reader.proofs.Apart.{plain-refused, plain-taken, window-room}
+use Rattle.reader.proofs.DraftParts.{plain-refused, plain-taken, window-room}
 use Rattle.reader.proofs.GoodDraft.{GoodDraft, GoodOutcome, draft-first, line-taken}
 use Rattle.reader.specs.declared.Draft.{Draft}
 use Rattle.reader.specs.declared.DraftResult.{DraftResult}
 use Rattle.reader.specs.Draft.{DraftOutcome, noDraft, noOps, outcomeOf, takeForm, takeLine, taken}
-use Rattle.reader.specs.Apart.{TakenOp, draftWith, formVerdict, outcomeWith, planWithForm, verdictOf}
+use Rattle.reader.specs.DraftParts.{TakenOp, draftWith, formVerdict, outcomeWith}
+use Rattle.reader.specs.DraftParts.{passedVerdict, planWithForm}
 use Rattle.reader.specs.Read.{draftLine, linesOf, walkFrom}
 
 -- ---- a line that is taken up
@@ -128,52 +130,67 @@ pub lines-first : (text : List ℕ) (draft : Draft) (store : List ℕ) → GoodD
     → LinesLeft text 0 draft store (walkFrom (length text) text 0 draft store)
 lines-first text draft store good = record { lines = length text; enough = omega arith; same = refl; good = good }
 
-module _ (text : List ℕ) (at : ℕ) (draft : Draft) (store : List ℕ) (whole : DraftOutcome) (left : LinesLeft text at draft store whole) where
+module _ {text : List ℕ} {at : ℕ} {draft : Draft} {store : List ℕ} {whole : DraftOutcome}
+    (left : LinesLeft text at draft store whole) where
   pub lines-end : length text ≤ at → outcomeOf (taken draft) store ≡ whole
   unfolding walkFrom
   lines-end past = go (left .lines) (left .same)
     where
-      go : (lines : ℕ) → walkFrom lines text at draft store ≡ whole → outcomeOf (taken draft) store ≡ whole
+      go : (lines : ℕ) → walkFrom lines text at draft store ≡ whole
+          → outcomeOf (taken draft) store ≡ whole
       go zero same = same
       go (suc lines) same = rw (walkFrom, le-ltb at (length text) past) at same
 
   -- ---- a turn, by what its line is known to be
 
-  module _ (below : at < length text) (line : Line) (is : line ≡ draftLine text at draft) where
+  module _ (below : at < length text) {line : Line} (is : line ≡ draftLine text at draft) where
     good-line : GoodLine text (draft .plan .domains) (draft .named) at line
     good-line = rw is (next-good text at draft (left .good) below)
 
-    pub turn-within : line .end ≤ length text
+    turn-within : line .end ≤ length text
     turn-within = good-line .within
 
-    pub turn-domain : (domain : DomainLine) → line .form ≡ Domain domain → draft .plan .domains < mostDomains
+    turn-domain : (domain : DomainLine) → line .form ≡ Domain domain
+        → draft .plan .domains < mostDomains
     turn-domain domain known =
-        let form = subst (GoodForm (draft .plan .domains) (draft .named) (line .named) at (line .end)) known (good-line .form) in
+        let Good = GoodForm (draft .plan .domains) (draft .named) (line .named) at (line .end) in
+        let form = subst Good known (good-line .form) in
         omega (arith, form .0)
 
     -- ---- and by what it came to
 
-    module _ (result : DraftResult) (filled : List ℕ) (came : outcomeOf result filled ≡ takeLine line draft store) where
-      turned : (lines : ℕ) → walkFrom (suc lines) text at draft store ≡ afterLine text lines line (outcomeOf result filled)
-      turned lines = walk-line lines text at draft store line (outcomeOf result filled) below is came
+    module _ (result : DraftResult) (filled : List ℕ)
+        (came : outcomeOf result filled ≡ takeLine line draft store) where
+      turned : (lines : ℕ)
+          → walkFrom (suc lines) text at draft store
+          ≡ afterLine text lines line (outcomeOf result filled)
+      turned lines =
+          walk-line lines text at draft store line (outcomeOf result filled) below is came
 
-      enough-left : (lines : ℕ) → length text ≤ at + lines → walkFrom lines text at draft store ≡ whole
-          → (fewer : ℕ) × (lines ≡ suc fewer) × (walkFrom (suc fewer) text at draft store ≡ whole)
+      enough-left : (lines : ℕ) → length text ≤ at + lines
+          → walkFrom lines text at draft store ≡ whole
+          → (fewer : ℕ) × (lines ≡ suc fewer)
+          × (walkFrom (suc fewer) text at draft store ≡ whole)
       enough-left zero enough same = absurd (omega arith)
       enough-left (suc lines) enough same = (lines, refl, same)
 
-      turn-refused : (why : Refusal) → result .verdict ≡ Refused why → outcomeOf result filled ≡ whole
+      turn-refused : (why : Refusal) → result .verdict ≡ Refused why
+          → outcomeOf result filled ≡ whole
       turn-refused why known =
           let more = enough-left (left .lines) (left .enough) (left .same) in
-          after-refused text (more .0) line (result .draft) filled (result .verdict) why known ∙ sym (turned (more .0)) ∙ more .2
+          after-refused text (more .0) line (result .draft) filled (result .verdict) why known
+          ∙ sym (turned (more .0))
+          ∙ more .2
 
       turn-reach : result .verdict ≡ Accepted → at ≤ line .end
       unfolding takeLine
       turn-reach known =
-          taken-reaches (line .form) _ (line .bracket) at (line .end) (draft .named) (line .named) draft store (good-line .form)
+          taken-reaches (line .form) _ (line .bracket) at (line .end) (draft .named) (line .named)
+          draft store (good-line .form)
           (ap (λ (outcome : DraftOutcome). outcome .verdict) (sym came) ∙ known)
 
-      turn-next : result .verdict ≡ Accepted → LinesLeft text (line .end + 1) (result .draft) filled whole
+      turn-next : result .verdict ≡ Accepted
+          → LinesLeft text (line .end + 1) (result .draft) filled whole
       turn-next known =
           let more = enough-left (left .lines) (left .enough) (left .same) in
           record {
@@ -183,79 +200,115 @@ module _ (text : List ℕ) (at : ℕ) (draft : Draft) (store : List ℕ) (whole 
                 after-accepted text (more .0) line (result .draft) filled (result .verdict) known
                 ∙ sym (turned (more .0))
                 ∙ more .2;
-            good = subst (GoodOutcome (length store)) (sym came) (line-taken draft store (left .good) text at line good-line) .0;
+            good =
+                subst (GoodOutcome (length store)) (sym came)
+                (line-taken draft store (left .good) text at line good-line) .0;
           }
 
   -- ---- the same of a line that is read by its beginning
 
-  module _ (below : at < length text) {head : Head} (is : head ≡ headAt text at) where
-    pub headed : {line : Line} → line ≡ lineOf text (draft .plan .domains) (draft .named) head → line ≡ draftLine text at draft
-    headed of = of ∙ ap (lineOf text (draft .plan .domains) (draft .named)) is ∙ sym (line-by-head text (draft .plan .domains) (draft .named) at)
+  module _ (below : at < length text) {head : Head} (begins : head ≡ headAt text at) where
+    headed : headLine text (draft .plan .domains) (draft .named) head ≡ draftLine text at draft
+    headed =
+        ap (headLine text (draft .plan .domains) (draft .named)) begins
+        ∙ sym (line-by-head text (draft .plan .domains) (draft .named) at)
 
     -- ---- and is no op line
 
-    module _ {line : Line} (of : line ≡ lineOf text (draft .plan .domains) (draft .named) head)
-        (other : (bracket inside : ℕ) → head ≡ Op bracket inside → ⊥) {verdict : Verdict}
-        (found : verdict ≡ formVerdict (line .form) (line .bracket) (draft .plan .pad) (draft .plan .run) (draft .plan .windows)) where
-      plain : Plain (draft .named) (line .named) (line .form)
-      plain = subst (PlainLine (draft .named)) (sym of) (plain-line text (draft .plan .domains) (draft .named) head other) .form
+    module _ {plain : PlainHead} (opens : head ≡ Plain plain) {line : Line}
+        (of : line ≡ lineOf text (draft .plan .domains) (draft .named) plain) where
+      is-plain-line : line ≡ draftLine text at draft
+      is-plain-line =
+          of ∙ ap (headLine text (draft .plan .domains) (draft .named)) (sym opens) ∙ headed
 
-      pub other-refused : {why : Refusal} → verdict ≡ Refused why → outcomeWith verdict draft store ≡ whole
-      unfolding takeLine
-      other-refused {why} known =
-          turn-refused below line (headed of) (record { verdict = verdict; draft = draft }) store
-          (ap (λ (v : Verdict). outcomeWith v draft store) known
-          ∙ plain-refused (line .bracket) draft (line .named) store (line .form) plain (sym found ∙ known))
-          why known
+      pub other-within : line .end ≤ length text
+      other-within = turn-within below is-plain-line
 
-      module _ (known : verdict ≡ Accepted) where
-        pub other-window : (window : WindowLine) → line .form ≡ Window window → draft .plan .windows < mostWindows
-        other-window window is-window =
-            window-room (draft .plan .windows) (line .bracket)
-            (ap (λ (form : Form). formVerdict form (line .bracket) (draft .plan .pad) (draft .plan .run) (draft .plan .windows)) (sym is-window)
-            ∙ sym found ∙ known)
+      pub other-domain : (domain : DomainLine) → line .form ≡ Domain domain
+          → draft .plan .domains < mostDomains
+      other-domain = turn-domain below is-plain-line
 
-        abbrev next : Draft
-        next = draftWith (planWithForm (draft .plan) (line .form)) (draft .counts) (line .named)
+      abbrev judged : Form → Verdict
+      judged form =
+          formVerdict form (line .bracket) (draft .plan .pad) (draft .plan .run)
+          (draft .plan .windows)
 
-        came : outcomeWith verdict next store ≡ takeLine line draft store
+      module _ {verdict : Verdict} (found : verdict ≡ judged (line .form)) where
+        is-plain : IsPlain (draft .named) (line .named) (line .form)
+        is-plain =
+            subst (PlainLine (draft .named)) (sym of)
+            (plain-line text (draft .plan .domains) (draft .named) plain) .form
+
+        pub other-refused : {why : Refusal} → verdict ≡ Refused why
+            → outcomeWith verdict draft store ≡ whole
         unfolding takeLine
-        came =
-            ap (λ (v : Verdict). outcomeWith v next store) known
-            ∙ plain-taken (line .bracket) draft (line .named) store (line .form) plain (sym found ∙ known)
+        other-refused {why} known =
+            turn-refused below is-plain-line (record { verdict = verdict; draft = draft }) store
+            (ap (λ (v : Verdict). outcomeWith v draft store) known
+            ∙ plain-refused (line .bracket) draft (line .named) store (line .form) is-plain
+            (sym found ∙ known))
+            why known
 
-        pub other-reach : at ≤ line .end
-        other-reach = turn-reach below line (headed of) (record { verdict = verdict; draft = next }) store came known
+        module _ (known : verdict ≡ Accepted) where
+          pub other-window : (window : WindowLine) → line .form ≡ Window window
+              → draft .plan .windows < mostWindows
+          other-window window is-window =
+              window-room (draft .plan .windows) (line .bracket)
+              (ap judged (sym is-window) ∙ sym found ∙ known)
 
-        pub other-next : LinesLeft text (line .end + 1) next store whole
-        other-next = turn-next below line (headed of) (record { verdict = verdict; draft = next }) store came known
+          abbrev next : Draft
+          next =
+              draftWith (planWithForm (draft .plan) (line .form)) (draft .counts) (line .named)
+
+          abbrev plainResult : DraftResult
+          plainResult = record { verdict = verdict; draft = next }
+
+          came : outcomeOf plainResult store ≡ takeLine line draft store
+          unfolding takeLine
+          came =
+              ap (λ (v : Verdict). outcomeWith v next store) known
+              ∙ plain-taken (line .bracket) draft (line .named) store (line .form) is-plain
+              (sym found ∙ known)
+
+          pub other-reach : at ≤ line .end
+          other-reach = turn-reach below is-plain-line plainResult store came known
+
+          pub other-next : LinesLeft text (line .end + 1) next store whole
+          other-next = turn-next below is-plain-line plainResult store came known
 
     -- ---- and is an op line
 
-    module _ {bracket inside : ℕ} (opens : head ≡ Op bracket inside) {passed : TokenParse} (next : Draft) (filled : List ℕ)
-        (taken : TakenOp passed (lineOf text (draft .plan .domains) (draft .named) (Op bracket inside)) draft store next filled) where
+    module _ {bracket inside : ℕ} (opens : head ≡ Op bracket inside) {passed : TokenParse}
+        {next : Draft} {filled : List ℕ}
+        (taken : TakenOp passed
+        (opLineOf text (draft .plan .domains) (draft .named) bracket inside) draft store next
+        filled) where
       abbrev line : Line
-      line = lineOf text (draft .plan .domains) (draft .named) (Op bracket inside)
+      line = opLineOf text (draft .plan .domains) (draft .named) bracket inside
 
-      is-line : line ≡ draftLine text at draft
-      is-line = headed (ap (lineOf text (draft .plan .domains) (draft .named)) (sym opens))
+      is-op-line : line ≡ draftLine text at draft
+      is-op-line = ap (headLine text (draft .plan .domains) (draft .named)) (sym opens) ∙ headed
 
-      abbrev result : DraftResult
-      result = record { verdict = verdictOf passed; draft = next }
+      abbrev opResult : DraftResult
+      opResult = record { verdict = passedVerdict passed; draft = next }
 
-      pub op-refused : {why : Refusal} → passed ≡ RefusedToken why → outcomeWith (Refused why) next filled ≡ whole
+      pub op-refused : {why : Refusal} → passed ≡ RefusedToken why
+          → outcomeWith (Refused why) next filled ≡ whole
       op-refused {why} known =
-          ap (λ (to : TokenParse). outcomeWith (verdictOf to) next filled) (sym known)
-          ∙ turn-refused below line is-line result filled (taken .came) why (ap verdictOf known)
+          ap (λ (to : TokenParse). outcomeWith (passedVerdict to) next filled) (sym known)
+          ∙ turn-refused below is-op-line opResult filled (taken .came) why (ap passedVerdict known)
 
       module _ {end : ℕ} (known : passed ≡ To end) where
         pub op-within : end ≤ length text
-        op-within = omega (arith, turn-within below line is-line, taken .ends end known)
+        op-within = omega (arith, turn-within below is-op-line, taken .ends end known)
 
         pub op-reach : at ≤ end
-        op-reach = omega (arith, turn-reach below line is-line result filled (taken .came) (ap verdictOf known), taken .ends end known)
+        op-reach =
+            let reach = turn-reach below is-op-line opResult filled (taken .came) in
+            omega (arith, reach (ap passedVerdict known), taken .ends end known)
 
         pub op-next : LinesLeft text (end + 1) next filled whole
         op-next =
-            subst (λ (last : ℕ). LinesLeft text (last + 1) next filled whole) (taken .ends end known)
-            (turn-next below line is-line result filled (taken .came) (ap verdictOf known))
+            subst (λ (last : ℕ). LinesLeft text (last + 1) next filled whole)
+            (taken .ends end known)
+            (turn-next below is-op-line opResult filled (taken .came) (ap passedVerdict known))

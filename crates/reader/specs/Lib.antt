@@ -1,4 +1,4 @@
-pub mod Apart
 pub mod Draft
+pub mod DraftParts
 pub mod Final
 pub mod Read

@@ -19,7 +19,7 @@ ghost use Prim.Native.Nat.{ℕ, _<_};
 ghost use Rattle.forms.specs.declared.Form.the-variants.{Domain, Window};
 ghost use Rattle.plan.specs.Limits.{mostDomains, mostWindows};
 ghost use Rattle.reader.specs.Draft.{noDraft, takeOp};
-ghost use Rattle.reader.specs.Apart.{draftWith, formVerdict, outcomeWith, planWithForm};
+ghost use Rattle.reader.specs.DraftParts.{draftWith, formVerdict, outcomeWith, planWithForm};
 
 // Before the first line nothing is declared, named or stored.
 pub fn no_draft() -> Draft

@@ -20,11 +20,11 @@ ghost use mathlib.Core.List.{List};
 ghost use mathlib.Core.Path.{_≡_};
 ghost use Prim.Native.Nat.{ℕ, _≤_};
 ghost use lib.ListN.{length};
-ghost use Rattle.line.specs.Heads.{lineOf};
+ghost use Rattle.line.specs.Heads.{opLineOf};
 ghost use Rattle.plan.specs.Limits.{mostDomains};
 ghost use Rattle.script.specs.Limits.{scriptsLength};
 ghost use Rattle.reader.specs.Draft.{noDraft, outcomeOf};
-ghost use Rattle.reader.specs.Apart.{TakenOp, draftWith};
+ghost use Rattle.reader.specs.DraftParts.{TakenOp, draftWith, outcomeWith};
 ghost use Rattle.reader.specs.Read.{walkFrom};
 
 // An op line is taken up, from past its word: the offset of its end, or the refusal, with counts
@@ -39,7 +39,7 @@ fn take_op_line(
 ) -> TokenParse
     requires { ⌜ declared ≤ mostDomains ⌝ }
     ensures { λ r. ⌜ ((plan : Plan) (named : List ℕ) → TakenOp r
-        (lineOf (now (text .entry)) declared named (Head.Op bracket inside))
+        (opLineOf (now (text .entry)) declared named bracket inside)
         (draftWith plan (now (counts .entry)) named) (now (store .entry))
         (draftWith plan (now (counts .exit)) named) (now (store .exit))) ⌝ }
 {
@@ -56,6 +56,24 @@ fn take_op_line(
     }
 }
 
+// What lines come to, by the parts of the draft.
+fn draft_result(
+    verdict: Verdict,
+    plan: Plan,
+    counts: [usize; DOMAIN_ENTRIES],
+    named: [usize; DOMAIN_ENTRIES],
+) -> DraftResult
+    ensures { λ r. ⌜ ((store : List ℕ)
+        → outcomeOf r store ≡ outcomeWith verdict (draftWith plan counts named) store) ⌝ }
+{
+    let draft = Draft {
+        plan,
+        counts,
+        named,
+    };
+    DraftResult { verdict, draft }
+}
+
 // Every line is taken up in turn, or the first refusal is handed on, with draft and store as they
 // were before the refused line.
 pub fn walk(text: &[u8], store: &mut [u32; SCRIPTS_LENGTH]) -> DraftResult
@@ -70,49 +88,31 @@ pub fn walk(text: &[u8], store: &mut [u32; SCRIPTS_LENGTH]) -> DraftResult
     while at < text.len() {
         let declared = plan.domains;
         let head = head_at(text, at);
-        if let Head::Op { bracket, inside } = head {
-            let taken = take_op_line(text, declared, bracket, inside, &mut counts, store);
-            let end = match taken {
-                TokenParse::To(offset) => offset,
-                TokenParse::Refused(refusal) => {
-                    return DraftResult {
-                        verdict: Verdict::Refused(refusal),
-                        draft: Draft {
-                            plan,
-                            counts,
-                            named,
-                        },
+        let plain = match head {
+            Head::Plain(other) => other,
+            Head::Op { bracket, inside } => {
+                let taken = take_op_line(text, declared, bracket, inside, &mut counts, store);
+                let end = match taken {
+                    TokenParse::To(offset) => offset,
+                    TokenParse::Refused(refusal) => {
+                        return draft_result(Verdict::Refused(refusal), plan, counts, named);
                     }
-                }
-            };
-            at = end + 1;
-            continue;
-        }
-        let line = line_of(text, declared, named, head);
+                };
+                at = end + 1;
+                continue;
+            }
+        };
+        let line = line_of(text, declared, named, plain);
         let form = line.form;
         let verdict = form_verdict(form, line.bracket, plan.pad, plan.run, plan.windows);
         if let Verdict::Refused(_) = verdict {
-            return DraftResult {
-                verdict,
-                draft: Draft {
-                    plan,
-                    counts,
-                    named,
-                },
-            };
+            return draft_result(verdict, plan, counts, named);
         }
         plan = plan_with_form(plan, form);
         named = line.named;
         at = line.end + 1;
     }
-    DraftResult {
-        verdict: Verdict::Accepted,
-        draft: Draft {
-            plan,
-            counts,
-            named,
-        },
-    }
+    draft_result(Verdict::Accepted, plan, counts, named)
 }
 
 // A store's numbers are handed over, all of them.

@@ -26,7 +26,7 @@ use Rattle.roundtrip.specs.Accepted.{Shaped}
 use Rattle.roundtrip.proofs.Filled.{filled-all, filled-none}
 use Rattle.roundtrip.proofs.Progress.{soFar}
 use Rattle.roundtrip.proofs.Recipients.{Quiet}
-use Rattle.roundtrip.proofs.Walk.{draftWith}
+use Rattle.roundtrip.proofs.Walk.{draftBeforeOps}
 
 -- a plan before its masks are worked out
 abbrev pub unmasked : Plan → Plan
@@ -118,7 +118,10 @@ none-lacking plan valid =
     )
 
 pub accepted :
-    (plan : Plan) (named : List ℕ) (textLength : ℕ) → planValid plan ≡ true → Quiet (plan .domains) named → finalVerdict textLength (draftWith (unmasked plan) named) ≡ Accepted
+    (plan : Plan) (named : List ℕ) (textLength : ℕ)
+    → planValid plan ≡ true
+    → Quiet (plan .domains) named
+    → finalVerdict textLength (draftBeforeOps (unmasked plan) named) ≡ Accepted
 unfolding finalVerdict sharesTotal ticksTotal
 accepted plan named textLength valid quiet =
     let sound = parts plan valid in

@@ -21,7 +21,7 @@ use Rattle.roundtrip.specs.Lines.{domainLine, linesFrom, padLine, planLi
 use Rattle.roundtrip.proofs.Domains.{domain-reads}
 use Rattle.roundtrip.proofs.Filled.{filled-more, firstEntries}
 use Rattle.roundtrip.proofs.Forms.{pad-reads, run-reads, window-reads}
-use Rattle.roundtrip.proofs.Walk.{Stands, draftWith, next-line}
+use Rattle.roundtrip.proofs.Walk.{Stands, draftBeforeOps, next-line}
 
 -- a plan of which these things are read
 abbrev pub soFar : Plan → ℕ → ℕ → ℕ → ℕ → Plan
@@ -35,16 +35,16 @@ soFar plan pad run domains windows =
 
 module _ (plan : Plan) (named : List ℕ) (bracket : ℕ) where
   pad-taken :
-      takeForm (Pad (plan .pad)) bracket named (draftWith (soFar plan 0 0 0 0) named) noOps
-      ≡ outcomeOf (taken (draftWith (soFar plan (plan .pad) 0 0 0) named)) noOps
+      takeForm (Pad (plan .pad)) bracket named (draftBeforeOps (soFar plan 0 0 0 0) named) noOps
+      ≡ outcomeOf (taken (draftBeforeOps (soFar plan (plan .pad) 0 0 0) named)) noOps
   unfolding takePad
   pad-taken = refl
 
   domain-taken :
       (pad domain : ℕ) (later : List ℕ)
       → takeForm (Domain (record { share = shareOf plan domain; rights = rightsAt plan domain })) bracket later
-      (draftWith (soFar plan pad 0 domain 0) named) noOps
-      ≡ outcomeOf (taken (draftWith (soFar plan pad 0 (domain + 1) 0) later)) noOps
+      (draftBeforeOps (soFar plan pad 0 domain 0) named) noOps
+      ≡ outcomeOf (taken (draftBeforeOps (soFar plan pad 0 (domain + 1) 0) later)) noOps
   unfolding takeDomain
   domain-taken pad domain later = rw (filled-more domain (plan .shares), filled-more domain (plan .rights))
 
@@ -52,15 +52,16 @@ module _ (plan : Plan) (named : List ℕ) (bracket : ℕ) where
       (pad domains slot : ℕ)
       → slot < mostWindows
       → takeForm (Window (record { owner = getD (plan .owners) slot 0; length = getD (plan .lengths) slot 0 })) bracket named
-      (draftWith (soFar plan pad 0 domains slot) named) noOps
-      ≡ outcomeOf (taken (draftWith (soFar plan pad 0 domains (slot + 1)) named)) noOps
+      (draftBeforeOps (soFar plan pad 0 domains slot) named) noOps
+      ≡ outcomeOf (taken (draftBeforeOps (soFar plan pad 0 domains (slot + 1)) named)) noOps
   unfolding takeWindow
   window-taken pad domains slot few = rw (lt-leb mostWindows slot few, filled-more slot (plan .owners), filled-more slot (plan .lengths))
 
   run-taken :
       (pad domains windows : ℕ)
-      → takeForm (Run (plan .run)) bracket named (draftWith (soFar plan pad 0 domains windows) named) noOps
-      ≡ outcomeOf (taken (draftWith (soFar plan pad (plan .run) domains windows) named)) noOps
+      → takeForm (Run (plan .run)) bracket named
+      (draftBeforeOps (soFar plan pad 0 domains windows) named) noOps
+      ≡ outcomeOf (taken (draftBeforeOps (soFar plan pad (plan .run) domains windows) named)) noOps
   unfolding takeRun
   run-taken pad domains windows = refl
 

@@ -20,7 +20,7 @@ use Rattle.roundtrip.specs.Accepted.{Shaped}
 use Rattle.roundtrip.proofs.Final.{accepted, masks-kept, read-all, read-none, unmasked}
 use Rattle.roundtrip.proofs.Fits.{text-fits}
 use Rattle.roundtrip.proofs.Progress.{plan-stands, soFar}
-use Rattle.roundtrip.proofs.Walk.{Ended, Stands, draftWith, no-line}
+use Rattle.roundtrip.proofs.Walk.{Ended, Stands, draftBeforeOps, no-line}
 
 module _ (plan : Plan) (shaped : Shaped plan) (valid : planValid plan ≡ true) where
   -- the walk over the written text
@@ -57,7 +57,7 @@ unfolding readOf readVerdict
 read-back plan scripts shaped valid long =
     let text = planText plan in
     let read = last-line plan shaped valid in
-    let lines = outcomeOf (taken (draftWith (unmasked plan) (read .named))) noOps in
+    let lines = outcomeOf (taken (draftBeforeOps (unmasked plan) (read .named))) noOps in
     let verdict : readVerdict text scripts lines ≡ Accepted =
     rw (eq-eqb (length scripts) scriptsLength long, le-ltb mostTextBytes (length text) (text-fits plan valid))
     (accepted plan (read .named) (length text) valid (read .quiet)) in

@@ -12,6 +12,7 @@ use Rattle.plan.specs.declared.Plan.{Plan}
 use Rattle.plan.specs.Limits.{mostDomains}
 use Rattle.reader.specs.declared.Draft.{Draft}
 use Rattle.reader.specs.Draft.{DraftOutcome, noOps, outcomeOf, takeForm, takeLine, taken}
+use Rattle.reader.specs.DraftParts.{draftWith}
 use Rattle.reader.specs.Read.{draftLine, walkFrom}
 use Rattle.reader.proofs.Walking.{walk-line}
 use Rattle.lexer.proofs.Scanned.{left-next, left-none}
@@ -20,8 +21,8 @@ use Rattle.roundtrip.proofs.Lines.{Reads}
 use Rattle.roundtrip.proofs.Recipients.{Quiet}
 
 -- a draft with no op so far
-abbrev pub draftWith : Plan → List ℕ → Draft
-draftWith plan named = record { plan = plan; counts = replicate mostDomains 0; named = named }
+abbrev pub draftBeforeOps : Plan → List ℕ → Draft
+draftBeforeOps plan named = draftWith plan (replicate mostDomains 0) named
 
 -- these lines are left, the plan so far is this, and reading on from here gives what the whole walk gives
 pub record Stands (text : List ℕ) (whole : DraftOutcome) (total : ℕ) (lines : List (List ℕ)) (plan : Plan) : Type 0 where
@@ -31,7 +32,7 @@ pub record Stands (text : List ℕ) (whole : DraftOutcome) (total : ℕ) (lines 
   pub left : drop at text ≡ joined lines
   pub enough : length (joined lines) ≤ turns
   pub quiet : Quiet total named
-  pub same : walkFrom turns text at (draftWith plan named) noOps ≡ whole
+  pub same : walkFrom turns text at (draftBeforeOps plan named) noOps ≡ whole
 
 -- the line at an offset is read, and adds to the plan so far
 pub record Adds (text : List ℕ) (total at : ℕ) (named : List ℕ) (more : List (List ℕ)) (before after : Plan) : Type 0 where
@@ -39,7 +40,9 @@ pub record Adds (text : List ℕ) (total at : ℕ) (named : List ℕ) (more : Li
   pub later : List ℕ
   pub reads : Reads text (followed more) form later (lineAt text (before .domains) named at)
   pub quiet : Quiet total later
-  pub adds : (bracket : ℕ) → takeForm form bracket later (draftWith before named) noOps ≡ outcomeOf (taken (draftWith after later)) noOps
+  pub adds : (bracket : ℕ)
+      → takeForm form bracket later (draftBeforeOps before named) noOps
+      ≡ outcomeOf (taken (draftBeforeOps after later)) noOps
 
 -- ---- one line
 
@@ -70,7 +73,7 @@ taken-line :
     → 0 < length line
     → length (line ++ followed more) ≤ turns
     → drop at text ≡ line ++ followed more
-    → walkFrom turns text at (draftWith before named) noOps ≡ whole
+    → walkFrom turns text at (draftBeforeOps before named) noOps ≡ whole
     → Adds text total at named more before after
     → Stands text whole total more after
 taken-line text whole total line more before after zero at named some enough left same taking = absurd (omega (arith, length-append line (followed more)))
@@ -87,8 +90,9 @@ taken-line text whole total line more before after (suc turns) at named some eno
       quiet = taking .quiet;
       same =
           sym
-          (walk-next turns text at (draftWith before named) (draftWith after (taking .later)) noOps noOps (taking .form) (reads .bracket) (reads .end) (taking .later)
-          within (reads .is) (taking .adds (reads .bracket)))
+          (walk-next turns text at (draftBeforeOps before named)
+          (draftBeforeOps after (taking .later)) noOps noOps (taking .form) (reads .bracket)
+          (reads .end) (taking .later) within (reads .is) (taking .adds (reads .bracket)))
           ∙ same;
     }
 
@@ -115,7 +119,7 @@ walk-ends (suc turns) text at draft store past = rw (le-ltb at (length text) pas
 pub record Ended (whole : DraftOutcome) (total : ℕ) (plan : Plan) : Type 0 where
   pub named : List ℕ
   pub quiet : Quiet total named
-  pub gave : whole ≡ outcomeOf (taken (draftWith plan named)) noOps
+  pub gave : whole ≡ outcomeOf (taken (draftBeforeOps plan named)) noOps
 
 pub no-line : (text : List ℕ) (whole : DraftOutcome) (total : ℕ) (plan : Plan) → Stands text whole total [] plan → Ended whole total plan
 unfolding joined

@@ -33,5 +33,6 @@ returns-3 c =
 pub closed-line-spec : {M : Type 1} → statement M
 closed-line-spec =
     tie.close
-    (tie.spec (λ c. search needs) (λ c κs. tt) (λ c. search needs) (λ c κs. tt) (λ c. search needs) (λ c κs. tt)
-    (λ c. search needs) returns returns-2 returns-3)
+    (tie.spec
+    (λ c. search needs) (λ c κs. tt) (λ c. search needs) (λ c κs. tt) (λ c. search needs)
+    (λ c κs. tt) (λ c. search needs) returns returns-2 returns-3)

@@ -7,13 +7,15 @@ use Rattle.line.proofs.op_line.Tie as tie
 
 returns : tie.Need-returns
 returns c =
+    let formed = c .before .before .before .before .before .before in
     absurd
-    (no-other _ _ _ (c .before .before .before .before .before .before .before .before .op-form .ensures)
-    (c .before .before .before .before .before .before .parse2 .given .1) (c .match3 .keys2))
+    (no-other _ _ _ (formed .before .before .op-form .ensures) (formed .parse2 .given .1)
+    (c .match3 .keys2))
 
 returns-2 : tie.Need-returns-2
 unfolding closedLine
-returns-2 c bracket named = simp (← (c .before .before .before .op-form .ensures), c .before .parse .given .1)
+returns-2 c bracket named =
+    simp (← (c .before .before .before .op-form .ensures), c .before .parse .given .1)
 
 returns-3 : tie.Need-returns-3
 unfolding closedLine
@@ -29,9 +31,10 @@ returns-3 c bracket named =
 returns-4 : tie.Need-returns-4
 unfolding closedLine
 returns-4 c bracket named =
+    let formed = c .before .before .before .before .before .before .before .before in
     simp (
-      ← (c .before .before .before .before .before .before .before .before .before .before .op-form .ensures),
-      c .before .before .before .before .before .before .before .before .parse2 .given .1,
+      ← (formed .before .before .op-form .ensures),
+      formed .parse2 .given .1,
       closed-then,
       ← (c .before .before .before .before .before .before .closed-end .ensures),
       c .before .before .before .before .ending2 .given .1,
@@ -41,5 +44,6 @@ returns-4 c bracket named =
 pub op-line-spec : {M : Type 1} → statement M
 op-line-spec =
     tie.close
-    (tie.spec (λ c κs. tt) (λ c. search needs) (λ c. search needs) (λ c κs. tt) (λ c. search needs)
+    (tie.spec
+    (λ c κs. tt) (λ c. search needs) (λ c. search needs) (λ c κs. tt) (λ c. search needs)
     (λ c. search needs) (λ c. search needs) returns returns-2 returns-3 returns-4)

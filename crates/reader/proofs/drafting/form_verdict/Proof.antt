@@ -29,6 +29,7 @@ pub form-verdict-spec : {M : Type 1} → statement M
 form-verdict-spec =
     tie.close
     (tie.spec
-    (λ c. search needs) (λ c. search needs) returns (λ c. search needs) returns-2 (λ c. search needs) (λ c. search needs)
-    returns-3 (λ c. search needs) (λ c. search needs) (λ c. search needs) returns-5 returns-6 (λ c. search needs) returns-8
-    (λ c. search needs) returns-10)
+    (λ c. search needs) (λ c. search needs) returns (λ c. search needs) returns-2
+    (λ c. search needs) (λ c. search needs) returns-3 (λ c. search needs) (λ c. search needs)
+    (λ c. search needs) returns-5 returns-6 (λ c. search needs) returns-8 (λ c. search needs)
+    returns-10)

@@ -1,5 +1,7 @@
 -- What the code says of a line that it takes up on the parts of a draft, an op line apart from the
--- others, in the terms of Draft: nothing here is of the paper. Assumes nothing.
+-- others: nothing here is of the paper. What is held against a form, and what it adds, stand here
+-- once more, apart from each other: the same tests as Draft's and the same plans, by `plain-taken`
+-- and `plain-refused` of proofs/DraftParts. Assumes nothing.
 use Prim.Native.Nat.{ℕ}
 use mathlib.Core.Bool.{cond}
 use mathlib.Core.List.{List}
@@ -57,13 +59,13 @@ planWithForm plan (RefusedForm refusal) = plan
 -- ---- an op line
 
 -- the verdict of a line that was passed, or not
-abbrev pub verdictOf : TokenParse → Verdict
-verdictOf (To end) = Accepted
-verdictOf (RefusedToken refusal) = Refused refusal
+abbrev pub passedVerdict : TokenParse → Verdict
+passedVerdict (To end) = Accepted
+passedVerdict (RefusedToken refusal) = Refused refusal
 
 -- the line was taken up, from the first draft and store to the next, and what was answered is its
 -- end or its refusal
 pub record TakenOp (passed : TokenParse) (line : Line) (draft : Draft) (store : List ℕ)
     (next : Draft) (filled : List ℕ) : Type 0 where
-  pub came : outcomeWith (verdictOf passed) next filled ≡ takeLine line draft store
+  pub came : outcomeWith (passedVerdict passed) next filled ≡ takeLine line draft store
   pub ends : (end : ℕ) → passed ≡ To end → line .end ≡ end
