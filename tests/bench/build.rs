@@ -10,6 +10,7 @@ const FLAGS: [&str; 5] = ["-O3", "-std=c99", "-Wall", "-Wextra", "-pedantic"];
 fn main() {
     println!("cargo:rerun-if-changed=build.rs");
     println!("cargo:rerun-if-changed=peer");
+    println!("cargo:rerun-if-changed=../../include/pirkvezo.h");
     let out = PathBuf::from(env::var_os("OUT_DIR").expect("cargo names a folder to write to"));
     let objects = SOURCES.map(|source| compile(source, &out));
     let archive = out.join("libpeer.a");
