@@ -24,6 +24,8 @@ extern "C" {
 #define PIRKVEZO_SCRIPTS 2048
 #define PIRKVEZO_CACHE 272
 #define PIRKVEZO_BOXES 64
+#define PIRKVEZO_WEIGHTS 8
+#define PIRKVEZO_FRAME 32
 
 /* Reads a plan text. Accepted: the scripts and the plan are written, and 0 is returned. Refused: the scripts stay, and
  * the plan is all zeros; with a plan or an answer of another length the plan stays too. answer: number, companion, 0, 0. */
@@ -67,6 +69,14 @@ uint32_t pirkvezo_log(const uint32_t *plan, size_t plan_length,
                       const uint8_t *log, size_t log_length,
                       uint32_t domain,
                       uint64_t *answer, size_t answer_length);
+
+/* A frame by weights: the domains of `count` windows, shared out by the weights of eight domains and laid in turns. The
+ * frame's numbers behind the last window are 0. Refused for the count or the weights (15): all of them are 0. Refused
+ * for a length (11): the frame stays. answer: number, companion, 0, 0. */
+uint32_t pirkvezo_frame(uint32_t count,
+                        const uint32_t *weights, size_t weights_length,
+                        uint32_t *frame, size_t frame_length,
+                        uint64_t *answer, size_t answer_length);
 
 #ifdef __cplusplus
 }

@@ -1,5 +1,5 @@
 /* A whole list of calls: a plan is read, started, run in parts and to its end, and each domain's log is asked for; then calls that are
- * refused, which change nothing. tests/host/expected.txt is what it prints. */
+ * refused, which change nothing; then frames by weights. tests/host/expected.txt is what it prints. */
 #include <inttypes.h>
 #include <stdio.h>
 #include <string.h>
@@ -16,6 +16,7 @@ static uint16_t cache[PIRKVEZO_CACHE];
 static uint32_t boxes[PIRKVEZO_BOXES];
 static uint8_t log_bytes[LOG];
 static uint64_t answer[PIRKVEZO_ANSWER];
+static uint32_t frame[PIRKVEZO_FRAME];
 
 static const char *const settled =
     "(pad 276)\n"
@@ -159,6 +160,37 @@ static void copy_tables(struct tables *copy)
     memcpy(copy->log, log_bytes, sizeof log_bytes);
 }
 
+static uint32_t make(uint32_t count, const uint32_t *weights, size_t weights_length, size_t frame_length)
+{
+    return pirkvezo_frame(count, weights, weights_length, frame, frame_length, answer, PIRKVEZO_ANSWER);
+}
+
+static void print_frame(void)
+{
+    printf("the frame:");
+    for (size_t i = 0; i < PIRKVEZO_FRAME; i++) {
+        printf(" %" PRIu32, frame[i]);
+    }
+    printf("\n");
+}
+
+/* The windows of a plan by weights. With another length nothing is written; without a frame it is all zeros. */
+static void frames(void)
+{
+    static const uint32_t weights[PIRKVEZO_WEIGHTS] = {3, 2, 2}, none[PIRKVEZO_WEIGHTS];
+    print_call("frame, 7 by 3 2 2", make(7, weights, PIRKVEZO_WEIGHTS, PIRKVEZO_FRAME));
+    print_frame();
+    print_call("frame, 7 weights", make(8, weights, PIRKVEZO_WEIGHTS - 1, PIRKVEZO_FRAME));
+    print_call("frame, 31 numbers", make(8, weights, PIRKVEZO_WEIGHTS, PIRKVEZO_FRAME - 1));
+    memset(answer, 255, sizeof answer);
+    print_call("frame, an answer of 3 numbers",
+               pirkvezo_frame(8, weights, PIRKVEZO_WEIGHTS, frame, PIRKVEZO_FRAME, answer, PIRKVEZO_ANSWER - 1));
+    print_frame();
+    print_call("frame, 33 windows", make(33, weights, PIRKVEZO_WEIGHTS, PIRKVEZO_FRAME));
+    print_frame();
+    print_call("frame, all weights 0", make(7, none, PIRKVEZO_WEIGHTS, PIRKVEZO_FRAME));
+}
+
 int main(void)
 {
     static struct tables before, after;
@@ -168,5 +200,6 @@ int main(void)
     refused_readings();
     copy_tables(&after);
     printf("tables after the refused calls: %s\n", memcmp(&before, &after, sizeof before) == 0 ? "as before" : "changed");
+    frames();
     return 0;
 }

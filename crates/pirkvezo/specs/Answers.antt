@@ -29,7 +29,7 @@ unfoldable pub answerOf : Verdict → ℕ → ℕ → List ℕ → List ℕ
 answerOf verdict third fourth answer =
     cond (eqb (length answer) answerLength) (answerNumbers (codeOf verdict) third fourth) answer
 
--- 11, of a plan, a state or an answer
+-- 11: a lent array of another length
 abbrev pub wrongLength : Verdict
 wrongLength = Refused WrongLength
 
@@ -37,7 +37,7 @@ wrongLength = Refused WrongLength
 abbrev pub planFits : List ℕ → List ℕ → Bool
 planFits plan answer = eqb (length plan) planLength && eqb (length answer) answerLength
 
--- and those that the other calls ask for
+-- and those that a fresh start, a step, a run and a log query ask for
 abbrev pub allFit : List ℕ → List ℕ → List ℕ → Bool
 allFit plan state answer =
     eqb (length plan) planLength && (eqb (length state) stateLength && eqb (length answer) answerLength)

@@ -5,4 +5,5 @@ pub mod Reading
 pub mod Starting
 pub mod Running
 pub mod LogQuery
+pub mod Framing
 pub mod Theorems

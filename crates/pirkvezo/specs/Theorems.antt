@@ -1,17 +1,24 @@
--- What the library promises beside the single calls. A refused call leaves what it was lent
--- (document 01, "The plan text"). What a call leaves is what the next call takes: a host that lends
--- on the numbers it got runs one machine (document 01, "Two lists of calls"). Assumes nothing.
+-- What the library promises beside the single calls. A refused fresh start, step or run leaves what
+-- it was lent (document 01, "The plan text"). What a call leaves is what the next call takes: a host
+-- that lends on the numbers it got runs one machine (document 01, "Two lists of calls"). A frame is
+-- made exactly when it can be, and keeps its promises (document 02, E1). Assumes nothing.
+use mathlib.Core.Bool.{true}
+use mathlib.Core.Logic.{_↔_, _⊎_}
 use mathlib.Core.Path.{_≡_}
 use mathlib.Core.List.{List}
 use Prim.Native.Nat.{ℕ}
+use lib.ListN.{replicate}
 use Rattle.lists.specs.Part.{part}
 use Rattle.plan.specs.declared.Plan.{Plan}
+use Rattle.plan.specs.Limits.{mostWindows}
 use Rattle.state.specs.declared.State.{State}
 use Rattle.machine.specs.View.{worldWith}
 use Rattle.reader.specs.Read.{readOf}
 use Rattle.engine.specs.FreshStart.{freshStartOf}
 use Rattle.engine.specs.LogQuery.{logQueryOf}
 use Rattle.engine.specs.Running.{runCallOf}
+use Rattle.frame.specs.Theorems.{FrameByWeights, WithinLimits}
+use Rattle.pirkvezo.specs.Framing.{frameFits, hostFrame}
 use Rattle.pirkvezo.specs.LogQuery.{logAnswerOf}
 use Rattle.pirkvezo.specs.Numbers.{planNumbers, planOf, stateNumbers, stateOf}
 use Rattle.pirkvezo.specs.Running.{RunCall, hostRun}
@@ -67,6 +74,32 @@ RunStateReturns =
     (stateNumbers
     (runCallOf (planOf plan) scripts (worldWith (stateOf state) cache boxes log) limit .world .state))
     ≡ runCallOf (planOf plan) scripts (worldWith (stateOf state) cache boxes log) limit .world .state
+
+-- ---- a frame
+
+-- a call is accepted exactly when every length is right and the numbers are within their limits
+abbrev pub FrameAcceptedExactly : Type 0
+FrameAcceptedExactly =
+    (count : ℕ) (weights frame answer : List ℕ)
+    → (hostFrame count weights frame answer .number ≡ 0)
+    ↔ ((frameFits weights frame answer ≡ true) × WithinLimits count weights)
+
+-- the frame of an accepted call keeps the promises of a frame by weights
+abbrev pub FrameKeepsPromises : Type 0
+FrameKeepsPromises =
+    (count : ℕ) (weights frame answer : List ℕ)
+    → hostFrame count weights frame answer .number ≡ 0
+    → FrameByWeights count weights (hostFrame count weights frame answer .frame)
+
+-- a refused call is 11 and leaves the frame as it was lent, or 15 and leaves zeros
+abbrev pub RefusedFrameLeaves : Type 0
+RefusedFrameLeaves =
+    (count : ℕ) (weights frame answer : List ℕ)
+    → (hostFrame count weights frame answer .number ≡ 0 → ⊥)
+    → ((hostFrame count weights frame answer .number ≡ 11)
+    × (hostFrame count weights frame answer .frame ≡ frame))
+    ⊎ ((hostFrame count weights frame answer .number ≡ 15)
+    × (hostFrame count weights frame answer .frame ≡ replicate mostWindows 0))
 
 -- ---- a log query
 

@@ -24,7 +24,7 @@ pub fn put_answer(answer: &mut [u64], verdict: Verdict, third: u64, fourth: u64)
     code.number
 }
 
-// 11: a plan, a state or an answer of another length.
+// 11: a lent array of another length.
 pub fn refuse_length(answer: &mut [u64]) -> u32
     ensures { λ r.
         ⌜ (r ≡ verdictNumber wrongLength)

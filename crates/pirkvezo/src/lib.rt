@@ -1,6 +1,7 @@
 // The library for programs in other languages: every entry point over numbers and slices. Each
 // takes any input, and returns the refusal's number.
 pub mod answers;
+pub mod framing;
 pub mod log_query;
 pub mod offsets;
 pub mod plans;
@@ -8,6 +9,7 @@ pub mod reading;
 pub mod running;
 pub mod starting;
 pub mod states;
+mod words;
 
 use refusal::Verdict;
 

@@ -9,29 +9,18 @@ use crate::offsets::RIGHTS_OFFSET;
 use crate::offsets::RUN_OFFSET;
 use crate::offsets::SHARES_OFFSET;
 use crate::offsets::WINDOWS_OFFSET;
+use crate::words::put_words;
+use crate::words::take_words;
 use plan::Plan;
 use plan::no_plan;
 ghost use mathlib.Core.Path.{_≡_};
 ghost use mathlib.Core.Bool.{true};
-ghost use Prim.Native.Nat.{_+_, _≤_};
+ghost use Prim.Native.Nat.{_+_};
 ghost use lib.ListN.{length};
 ghost use lib.Seq.{sets};
 ghost use Rattle.plan.specs.Limits.{mostDomains};
 ghost use Rattle.pirkvezo.specs.Numbers.{handedPlan, masksFit, masksOffset, numbersFrom};
 ghost use Rattle.pirkvezo.specs.Numbers.{planLength, planNumbers};
-
-// Copies as many lent numbers as there is room for, from an offset on.
-fn take_words(numbers: &[u32], first: usize, taken: &mut [u32])
-    requires { ⌜ first + length (now taken) ≤ length (now numbers) ⌝ }
-    ensures { λ _.
-        ⌜ now (taken .exit) ≡ numbersFrom (now (numbers .entry)) first (length (now (taken .entry))) ⌝ }
-{
-    let mut i: usize = 0;
-    while i < taken.len() {
-        taken[i] = numbers[first + i];
-        i += 1;
-    }
-}
 
 // Whether the lent colour masks have at most 16 bits.
 fn masks_fit(numbers: &[u32]) -> bool
@@ -90,20 +79,6 @@ pub fn load_plan(numbers: &[u32]) -> Plan
         owners,
         lengths,
         masks,
-    }
-}
-
-// Writes the first values of a list, from an offset on.
-fn put_words(numbers: &mut [u32], first: usize, values: &[u32], count: usize)
-    requires { ⌜ (count ≤ length (now values)) × (first + count ≤ length (now numbers)) ⌝ }
-    ensures { λ _.
-        ⌜ now (numbers .exit)
-        ≡ sets (now (numbers .entry)) first (numbersFrom (now (values .entry)) 0 count) ⌝ }
-{
-    let mut i: usize = 0;
-    while i < count {
-        numbers[first + i] = values[i];
-        i += 1;
     }
 }
 

@@ -1,4 +1,5 @@
--- Document 01, "The plan text", the table of refusals: the number that each refusal returns, with its companion, the table's second item.
+-- Document 01, "The plan text", the table of refusals: the number that each refusal returns, with
+-- its companion, the table's second item; and 15, 0 of document 02's E1.
 -- Assumes nothing.
 use Prim.Native.Nat.{ℕ}
 use Rattle.refusal.specs.declared.Code.{Code}
@@ -8,12 +9,13 @@ use Rattle.refusal.specs.declared.Refusal.{Refusal}
 use Rattle.refusal.specs.declared.Refusal.the-variants.{TextTooLong, BrokenShape, NumberOutOfLimits, WrongDomain, RepeatedOrMissing}
 use Rattle.refusal.specs.declared.Refusal.the-variants.{NoColour, SharesOverThousand, BadRecipient, RunTooLong, TooMany}
 use Rattle.refusal.specs.declared.Refusal.the-variants.{WrongLength, ImpossiblePlan, DamagedTable, ImpossibleState}
+use Rattle.refusal.specs.declared.Refusal.the-variants.{FrameOutOfLimits}
 
 -- a number with its companion
 abbrev pub codeWith : ℕ → ℕ → Code
 codeWith number companion = record { number = number; companion = companion }
 
--- "Returned" and its companion, row by row
+-- "Returned" and its companion, row by row, then what document 02 adds
 abbrev pub refusalCode : Refusal → Code
 refusalCode TextTooLong = codeWith 1 0
 refusalCode (BrokenShape offset) = codeWith 2 offset
@@ -29,8 +31,9 @@ refusalCode WrongLength = codeWith 11 0
 refusalCode ImpossiblePlan = codeWith 12 0
 refusalCode DamagedTable = codeWith 13 0
 refusalCode ImpossibleState = codeWith 14 0
+refusalCode FrameOutOfLimits = codeWith 15 0
 
--- "Acceptance is 0, 0"; a refusal has its row of the table
+-- "Acceptance is 0, 0"; a refusal has its own pair
 abbrev pub codeOf : Verdict → Code
 codeOf Accepted = codeWith 0 0
 codeOf (Refused refusal) = refusalCode refusal

@@ -2,7 +2,8 @@
 ghost use mathlib.Core.Path.{_≡_};
 ghost use Rattle.refusal.specs.Code.{codeOf, codeWith, refusalCode};
 
-// The rows of document 01's table of refusals, one case each. What a case holds is its companion.
+// The rows of document 01's table of refusals, and 15 of document 02's E1, one case each. What a case
+// holds is its companion.
 pub enum Refusal {
     TextTooLong,
     BrokenShape(usize),
@@ -18,6 +19,7 @@ pub enum Refusal {
     ImpossiblePlan,
     DamagedTable,
     ImpossibleState,
+    FrameOutOfLimits,
 }
 
 // What a call answers of itself: that it did its work, or why it did nothing.
@@ -58,6 +60,7 @@ fn refusal_code(refusal: Refusal) -> Code
         Refusal::ImpossiblePlan => code_with(12, 0),
         Refusal::DamagedTable => code_with(13, 0),
         Refusal::ImpossibleState => code_with(14, 0),
+        Refusal::FrameOutOfLimits => code_with(15, 0),
     }
 }
 

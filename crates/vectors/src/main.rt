@@ -15,6 +15,7 @@ use libc::STDIN_FILENO;
 use libc::STDOUT_FILENO;
 use pirkvezo::answers::ending_number;
 use pirkvezo::answers::put_answer;
+use pirkvezo::framing::pirkvezo_frame;
 use pirkvezo::log_query::pirkvezo_log;
 use pirkvezo::offsets::ANSWER_LENGTH;
 use pirkvezo::offsets::CLOCK_OFFSET;
@@ -37,6 +38,7 @@ use pirkvezo::running::pirkvezo_run;
 use pirkvezo::starting::pirkvezo_fresh_start;
 use pirkvezo::states::load_state;
 use pirkvezo::states::store_state;
+use plan::limits::DOMAIN_ENTRIES;
 ghost use mathlib.Core.Path.{_≡_};
 ghost use Prim.Native.Nat.{_+_, _^_, _<_, _≤_, min};
 ghost use lib.ListN.{length};
@@ -52,6 +54,8 @@ const BOXES_ROOM: usize = 65;
 
 const LOG_ROOM: usize = 4_096;
 
+const FRAME_ROOM: usize = 33;
+
 // The example at hand: its tables, and how much of each a call is lent.
 struct Example {
     text: [u8; TEXT_ROOM],
@@ -66,6 +70,8 @@ struct Example {
     boxes_length: usize,
     log: [u8; LOG_ROOM],
     log_length: usize,
+    frame: [u32; FRAME_ROOM],
+    frame_length: usize,
 }
 
 // ---- fields: a line is words with one space between
@@ -117,6 +123,11 @@ fn small(fields: &[u8]) -> usize
     ensures { λ r. ⌜ r < 65_536 ⌝ }
 {
     (number(fields) % 65_536) as usize
+}
+
+// The same, as wide as a number of a plan.
+fn word32(fields: &[u8]) -> u32 {
+    (number(fields) % 4_294_967_296) as u32
 }
 
 fn at_most(number: usize, most: usize) -> usize
@@ -268,6 +279,7 @@ fn lend(example: Example, fields: &[u8]) -> Example {
     next.scripts_length = choose(same(table, b"scripts"), length, example.scripts_length);
     next.cache_length = choose(same(table, b"cache"), length, example.cache_length);
     next.boxes_length = choose(same(table, b"boxes"), length, example.boxes_length);
+    next.frame_length = choose(same(table, b"frame"), length, example.frame_length);
     if same(table, b"log") {
         let log = [238u8; LOG_ROOM];
         next.log = log;
@@ -391,6 +403,12 @@ fn number_at(example: Example, area: &[u8], index: usize) -> u64 {
     if same(area, b"log") {
         if index < LOG_ROOM {
             return wide(example.log[index]);
+        }
+        return 0;
+    }
+    if same(area, b"frame") {
+        if index < FRAME_ROOM {
+            return long(example.frame[index]);
         }
         return 0;
     }
@@ -589,11 +607,53 @@ fn query_log(example: Example, fields: &[u8]) {
     let first: usize = 0;
     let mut answer = [0u64; ANSWER_LENGTH];
     let lent_log = at_most(example.log_length, log.len());
-    let domain = (number(rest(fields)) % 4_294_967_296) as u32;
+    let domain = word32(rest(fields));
     pirkvezo_log(&plan, &state, &log[first..lent_log], domain, &mut answer);
     print_answer(word(fields), answer);
     print_records(part(log, answer[2] as usize, answer[3] as usize));
     print(b"\n");
+}
+
+// The weights of eight domains; those that are not there are 0.
+fn weights(fields: &[u8]) -> [u32; DOMAIN_ENTRIES] {
+    let one = rest(fields);
+    let two = rest(one);
+    let three = rest(two);
+    let four = rest(three);
+    let five = rest(four);
+    let six = rest(five);
+    let seven = rest(six);
+    [
+        word32(fields),
+        word32(one),
+        word32(two),
+        word32(three),
+        word32(four),
+        word32(five),
+        word32(six),
+        word32(seven),
+    ]
+}
+
+// frame LABEL N WEIGHT..: a frame of N windows by up to eight weights.
+fn make_frame(example: Example, fields: &[u8]) -> Example {
+    let mut next = example;
+    let mut frame_room = example.frame;
+    let frame: &mut [u32] = &mut frame_room;
+    let first: usize = 0;
+    let mut answer = [0u64; ANSWER_LENGTH];
+    let by = weights(rest(rest(fields)));
+    let lent_frame = at_most(example.frame_length, frame.len());
+    pirkvezo_frame(
+        word32(rest(fields)),
+        &by,
+        &mut frame[first..lent_frame],
+        &mut answer,
+    );
+    print_answer(word(fields), answer);
+    print(b"\n");
+    next.frame = frame_room;
+    next
 }
 
 // ---- commands
@@ -632,6 +692,9 @@ fn obey(example: Example, line: &[u8]) -> Example {
         query_log(example, fields);
         return example;
     }
+    if same(command, b"frame") {
+        return make_frame(example, fields);
+    }
     write(example, line)
 }
 
@@ -662,6 +725,8 @@ fn main() {
         boxes_length: BOXES_ROOM - 1,
         log: [0u8; LOG_ROOM],
         log_length: 64,
+        frame: [238u32; FRAME_ROOM],
+        frame_length: FRAME_ROOM - 1,
     };
     obey_all(&input[..length], example);
 }

@@ -1,8 +1,8 @@
 -- When the entry points refuse, and what a run that is not refused leaves. Assumes nothing.
 use Prim.Native.Nat.{ℕ, _<_}
-use mathlib.Core.Bool.{Bool, true, false, false≢true}
+use mathlib.Core.Bool.{Bool, true, false, false≢true, not}
 use mathlib.Core.List.{List}
-use mathlib.Core.Path.{_≡_, refl, sym, _∙_}
+use mathlib.Core.Path.{_≡_, refl, sym, ap, _∙_}
 use native.Mathlib.Omega.{arith}
 use lib.ListN.{length}
 use borrow.Author.Tests.{le-ltb, ne-eqb}
@@ -15,14 +15,13 @@ use Rattle.state.specs.StateValidity.{stateValid}
 use Rattle.state.specs.World.{World}
 use Rattle.machine.specs.Steps.{steps}
 use Rattle.refusal.specs.declared.Refusal.{Refusal}
-use Rattle.refusal.specs.declared.Refusal.the-variants.{TextTooLong, BrokenShape, NumberOutOfLimits, WrongDomain, RepeatedOrMissing}
-use Rattle.refusal.specs.declared.Refusal.the-variants.{NoColour, SharesOverThousand, BadRecipient, RunTooLong, TooMany}
-use Rattle.refusal.specs.declared.Refusal.the-variants.{WrongLength, ImpossiblePlan, DamagedTable, ImpossibleState}
+use Rattle.refusal.specs.declared.Refusal.the-variants.{ImpossiblePlan, WrongDomain, WrongLength}
 use Rattle.refusal.specs.declared.Verdict.{Verdict}
 use Rattle.refusal.specs.declared.Verdict.the-variants.{Accepted, Refused}
 use Rattle.engine.specs.LogQuery.{logStatusOf}
 use Rattle.engine.specs.Checks.{freshVerdict, logVerdict, runVerdict, tablesFit}
 use Rattle.refusal.specs.Checks.{unless}
+use Rattle.refusal.proofs.Numbers.{number-not-zero}
 use Rattle.machine.specs.Fresh.{freshWorld}
 use Rattle.engine.specs.FreshStart.{FreshOutcome, freshFrom, freshStartOf}
 use Rattle.engine.specs.Running.{ranFrom, runCallOf, runFrom}
@@ -30,20 +29,7 @@ use Rattle.isolation.specs.Calls.{isRefused}
 
 -- every refusal has a number that is not 0
 pub refused-number : (refusal : Refusal) → isRefused (Refused refusal) ≡ true
-refused-number TextTooLong = refl
-refused-number (BrokenShape offset) = refl
-refused-number (NumberOutOfLimits offset) = refl
-refused-number (WrongDomain offset) = refl
-refused-number (RepeatedOrMissing offset) = refl
-refused-number (NoColour domain) = refl
-refused-number (SharesOverThousand sum) = refl
-refused-number (BadRecipient offset) = refl
-refused-number RunTooLong = refl
-refused-number (TooMany offset) = refl
-refused-number WrongLength = refl
-refused-number ImpossiblePlan = refl
-refused-number DamagedTable = refl
-refused-number ImpossibleState = refl
+refused-number refusal = ap not (number-not-zero refusal)
 
 -- ---- a run
 

@@ -1,4 +1,4 @@
--- `pirkvezo::plans::take_words` meets its contract. The loop's invariant: the numbers passed are taken.
+-- `pirkvezo::words::take_words` meets its contract. The loop's invariant: the numbers passed are taken.
 -- Assumes nothing.
 use mathlib.Core.Path.{_≡_, refl}
 use Prim.Native.Nat.{_-_, _≤_}
@@ -6,8 +6,8 @@ use native.Mathlib.Omega.{arith}
 use lib.ListN.{length, length-set, take}
 use Rattle.pirkvezo.specs.Numbers.{numbersFrom}
 use Rattle.pirkvezo.proofs.Runs.{taken-all, taken-more}
-use Rattle.pirkvezo.proofs.plans.take_words.Statement.{statement}
-use Rattle.pirkvezo.proofs.plans.take_words.Tie as tie
+use Rattle.pirkvezo.proofs.words.take_words.Statement.{statement}
+use Rattle.pirkvezo.proofs.words.take_words.Tie as tie
 
 abbrev Inv-loop : tie.InvT-loop
 Inv-loop numbers first taken₀ i₀ taken i =

@@ -1,4 +1,4 @@
--- `pirkvezo::plans::put_words` meets its contract. The loop's invariant: the numbers passed are stored.
+-- `pirkvezo::words::put_words` meets its contract. The loop's invariant: the numbers passed are stored.
 -- Assumes nothing.
 use mathlib.Core.Path.{_≡_, refl}
 use Prim.Native.Nat.{_-_, _≤_}
@@ -7,8 +7,8 @@ use lib.ListN.{length}
 use lib.Seq.{sets}
 use Rattle.pirkvezo.specs.Numbers.{numbersFrom}
 use Rattle.pirkvezo.proofs.Runs.{stored-all, stored-length, stored-more}
-use Rattle.pirkvezo.proofs.plans.put_words.Statement.{statement}
-use Rattle.pirkvezo.proofs.plans.put_words.Tie as tie
+use Rattle.pirkvezo.proofs.words.put_words.Statement.{statement}
+use Rattle.pirkvezo.proofs.words.put_words.Tie as tie
 
 abbrev Inv-loop : tie.InvT-loop
 Inv-loop numbers₀ first values count i₀ numbers i =
