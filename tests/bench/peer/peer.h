@@ -1,7 +1,7 @@
-/* The five calls of include/pirkvezo.h in plain C and unproved, under a prefix of their own: a third
- * implementation beside the library and the Rust reference, to time the library against. The
- * library's header declares them, so the compiler holds the peer to the same interface; it and
- * docs/HOST.md say what each array holds and what each call answers. */
+/* Document 01's five calls, as include/pirkvezo.h has them, in plain C and unproved, under a prefix
+ * of their own: a third implementation beside the library and the Rust reference, to time the
+ * library against. The library's header declares them, so the compiler holds the peer to the same
+ * interface; it and docs/HOST.md say what each array holds and what each call answers. */
 #ifndef PEER_H
 #define PEER_H
 

@@ -11,9 +11,9 @@ pub struct Pair<'e> {
     world: World,
 }
 
-/// Two engines that do not agree, or one that breaks a law.
+/// Two engines or frame makers that do not agree, or one that breaks a law.
 #[derive(Clone, Debug)]
-pub struct Difference(String);
+pub struct Difference(pub(crate) String);
 
 impl<'e> Pair<'e> {
     pub fn new(first: &'e dyn Engine, second: &'e dyn Engine, world: World) -> Self {

@@ -1,13 +1,15 @@
-//! Drives two implementations of document 01 side by side.
+//! Drives two implementations of the papers side by side.
 //!
 //! An [`engine::Engine`] is anything with document 01's entry points over plain
 //! numbers. The reference always is one; a library that follows the same C
 //! interface is the other when it is linked. Generators make texts, worlds and
 //! lists of calls from a seed, and each call's answer and everything that it
-//! was lent are held against each other byte by byte.
+//! was lent are held against each other byte by byte. An
+//! [`engine::FrameMaker`] has document 02's frame maker, and is treated alike.
 
 pub mod compare;
 pub mod engine;
+pub mod frame;
 pub mod generate;
 pub mod guarded;
 pub mod isolation;

@@ -3,6 +3,7 @@
 
 use crate::world::Call;
 use std::collections::BTreeMap;
+use std::io::Write;
 
 #[derive(Clone, Debug, Default)]
 pub struct Tally(BTreeMap<(&'static str, u32), u64>);
@@ -10,7 +11,18 @@ pub struct Tally(BTreeMap<(&'static str, u32), u64>);
 impl Tally {
     /// Notes that a call returned this number.
     pub fn note(&mut self, call: &Call, number: u32) {
-        *self.0.entry((kind(call), number)).or_default() += 1;
+        self.note_kind(kind(call), number);
+    }
+
+    /// Notes that a call of this kind returned this number.
+    pub fn note_kind(&mut self, kind: &'static str, number: u32) {
+        *self.0.entry((kind, number)).or_default() += 1;
+    }
+
+    /// Prints how many calls a test made. As with seeds, past the test harness.
+    pub fn print(&self, test: &str) {
+        let count: u64 = self.0.values().sum();
+        let _ = writeln!(std::io::stderr(), "{test}: {count} calls compared");
     }
 
     /// Asserts that calls of this kind returned each of these numbers, and none

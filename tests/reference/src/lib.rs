@@ -1,19 +1,22 @@
-//! The reader and the machine of document 01, in plain Rust.
+//! The reader and the machine of document 01 and the frame maker of document 02,
+//! in plain Rust.
 //!
-//! This is a second reading of the paper. It is written from document 01 alone
-//! and shares no code with the proved implementation, so that the two can be
-//! held against each other.
+//! This is a second reading of the papers. It is written from them alone and
+//! shares no code with the proved implementation, so that the two can be held
+//! against each other.
 //!
 //! The entry points are [`read_plan`], [`fresh_start`], [`step`], [`run`] and
 //! [`log_of`]. Each one judges what it was lent before it changes anything, in
 //! the order that document 01 gives under "The plan text", and a refused call
-//! leaves everything as it was.
+//! leaves everything as it was. [`make_frame`] takes nothing but numbers;
+//! [`write_frame`] is the same over rows that are lent.
 
 #![forbid(unsafe_code)]
 
 pub mod cache;
 pub mod colours;
 pub mod flat;
+pub mod frame;
 pub mod geometry;
 pub mod journal;
 pub mod limits;
@@ -30,6 +33,7 @@ mod shift;
 pub mod state;
 mod token;
 
+pub use frame::{make_frame, write_frame, Frame};
 pub use journal::{log_of, Part};
 pub use machine::{fresh_start, run, step, Lent, Outcome, Progress};
 pub use plan::Plan;

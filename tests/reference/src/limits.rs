@@ -1,4 +1,5 @@
-//! The limits of the numbers in a plan: document 01, "The plan text".
+//! The limits of the numbers in a plan: document 01, "The plan text". Those of a
+//! frame: document 02, E1.
 
 use std::ops::RangeInclusive;
 
@@ -26,3 +27,7 @@ pub const SHARE: RangeInclusive<u32> = 1..=1_000;
 pub const LENGTH: RangeInclusive<u32> = 1..=1_000_000;
 pub const VALUE: RangeInclusive<u32> = 0..=65_535;
 pub const COMPUTE: RangeInclusive<u32> = 1..=200;
+/// The windows of a frame.
+pub const FRAME: RangeInclusive<u32> = 1..=WINDOWS as u32;
+/// What each domain weighs in a frame.
+pub const WEIGHT: RangeInclusive<u32> = 0..=1_000;

@@ -1,4 +1,5 @@
-//! The refusals: the table in document 01, "The plan text".
+//! The refusals: the table in document 01, "The plan text", and 15 from document
+//! 02, E1.
 
 /// Why a call was refused. Offsets are in bytes from the text's start.
 #[derive(Clone, Copy, Debug, PartialEq, Eq)]
@@ -31,10 +32,12 @@ pub enum Refusal {
     Damaged,
     /// 14: an impossible state.
     State,
+    /// 15: a count and weights that no frame is made from.
+    Frame,
 }
 
 impl Refusal {
-    /// The number that document 01 gives this refusal.
+    /// The number that the papers give this refusal.
     pub fn number(self) -> u32 {
         match self {
             Refusal::TooLong => 1,
@@ -51,6 +54,7 @@ impl Refusal {
             Refusal::Plan => 12,
             Refusal::Damaged => 13,
             Refusal::State => 14,
+            Refusal::Frame => 15,
         }
     }
 
@@ -70,7 +74,8 @@ impl Refusal {
             | Refusal::TableLength
             | Refusal::Plan
             | Refusal::Damaged
-            | Refusal::State => 0,
+            | Refusal::State
+            | Refusal::Frame => 0,
         }
     }
 }

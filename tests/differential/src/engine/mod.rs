@@ -1,10 +1,13 @@
-//! Document 01's entry points over plain numbers, whoever implements them.
+//! Document 01's entry points over plain numbers, whoever implements them, and
+//! beside them document 02's frame maker.
 
 mod c_engine;
+mod frame_maker;
 #[cfg(linked)]
 mod linked;
 mod reference;
 
+pub use frame_maker::{frame_maker_under_test, FrameMaker, FRAME, WEIGHTS};
 #[cfg(linked)]
 use linked::Linked;
 pub use reference::Reference;
@@ -17,6 +20,9 @@ pub const BOXES: usize = 64;
 pub const PLAN: usize = 92;
 pub const STATE: usize = 18;
 pub const ANSWER: usize = 4;
+
+/// Why a test fails that needs the library.
+const NOT_LINKED: &str = "no library is linked: PIRKVEZO_LIB names the folder of libpirkvezo.a";
 
 /// What a step or a run is lent.
 #[derive(Debug)]
@@ -75,5 +81,5 @@ pub fn linked() -> Option<Box<dyn Engine>> {
 /// comparison would hold the reference against itself and always agree, so a
 /// test that asks for it fails.
 pub fn under_test() -> Box<dyn Engine> {
-    linked().expect("no library is linked: PIRKVEZO_LIB names the folder of libpirkvezo.a")
+    linked().expect(NOT_LINKED)
 }

@@ -1,6 +1,6 @@
-//! The reference behind the plain interface.
+//! The reference behind the plain interfaces.
 
-use super::{Engine, Tables, ANSWER, PLAN, STATE};
+use super::{Engine, FrameMaker, Tables, ANSWER, PLAN, STATE};
 use pirkvezo_reference::flat::{plan_from_flat, plan_to_flat, state_from_flat, state_to_flat};
 use pirkvezo_reference::{self as reference, Lent, Outcome, Plan, Progress, Refusal};
 
@@ -67,6 +67,23 @@ impl Engine for Reference {
         };
         match outcome {
             Ok(part) => tell([0, 0, part.place as u64, part.length as u64], answer),
+            Err(refusal) => refuse(refusal, answer),
+        }
+    }
+}
+
+impl FrameMaker for Reference {
+    fn name(&self) -> &'static str {
+        "reference"
+    }
+
+    fn frame(&self, count: u32, weights: &[u32], frame: &mut [u32], answer: &mut [u64]) -> u32 {
+        let outcome = match answer.len() {
+            ANSWER => reference::write_frame(count, weights, frame),
+            _ => Err(Refusal::TableLength),
+        };
+        match outcome {
+            Ok(()) => tell([0; ANSWER], answer),
             Err(refusal) => refuse(refusal, answer),
         }
     }

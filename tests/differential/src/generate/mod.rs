@@ -1,8 +1,9 @@
-//! Generators of texts, worlds and lists of calls.
+//! Generators of texts, worlds, lists of calls and calls of a frame maker.
 
 pub mod bytes;
 pub mod disturb;
 pub mod faults;
+pub mod frames;
 pub mod habits;
 pub mod lists;
 pub mod mutate;

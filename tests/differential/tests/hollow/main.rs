@@ -3,6 +3,8 @@
 //! contract" and "Mistakes that look like savings".
 
 mod engines;
+mod frame_makers;
+mod frames;
 
 use engines::{Fault, Hollow};
 use pirkvezo_differential::compare::{Difference, Pair};

@@ -1,9 +1,10 @@
-//! Tests of the reference against document 01.
+//! Tests of the reference against documents 01 and 02.
 
 mod costs;
 mod damage;
 mod desk;
 mod flat;
+mod frame;
 mod impossible_plans;
 mod impossible_states;
 mod limits;

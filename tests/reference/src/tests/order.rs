@@ -112,6 +112,7 @@ fn numbers_and_companions() {
         (Refusal::Plan, (12, 0)),
         (Refusal::Damaged, (13, 0)),
         (Refusal::State, (14, 0)),
+        (Refusal::Frame, (15, 0)),
     ];
     for (refusal, expected) in all {
         assert_eq!((refusal.number(), refusal.companion()), expected);
