@@ -1,4 +1,4 @@
-"""Pirkvezo from Python: read a plan, run it, look at what each domain saw.
+"""Pirkvezo from Python: read a plan, run it, look at what each domain saw; make windows by weights.
 
     >>> import pirkvezo
     >>> plan = pirkvezo.read(b"(pad 276)\\n(domain 0 (share 400) (may))\\n"
@@ -8,13 +8,17 @@
     Run(steps=2, ended=True)
     >>> [str(record) for record in world.log(0)]
     ['(miss 3)']
+    >>> pirkvezo.frame(5, [3, 2, 2]).owners
+    (0, 1, 2, 0, 1)
 
 Every number that decides anything comes from the proved library through its C interface. This
 package lays it out as Python values and puts words to it; the package itself is not proved.
 """
+from .frames import Frame, frame
 from .library import LibraryMissing
 from .plans import Op, Plan, Window, read
 from .refusals import Refused
 from .worlds import Record, Run, World
 
-__all__ = ["read", "Plan", "Op", "Window", "Refused", "World", "Record", "Run", "LibraryMissing"]
+__all__ = ["read", "Plan", "Op", "Window", "Refused", "World", "Record", "Run", "frame", "Frame",
+           "LibraryMissing"]

@@ -9,13 +9,13 @@ import sys
 from . import build, commands
 from .library import LibraryMissing
 
-ABOUT = """Check, see, compare and report plans.
+ABOUT = """Check, see, compare and report plans, and make their windows by weights.
 
-Every number that decides anything (verdict, masks, clocks, records) comes from the proved library.
-What is around it only words, lays out and draws, and is not proved.
+Every number that decides anything (verdict, masks, clocks, records, frames)
+comes from the proved library. What is around it only words, lays out and draws, and is not proved.
 """
-EXIT = """exit status: 0 done, 1 a plan was refused, 2 bad arguments, a file that cannot be read, or a
-library that cannot be built"""
+EXIT = """exit status: 0 done, 1 a plan or a frame was refused, 2 bad arguments, a file that cannot be
+read, or a library that cannot be built"""
 
 
 class Parser(argparse.ArgumentParser):

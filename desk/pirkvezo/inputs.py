@@ -50,17 +50,27 @@ def plan_file(name: str) -> PlanFile:
     return PlanFile(said, text)
 
 
-def number_of(low, high):
-    """The type of an option that takes a number within limits."""
+def number_of(low, high, due=None):
+    """The type of an argument that takes a number within limits.
+
+    `due` has the limits to ask for, where the library judges them and may be handed more.
+    """
+    due = due or f"a number from {low} to {high}"
+
     def number(said):
         if not said.isascii() or not said.isdigit() or len(said) > 12 or not low <= int(said) <= high:
-            raise argparse.ArgumentTypeError(f"a number from {low} to {high} is due")
+            raise argparse.ArgumentTypeError(f"{due} is due")
         return int(said)
     return number
 
 
 def refusal_lines(name, refused):
-    """A refusal as a compiler would say it: line, column and words, the line with a caret, and the fix."""
+    """A refusal as a compiler would say it: line, column and words, the line with a caret, and the fix.
+
+    Where no text was read there is no line to show.
+    """
+    if refused.text is None:
+        return [f"{name}: {refused}"] + ([f"    fix: {refused.fix}"] if refused.fix else [])
     line, caret = excerpt(refused.text, refused.offset)
     lines = [f"{name}:{refused.line}:{refused.column}: {refused.words} [{refused.number}]"]
     if line.strip():

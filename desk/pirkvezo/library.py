@@ -9,6 +9,7 @@ import os
 import pathlib
 
 PLAN, STATE, ANSWER, SCRIPTS, CACHE, BOXES = 92, 18, 4, 2048, 272, 64
+WEIGHTS, FRAME = 8, 32
 
 ROOT = pathlib.Path(__file__).resolve().parents[2]
 
@@ -18,6 +19,8 @@ Answer = ctypes.c_uint64 * ANSWER
 Scripts = ctypes.c_uint32 * SCRIPTS
 CacheTable = ctypes.c_uint16 * CACHE
 Boxes = ctypes.c_uint32 * BOXES
+WeightNumbers = ctypes.c_uint32 * WEIGHTS
+FrameNumbers = ctypes.c_uint32 * FRAME
 
 _SIZE = ctypes.c_size_t
 _ENTRY_POINTS = {
@@ -28,6 +31,7 @@ _ENTRY_POINTS = {
     "pirkvezo_run": [PlanNumbers, _SIZE, Scripts, _SIZE, StateNumbers, _SIZE, CacheTable, _SIZE,
                      Boxes, _SIZE, ctypes.c_void_p, _SIZE, ctypes.c_uint64],
     "pirkvezo_log": [PlanNumbers, _SIZE, StateNumbers, _SIZE, ctypes.c_void_p, _SIZE, ctypes.c_uint32],
+    "pirkvezo_frame": [ctypes.c_uint32, WeightNumbers, _SIZE, FrameNumbers, _SIZE],
 }
 
 
@@ -95,4 +99,11 @@ def log_query(plan, state, log, log_length, domain):
     """Where a domain's records stand in the log; the answer's four numbers."""
     answer = Answer()
     load().pirkvezo_log(plan, PLAN, state, STATE, log, log_length, domain, answer, ANSWER)
+    return tuple(answer)
+
+
+def frame(count, weights, numbers):
+    """Makes a frame of `count` windows by weights into numbers; the answer's four numbers."""
+    answer = Answer()
+    load().pirkvezo_frame(count, weights, WEIGHTS, numbers, FRAME, answer, ANSWER)
     return tuple(answer)

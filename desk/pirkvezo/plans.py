@@ -11,9 +11,16 @@ SCRIPT_LENGTH = 256
 
 @dataclasses.dataclass(frozen=True)
 class Window:
-    """A window of time as the plan declares it: the domain that owns it, and its ticks."""
+    """A window of time as the plan declares it: the domain that owns it, and its ticks.
+
+    >>> str(Window(1, 300))
+    '(window 1 (length 300))'
+    """
     owner: int
     length: int
+
+    def __str__(self):
+        return f"(window {self.owner} (length {self.length}))"
 
 
 @dataclasses.dataclass(frozen=True)

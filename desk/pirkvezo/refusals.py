@@ -1,7 +1,7 @@
 """Words for a refusal: where in the text it is, what is wrong there, and what would fix it.
 
-The library says the number and its companion. What is here looks at the text beside them and only
-puts them into words; it never judges a text by itself.
+The library says the number and its companion. What is here looks at the text beside them, or at the
+numbers that a frame was asked for with, and only puts them into words; it never judges by itself.
 """
 import dataclasses
 import difflib
@@ -16,6 +16,7 @@ CALLS = {
     12: "these numbers are no plan that a text gives",
     13: "the cache table or a box is damaged",
     14: "the state is impossible",
+    15: "the window count or a weight is outside its limits, or all weights are 0",
 }
 
 BYTES = {
@@ -55,6 +56,8 @@ class Number:
 
 DOMAIN = Number("domain", 0, 7)
 LINE, WORD = Number("line", 0, 65535), Number("word", 0, 65535)
+LENGTH = Number("length", 1, 1000000)
+COUNT, WEIGHT = Number("window count", 1, 32), Number("weight", 0, 1000)
 OP_NUMBERS = {
     "read": [LINE], "write": [LINE], "send": [Number("recipient", 0, 7), WORD],
     "receive": [Number("sender", 0, 7)], "compute": [Number("number of ticks", 1, 200)],
@@ -63,7 +66,7 @@ FORMS = {
     "pad": [Number("pad", 276, 1000000), ")"],
     "run": [Number("run", 1, 1000), ")"],
     "domain": [DOMAIN, "(", ("share",), Number("share", 1, 1000), ")", "(", ("may",), ")", ")"],
-    "window": [DOMAIN, "(", ("length",), Number("length", 1, 1000000), ")", ")"],
+    "window": [DOMAIN, "(", ("length",), LENGTH, ")", ")"],
     "op": [DOMAIN, "(", tuple(OP_NUMBERS)],
 }
 SHAPES = {
@@ -89,21 +92,25 @@ class Explanation:
 
 
 class Refused(Exception):
-    """A call that the library refused: its number and companion, with words for a reading's text.
+    """A call that the library refused: its number and companion, with words for a reading's text,
+    or for what a frame was asked for with: the window count and the weights.
 
         >>> refused = Refused(7, 1100, b"(domain 0 (share 600) (may))\\n(domain 1 (share 500) (may))")
         >>> refused.line, refused.column, refused.words
         (2, 18, 'the shares total 1100, which is 100 over 1000')
         >>> refused.fix
         'sell 100 thousandths less'
+        >>> str(Refused(15, 0, asked=(33, (3, 2, 2))))
+        'the window count is 33; it is at most 32 [15]'
     """
 
-    def __init__(self, number: int, companion: int, text: Optional[bytes] = None):
+    def __init__(self, number: int, companion: int, text: Optional[bytes] = None,
+                 asked: Optional[Tuple[int, Tuple[int, ...]]] = None):
         self.number, self.companion, self.text = number, companion, text
-        said = explain(number, companion, text)
+        said = explain(number, companion, text, asked)
         self.offset, self.line, self.column = said.offset, said.line, said.column
         self.words, self.fix = said.words, said.fix
-        super().__init__(number, companion, text)
+        super().__init__(number, companion, text, asked)
 
     def __str__(self):
         where = "" if self.line is None else f"{self.line}:{self.column}: "
@@ -155,8 +162,11 @@ def excerpt(text: bytes, offset: int, width: int = 96) -> Tuple[str, str]:
     return seen, " " * at + "^"
 
 
-def explain(number: int, companion: int, text: Optional[bytes]) -> Explanation:
-    """Words for a refusal; without a text, for a call that was lent tables."""
+def explain(number: int, companion: int, text: Optional[bytes],
+            asked: Optional[Tuple[int, Tuple[int, ...]]] = None) -> Explanation:
+    """Words for a refusal; without a text, for a frame or for a call that was lent tables."""
+    if number == 15 and asked is not None:
+        return Explanation(None, None, None, *_no_frame(*asked))
     if text is None or number > 10:
         return Explanation(None, None, None, CALLS.get(number, "refused"), "")
     offset, words, fix = _READING[number](companion, text)
@@ -368,6 +378,21 @@ def _too_many(offset, text):
             "take windows out, or repeat fewer with run"
     return offset, f"domain {int(line[2].text)} has at most {OPS} ops, and this is one more", \
         "take ops out of its script"
+
+
+def _no_frame(count, weights):
+    """Cause and fix for a frame that was refused: the first number outside its limits is named."""
+    if not COUNT.low <= count <= COUNT.high:
+        bound = f"least {COUNT.low}" if count < COUNT.low else f"most {COUNT.high}"
+        return f"the {COUNT.name} is {count}; it is at {bound}", \
+            f"ask for {COUNT.low} to {COUNT.high} windows; run repeats them"
+    for domain, weight in enumerate(weights):
+        if weight > WEIGHT.high:
+            return f"the {WEIGHT.name} of domain {domain} is {weight}; it is at most {WEIGHT.high}", \
+                f"write weights from {WEIGHT.low} to {WEIGHT.high}; only their proportion counts"
+    if not any(weights):
+        return "all weights are 0", f"give at least one domain a weight from 1 to {WEIGHT.high}"
+    return CALLS[15], ""
 
 
 _READING = {
