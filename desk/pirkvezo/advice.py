@@ -9,9 +9,10 @@ from typing import List, Optional
 from .layout import count, ranges
 from .plans import Plan
 from .refusals import forms, line_and_column
+from .shares import COLOURS, SHARES
 from .worlds import World
 
-LINES, KERNEL_COLOUR, COLOURS = 4096, 15, 15
+LINES, KERNEL_COLOUR = 4096, 15
 
 
 @dataclasses.dataclass(frozen=True)
@@ -21,15 +22,6 @@ class Warning:
     words: str
     line: Optional[int] = None
     column: Optional[int] = None
-
-
-def least_share(holding):
-    """The least share that gives so many colours.
-
-    >>> least_share(1), least_share(2), least_share(15)
-    (67, 134, 1000)
-    """
-    return -(-1000 * holding // COLOURS)
 
 
 def colour(line):
@@ -90,10 +82,12 @@ def warnings(plan: Plan) -> List[Warning]:
 
 
 def _rounding(plan):
-    sold = sum(plan.shares) * COLOURS // 1000
+    # rounding gives as well as takes: it is worth a warning where whole colours are paid for and
+    # nobody holds them
+    paid = sum(plan.shares) * COLOURS // SHARES
     held = sum(map(plan.holding, range(plan.domains)))
-    if held >= sold:
+    if held >= paid:
         return []
-    return [Warning("rounding", f"rounding loses {sold - held} of {count(sold, 'colour')} that the shares "
+    return [Warning("rounding", f"rounding loses {paid - held} of {count(paid, 'colour')} that the shares "
                     f"pay for: they total {sum(plan.shares)}, and the domains hold {count(held, 'colour')} "
                     "(table says who loses what)")]

@@ -67,15 +67,14 @@ def number_of(low, high, due=None):
 def refusal_lines(name, refused):
     """A refusal as a compiler would say it: line, column and words, the line with a caret, and the fix.
 
-    Where no text was read there is no line to show.
+    Where no line is at fault there is none to show.
     """
-    if refused.text is None:
-        return [f"{name}: {refused}"] + ([f"    fix: {refused.fix}"] if refused.fix else [])
-    line, caret = excerpt(refused.text, refused.offset)
-    lines = [f"{name}:{refused.line}:{refused.column}: {refused.words} [{refused.number}]"]
-    if line.strip():
-        lines += [f"    {line}", f"    {caret}"]
-    return lines + [f"    fix: {refused.fix}"]
+    if refused.line is None:
+        lines = [f"{name}: {refused}"]
+    else:
+        line, caret = excerpt(refused.text, refused.offset)
+        lines = [f"{name}:{refused}"] + ([f"    {line}", f"    {caret}"] if line.strip() else [])
+    return lines + ([f"    fix: {refused.fix}"] if refused.fix else [])
 
 
 def refusal_values(refused):

@@ -49,3 +49,12 @@ def count(number, noun):
     ('1 window', '2 windows')
     """
     return f"{number} {noun}" if number == 1 else f"{number} {noun}s"
+
+
+def signed(thousandths):
+    """A number of thousandths with its sign.
+
+    >>> signed(500), signed(-125), signed(0)
+    ('+0.500', '-0.125', '0.000')
+    """
+    return f"{thousandths / 1000:{'+' if thousandths else ''}.3f}"

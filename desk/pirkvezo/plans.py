@@ -70,7 +70,7 @@ class Plan:
         >>> plan.pad, plan.run, plan.shares, plan.recipients
         (276, 1, (400, 300), ((1,), ()))
         >>> plan.colours(0), plan.holding(1)
-        ([0, 1, 2, 3, 4, 5], 4)
+        ([0, 1, 2, 3, 4, 5], 5)
         >>> plan.window_start(1), plan.window_end(1), plan.windows_total, plan.ticks_total
         (676, 976, 2, 1252)
         >>> [str(op) for op in plan.ops(1)]

@@ -8,7 +8,9 @@ import difflib
 import re
 from typing import List, Optional, Tuple
 
-TEXT_BYTES, SHARES, TICKS, WINDOWS, OPS, LEAST_SHARE = 32768, 1000, 4294967295, 32, 256, 67
+from .shares import COLOURS, SHARES, colours_of, least_share, mended
+
+TEXT_BYTES, TICKS, WINDOWS, OPS, LEAST_SHARE = 32768, 4294967295, 32, 256, least_share(1)
 
 CALLS = {
     4: "the plan does not declare that domain",
@@ -17,6 +19,7 @@ CALLS = {
     13: "the cache table or a box is damaged",
     14: "the state is impossible",
     15: "the window count or a weight is outside its limits, or all weights are 0",
+    16: f"the shares give more than {COLOURS} colours",
 }
 
 BYTES = {
@@ -167,7 +170,7 @@ def explain(number: int, companion: int, text: Optional[bytes],
     """Words for a refusal; without a text, for a frame or for a call that was lent tables."""
     if number == 15 and asked is not None:
         return Explanation(None, None, None, *_no_frame(*asked))
-    if text is None or number > 10:
+    if text is None or number not in _READING:
         return Explanation(None, None, None, CALLS.get(number, "refused"), "")
     offset, words, fix = _READING[number](companion, text)
     line, column = line_and_column(text, offset)
@@ -334,20 +337,52 @@ def _missing(offset, text):
     return offset, f"the plan has no {said}", "add " + " and ".join(SHAPES[word] for word in lacking)
 
 
+def _shares(text):
+    """The shares of the domain lines: their tokens, and their numbers."""
+    found = [line[5] for line in forms(text, "domain")]
+    return found, [int(token.text) for token in found]
+
+
+def _passing(text, worth, limit):
+    """The offset of the share at which the sum of what the shares are worth passes a limit."""
+    so_far = 0
+    for token, share in zip(*_shares(text)):
+        so_far += worth(share)
+        if so_far > limit:
+            break
+    return token.offset
+
+
 def _no_colour(domain, text):
-    token = forms(text, "domain")[domain][5]
-    return token.offset, f"domain {domain}: the share {int(token.text)} gives no colour", \
-        f"give it at least {LEAST_SHARE}, the least share that gives one"
+    found, shares = _shares(text)
+    fix = f"give it at least {LEAST_SHARE}, the least share that gives one"
+    # where all is let, a colour for this domain has to come from another
+    if any(new < old for old, new in zip(shares, mended(shares))):
+        fix += f"; to make room, {_other_shares(shares)}"
+    return found[domain].offset, f"domain {domain}: the share {shares[domain]} gives no colour", fix
 
 
 def _oversold(total, text):
-    so_far = 0
-    for line in forms(text, "domain"):
-        so_far += int(line[5].text)
-        if so_far > SHARES:
-            break
-    return line[5].offset, f"the shares total {total}, which is {total - SHARES} over {SHARES}", \
+    return _passing(text, int, SHARES), \
+        f"the shares total {total}, which is {total - SHARES} over {SHARES}", \
         f"sell {total - SHARES} thousandths less"
+
+
+def _too_many_colours(total, text):
+    return _passing(text, colours_of, COLOURS), \
+        f"the shares give {total} colours, which is {total - COLOURS} over {COLOURS}", \
+        _other_shares(_shares(text)[1])
+
+
+def _other_shares(shares):
+    """The shares that would have to change, and what they would give, in words."""
+    said = []
+    for domain, (old, new) in enumerate(zip(shares, mended(shares))):
+        if old != new:
+            share, colours = ("one", "") if said else ("a share", " colours")
+            said.append(f"domain {domain} {share} of {new} "
+                        f"({colours_of(old)}{colours} become {colours_of(new)})")
+    return "give " + ", ".join(said) if said else ""
 
 
 def _listed_twice(offset, text):
@@ -397,5 +432,5 @@ def _no_frame(count, weights):
 
 _READING = {
     1: _too_long, 2: _shape, 3: _range, 4: _undeclared, 5: _missing, 6: _no_colour, 7: _oversold,
-    8: _listed_twice, 9: _too_many_ticks, 10: _too_many,
+    8: _listed_twice, 9: _too_many_ticks, 10: _too_many, 16: _too_many_colours,
 }

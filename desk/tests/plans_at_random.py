@@ -1,14 +1,23 @@
 """Plan texts at random, all accepted, for tests that hold the desk to the library."""
+from pirkvezo.shares import COLOURS, SHARES, colours_of, least_share
+
+
+def shares_at_random(random, domains):
+    """Shares that give every domain a colour, and at most 15 colours for at most 1000."""
+    shares, left, colours, least = [], SHARES, COLOURS, least_share(1)
+    for others in reversed(range(domains)):
+        # each domain behind this one needs a colour
+        most = min(left - others * least, least_share(colours - others + 1) - 1)
+        shares.append(random.randint(least, min(most, random.choice([34, 100, 134, 300, 1000]))))
+        left -= shares[-1]
+        colours -= colours_of(shares[-1])
+    return shares
 
 
 def plan_text(random):
     """A plan's text; `random` is a random.Random with a seed of the test's own."""
     domains = random.randint(1, 8)
-    shares, left = [], 1000
-    for domain in range(domains):
-        most = left - 67 * (domains - domain - 1)
-        shares.append(random.randint(67, max(67, min(most, random.choice([70, 134, 300, 933])))))
-        left -= shares[-1]
+    shares = shares_at_random(random, domains)
     lines = [f"(pad {random.choice([276, 300, 1000])})"]
     for domain, share in enumerate(shares):
         may = random.sample([b for b in range(domains) if b != domain], random.randint(0, domains - 1))

@@ -96,7 +96,7 @@ class Commands(unittest.TestCase):
         self.assertEqual(status, 1)
         self.assertEqual((refused["refusal"]["number"], refused["refusal"]["companion"]), (7, 1100))
         self.assertTrue(accepted["accepted"] and accepted["refusal"] is None)
-        self.assertEqual({w["kind"] for w in accepted["warnings"]}, {"rounding", "never allowed"})
+        self.assertEqual({w["kind"] for w in accepted["warnings"]}, {"never allowed"})
         self.assertEqual(call("check", "examples/worked_example.plan")[0], 0)
 
     def test_run(self):
@@ -125,8 +125,9 @@ class Commands(unittest.TestCase):
         status, out, _ = call("table", "examples/worked_example.plan")
         self.assertEqual(status, 0)
         self.assertIn("■■■■■■□□□□□□□□□k", out)
-        self.assertIn("no colour is let twice; 10 let, 5 unsold, 1 the kernel's, 16 in all", out)
-        self.assertIn("□", out)
+        self.assertIn("□□□□□□■■■■■□□□□k", out)
+        self.assertIn("no colour is let twice; 11 let, 4 unsold, 1 the kernel's, 16 in all", out)
+        self.assertRegex(out, r"\n +1 +300 +5 .* \+0\.500 +0  none\n")
         status, out, _ = call("table", "examples/worked_example.plan", PYTHONIOENCODING="ascii")
         self.assertIn("######.........k", out)
         self.assertEqual(call("table", "examples/oversold.plan")[0], 1)

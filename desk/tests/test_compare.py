@@ -137,7 +137,8 @@ def random_plan(dice):
     lines = [f"(pad {dice.randrange(276, 400)})", f"(run {dice.randrange(1, 4)})"]
     for d in range(domains):
         may = " ".join(str(r) for r in range(domains) if r != d and dice.random() < 0.5)
-        lines.append(f"(domain {d} (share {dice.randrange(67, 251)}) (may {may}))")
+        # at most three colours each
+        lines.append(f"(domain {d} (share {dice.randrange(34, 234)}) (may {may}))")
     for _ in range(dice.randrange(1, 8)):
         lines.append(f"(window {dice.randrange(domains)} (length {dice.randrange(1, 900)}))")
     scripts = {d: [random_op(dice) for _ in range(dice.randrange(12))] for d in range(domains)}

@@ -9,7 +9,10 @@ import unittest
 ROOT = pathlib.Path(__file__).resolve().parents[2]
 sys.path.insert(0, str(ROOT / "desk"))
 
-from pirkvezo import library
+from pirkvezo import library, read
+from pirkvezo.history import history
+from pirkvezo.report.pictures import share_picture
+from pirkvezo.report.timeline import messages, timeline
 
 
 def shown():
@@ -43,6 +46,15 @@ class Page(unittest.TestCase):
         text = (ROOT / "docs" / "DESK.md").read_text(encoding="utf-8")
         for module in (ROOT / "desk" / "pirkvezo" / "commands").glob("[a-z]*.py"):
             self.assertTrue(re.search(rf"^\| `{module.stem} ", text, re.MULTILINE), module.stem)
+
+    def test_the_picture_is_what_the_report_draws(self):
+        kept = (ROOT / "docs" / "desk.svg").read_text(encoding="utf-8").splitlines()
+        plan = read((ROOT / "examples" / "filter.plan").read_bytes())
+        run = history(plan)
+        drawn = share_picture(plan) + timeline(plan, run, messages(plan, run))
+        groups = [line for line in drawn.splitlines() if line.startswith("<g data-")]
+        self.assertEqual(len(groups), 16 + plan.windows_total)
+        self.assertEqual([line for line in kept if line.startswith("<g data-")], groups)
 
 
 if __name__ == "__main__":

@@ -7,7 +7,7 @@ import subprocess
 import unittest
 
 import pirkvezo
-from pirkvezo import advice, frames, history, layout, library, plans, refusals, worlds
+from pirkvezo import advice, frames, history, layout, library, plans, refusals, shares, worlds
 from pirkvezo.commands.table import table
 from plans_at_random import plan_text
 
@@ -55,7 +55,7 @@ class Package(unittest.TestCase):
         here = os.getcwd()
         os.chdir(ROOT)
         try:
-            for module in (pirkvezo, advice, frames, history, layout, plans, refusals, worlds):
+            for module in (pirkvezo, advice, frames, history, layout, plans, refusals, shares, worlds):
                 names = dict(vars(module), read=pirkvezo.read)
                 said = doctest.testmod(module, extraglobs=names)
                 self.assertEqual(said.failed, 0, module.__name__)
@@ -99,6 +99,12 @@ class Package(unittest.TestCase):
         self.assertEqual(world.log(0), [])
 
 
+def nearest(share):
+    """The colours that a share gives, said in another way than the package's."""
+    whole, rest = divmod(15 * share, 1000)
+    return whole + (rest >= 500)
+
+
 class Table(unittest.TestCase):
     def test_arithmetic_is_that_of_the_masks(self):
         chance = random.Random(18)
@@ -109,14 +115,15 @@ class Table(unittest.TestCase):
                 mask = plan.numbers[84 + entry["domain"]]
                 self.assertEqual(sum(1 << colour for colour in entry["colours"]), mask)
                 self.assertEqual(entry["holding"], bin(mask).count("1"))
-                self.assertEqual(entry["holding"], entry["share"] * 15 // 1000)
+                self.assertEqual(entry["holding"], nearest(entry["share"]))
                 lines = [line for line in range(4096) if mask >> (line % 64 // 4) & 1]
                 self.assertEqual(entry["lines"], len(lines))
                 self.assertEqual(entry["sets"], sorted({line % 64 for line in lines}))
-                less = entry["share"] - entry["lost_share"]
-                self.assertEqual(less * 15 // 1000, entry["holding"])
-                self.assertLess((less - 1) * 15 // 1000, entry["holding"])
-                self.assertTrue(0 <= entry["lost_colour"] < 1000)
+                less = entry["share"] - entry["spare"]
+                self.assertEqual(nearest(less), entry["holding"])
+                self.assertLess(nearest(less - 1), entry["holding"])
+                self.assertTrue(-500 < entry["rounded"] <= 500)
+                self.assertEqual(1000 * entry["holding"] - entry["rounded"], 15 * entry["share"])
             self.assertTrue(max(made["let"]) <= 1)
             self.assertEqual(made["let"][15], 0)
             self.assertEqual(sum(made["let"]) + len(made["unsold"]), 15)
@@ -140,10 +147,11 @@ class Advice(unittest.TestCase):
                                      record.kind in ("barred", "denied"), (op, record))
 
     def test_warnings(self):
-        eight = "(pad 276)\n" + "".join(f"(domain {d} (share 125) (may))\n" for d in range(8))
+        eight = "(pad 276)\n" + "".join(f"(domain {d} (share 99) (may))\n" for d in range(8))
         found = advice.warnings(pirkvezo.read(eight + "(window 0 (length 100))\n(run 1)\n"
                                               "(op 0 (read 0))\n(op 0 (read 1))\n(op 0 (read 60))\n"))
-        self.assertIn("rounding loses 7 of 15 colours", found[0].words)
+        self.assertIn("rounding loses 3 of 11 colours that the shares pay for: they total 792, and the domains hold "
+                      "8 colours", found[0].words)
         self.assertEqual([w.kind for w in found].count("no window"), 7)
         self.assertIn(("unfinished", 13, 1), [(w.kind, w.line, w.column) for w in found])
         self.assertIn(("never allowed", 14, 1), [(w.kind, w.line, w.column) for w in found])

@@ -47,13 +47,15 @@ CASES = [
     ("", 5, 1, 1, "no pad, domain, window or run", "(pad 276)"),
     (GOOD.replace("(run 1)\n", ""), 5, 5, 1, "the plan has no run", "add (run 1)"),
     (GOOD + "  (pad 276)", 5, 6, 3, "a second pad; the first is in line 1", "keep one pad"),
-    (GOOD.replace("400) (may 1", "66) (may 1"), 6, 2, 18, "domain 0: the share 66 gives no colour", "67"),
+    (GOOD.replace("400) (may 1", "33) (may 1"), 6, 2, 18, "domain 0: the share 33 gives no colour", "at least 34"),
     (GOOD.replace("300", "700"), 7, 3, 18, "total 1100, which is 100 over 1000", "100 thousandths less"),
     ("(domain 0 (share 400) (may 0))", 8, 1, 28, "lists itself", "leave 0 out"),
     ("(domain 0 (share 400) (may 1 2 1))", 8, 1, 32, "lists the recipient 1 twice", "leave one 1 out"),
     (LONG, 9, 36, 6, "64000000 ticks 1000 times", "at most (run 67)"),
     (GOOD + "(window 0 (length 400))\n" * 32, 10, 37, 1, "at most 32 windows", "repeat fewer"),
     (GOOD + "(op 1 (read 3))\n" * 257, 10, 262, 1, "domain 1 has at most 256 ops", "take ops out"),
+    (GOOD.replace("400", "500", 1).replace("300", "00500"), 16, 3, 18, "16 colours, which is 1 over 15",
+     "give domain 1 a share of 499 (8 colours become 7)"),
 ]
 
 
@@ -67,7 +69,7 @@ class Refusals(unittest.TestCase):
                 self.assertEqual((said.number, said.line, said.column), (number, line, column), said)
                 self.assertIn(words, said.words)
                 self.assertIn(fix, said.fix)
-        self.assertEqual({case[1] for case in CASES}, set(range(1, 11)))
+        self.assertEqual({case[1] for case in CASES}, set(range(1, 11)) | {16})
 
     def test_every_damaged_text_has_words(self):
         chance = random.Random(20)

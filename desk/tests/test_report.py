@@ -30,7 +30,7 @@ def longest():
     Seven scripts take 256 rounds, so that 8192 windows must be drawn.
     """
     lines = ["(pad 276)", "(run 1000)"]
-    lines += [f"(domain {d}(share 125)(may))" for d in range(8)]
+    lines += [f"(domain {d}(share 99)(may))" for d in range(8)]
     lines += [f"(window {min(k, 7)}(length 1))" for k in range(32)]
     lines += [f"(op {d}(read 0))" for d in range(8) for _ in range(256)]
     return "\n".join(lines).encode()
@@ -99,6 +99,15 @@ class Pages(unittest.TestCase):
                 holder = [d for d in range(plan.domains) if plan.masks[d] >> colour & 1]
                 wanted = "kernel" if colour == 15 else f"d{holder[0]}" if holder else "unsold"
                 self.assertEqual(style, wanted)
+
+    def test_rounding(self):
+        text = b"(pad 276)\n(domain 0 (share 300) (may))\n(domain 1 (share 75) (may))\n" \
+               b"(domain 2 (share 400) (may))\n(window 0 (length 9))\n(run 1)"
+        tree = xml.fromstring(page("rounding", read(text)))
+        found = [row for row in tree.iter() if row.tag.endswith("}tr")][:4]
+        heads, *rows = [["".join(cell.itertext()) for cell in row] for row in found]
+        self.assertEqual([row[heads.index("Rounded")] for row in rows], ["+0.500", "-0.125", "0.000"])
+        self.assertEqual([row[heads.index("Held")] for row in rows], ["5", "1", "6"])
 
     def test_messages_are_arrows(self):
         text = (ROOT / "examples" / "filter.plan").read_bytes()

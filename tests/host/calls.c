@@ -138,6 +138,9 @@ static void refused_readings(void)
 {
     print_call("read_plan, pad 275", read_text("(pad 275)\n"));
     print_call("read_plan, no text", read_text(""));
+    print_call("read_plan, sixteen colours",
+               read_text("(pad 276)\n(domain 0 (share 500) (may))\n(domain 1 (share 500) (may))\n"
+                         "(window 0 (length 1))\n(run 1)\n"));
     print_call("fresh_start, the plan beside a refused reading", start());
 }
 

@@ -48,7 +48,7 @@ plan =
     ++ ((2 ∷ replicate (mostDomains - 1) 0)
     ++ ((0 ∷ 1 ∷ replicate (mostWindows - 2) 0)
     ++ ((400 ∷ 300 ∷ replicate (mostWindows - 2) 0)
-    ++ (63 ∷ 960 ∷ replicate (mostDomains - 2) 0)))))
+    ++ (63 ∷ 1_984 ∷ replicate (mostDomains - 2) 0)))))
 
 abbrev script : List Op → List ℕ
 script ops = map storedOf ops ++ replicate (mostOps - length ops) 0

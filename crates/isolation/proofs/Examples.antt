@@ -40,7 +40,8 @@ use Rattle.isolation.proofs.TwoRuns.Progress.{no-fewer, one-start}
 
 -- ---- one plan and two script stores
 
--- three domains; the observer is 0, and 1 may send to it; the windows 1, 0, 2 twice
+-- three domains with 5, 6 and 4 colours, all that there are; the observer is 0, and 1 may send to it; the windows 1, 0, 2
+-- twice
 abbrev pub plan : Plan
 plan =
     record {
@@ -48,11 +49,11 @@ plan =
       run = 2;
       domains = 3;
       windows = 3;
-      shares = 400 ∷ 300 ∷ 300 ∷ 0 ∷ 0 ∷ 0 ∷ 0 ∷ 0 ∷ [];
+      shares = 300 ∷ 400 ∷ 270 ∷ 0 ∷ 0 ∷ 0 ∷ 0 ∷ 0 ∷ [];
       rights = 0 ∷ 1 ∷ 2 ∷ 0 ∷ 0 ∷ 0 ∷ 0 ∷ 0 ∷ [];
       owners = 1 ∷ 0 ∷ 2 ∷ replicate (mostWindows - 3) 0;
       lengths = 300 ∷ 400 ∷ 300 ∷ replicate (mostWindows - 3) 0;
-      masks = 63 ∷ 960 ∷ 15_360 ∷ 0 ∷ 0 ∷ 0 ∷ 0 ∷ 0 ∷ [];
+      masks = 31 ∷ 2_016 ∷ 30_720 ∷ 0 ∷ 0 ∷ 0 ∷ 0 ∷ 0 ∷ [];
     }
 
 -- a domain's numbers in the store
@@ -60,19 +61,19 @@ abbrev script : List Op → List ℕ
 script ops = map storedOf ops ++ replicate (mostOps - length ops) 0
 
 abbrev mine : List ℕ
-mine = script (Receive 1 ∷ Read 3 ∷ Read 67 ∷ Receive 1 ∷ Read 3 ∷ Compute 7 ∷ Write 5 ∷ [])
+mine = script (Receive 1 ∷ Read 17 ∷ Read 81 ∷ Receive 1 ∷ Read 17 ∷ Compute 7 ∷ Write 5 ∷ [])
 
 -- in one run a rival sends two words; in the other it writes, and overwrites a word that it sent; and the third domain
 -- computes, or sends and reads
 abbrev rivals : List ℕ
 rivals =
-    script (Send 0 77 ∷ Read 100 ∷ Send 0 88 ∷ [])
+    script (Send 0 77 ∷ Read 40 ∷ Send 0 88 ∷ [])
     ++ (script (Compute 200 ∷ Compute 200 ∷ []) ++ replicate (scriptsLength - 3 * mostOps) 0)
 
 abbrev rivals′ : List ℕ
 rivals′ =
     script (Write 30 ∷ Send 0 77 ∷ Send 0 99 ∷ Send 0 88 ∷ [])
-    ++ (script (Send 1 5 ∷ Read 40 ∷ Write 41 ∷ Read 44 ∷ []) ++ replicate (scriptsLength - 3 * mostOps) 0)
+    ++ (script (Send 1 5 ∷ Read 46 ∷ Write 47 ∷ Read 57 ∷ []) ++ replicate (scriptsLength - 3 * mostOps) 0)
 
 -- ---- two lists of calls
 
@@ -339,7 +340,7 @@ overlapping =
       rights = plan .rights;
       owners = plan .owners;
       lengths = plan .lengths;
-      masks = 63 ∷ 63 ∷ 15_360 ∷ 0 ∷ 0 ∷ 0 ∷ 0 ∷ 0 ∷ [];
+      masks = 31 ∷ 31 ∷ 30_720 ∷ 0 ∷ 0 ∷ 0 ∷ 0 ∷ 0 ∷ [];
     }
 
 -- the observer reads a line that its rival read before it, or did not

@@ -72,7 +72,7 @@ dearestPlan =
       rights = 2 ∷ replicate 7 0;
       owners = replicate 32 0;
       lengths = 1_000 ∷ replicate 31 0;
-      masks = 63 ∷ 960 ∷ replicate 6 0;
+      masks = 63 ∷ 1_984 ∷ replicate 6 0;
     }
 
 pub dearest-valid : planValid dearestPlan ≡ true

@@ -2,21 +2,23 @@
 -- Everything above cites these laws and never the rule from shares to colours. Assumes nothing.
 use mathlib.Core.Path.{_≡_, refl, ap, _∙_}
 use mathlib.Core.Bool.{Bool, true, false}
-use Prim.Native.Nat.{ℕ, suc, _≤_, _<_}
+use Prim.Native.Nat.{ℕ, suc, _+_, _≤_, _<_}
+use native.Mathlib.Numerals.{add-one}
 use native.Mathlib.Omega.{arith}
 use lib.Count.{ones}
 use lib.Dec.{ltb}
 use borrow.Author.Tests.{lt-ltb, ltb-true, ltb-false}
 use Rattle.plan.specs.declared.Plan.{Plan}
-use Rattle.plan.specs.Colours.{coloursAt, firstColour, holdingOf, maskAt, maskOf, ownsColour}
+use Rattle.plan.specs.Colours.{coloursAt, firstColour, holdingOf, maskAt, maskOf, ownsColour, shareOf}
 use Rattle.plan.specs.Validity.{planValid}
+use Rattle.plan.specs.Theorems.{MasksOfValidPlans, TooManyColours}
 use Rattle.plan.specs.Rights.{maySend, rightsAt}
 use Rattle.plan.specs.Sums.{sumTo}
 use Rattle.plan.specs.Limits.{domainColours, mostDomains}
 use Rattle.plan.proofs.Bits.{mask-bits, mask-fits, mask-ones, no-high-bit, zero-no-bit}
 use Rattle.plan.proofs.ValidPlans.{counts, declared, parts, undeclared}
-use Rattle.plan.proofs.Shares.{colours-at-most}
-use Rattle.plan.proofs.Sums.{sum-mono}
+use Rattle.plan.proofs.Shares.{nearest}
+use Rattle.plan.proofs.Sums.{sum-mono, sum-same}
 
 -- the colours of a domain lie between its first and the next domain's first
 pub owned-range :
@@ -42,7 +44,7 @@ pub owned-below :
 owned-below plan domain colour valid below owns =
     let range = owned-range plan domain colour valid below owns in
     let rising : firstColour plan (suc domain) ≤ firstColour plan (plan .domains) = first-mono plan (suc domain) (plan .domains) below in
-    let total : firstColour plan (plan .domains) ≤ domainColours = colours-at-most plan (plan .domains) (parts plan valid .shares) in
+    let total : firstColour plan (plan .domains) ≤ domainColours = parts plan valid .colours in
     omega arith
 
 -- a lower domain's colours end before a higher one's begin
@@ -87,7 +89,7 @@ mask-most plan domain valid below = go (ltb domain (plan .domains)) refl
     go true e =
         let within = ltb-true domain (plan .domains) e in
         let rising : firstColour plan (suc domain) ≤ firstColour plan (plan .domains) = first-mono plan (suc domain) (plan .domains) within in
-        let total : firstColour plan (plan .domains) ≤ domainColours = colours-at-most plan (plan .domains) (parts plan valid .shares) in
+        let total : firstColour plan (plan .domains) ≤ domainColours = parts plan valid .colours in
         let fits = mask-fits (firstColour plan domain) (coloursAt plan domain) (omega arith) in
         omega (arith, declared plan domain valid within .mask)
     go false e = omega (arith, undeclared plan domain valid (ltb-false domain (plan .domains) e) below .mask)
@@ -100,6 +102,33 @@ holding-is-colours plan domain valid below =
     let small : domain < mostDomains = omega (arith, counts plan valid .domains-most) in
     rw (lt-ltb domain mostDomains small)
     (ap ones (declared plan domain valid below .mask) ∙ mask-ones (firstColour plan domain) (coloursAt plan domain))
+
+-- as many colours are given out before a domain as the domains before it hold
+first-is-held : (plan : Plan) (domain : ℕ) → planValid plan ≡ true → domain ≤ plan .domains → sumTo (holdingOf plan) domain ≡ firstColour plan domain
+unfolding firstColour
+first-is-held plan domain valid within =
+    sum-same (holdingOf plan) (coloursAt plan) domain (λ index below. holding-is-colours plan index valid (omega arith))
+
+pub masks-of-valid-plans : MasksOfValidPlans
+masks-of-valid-plans plan valid =
+    record {
+      not-twice = λ one other colour below below′. masks-disjoint plan one other colour valid below below′;
+      none-above = λ domain colour below. owned-below plan domain colour valid below;
+      nearest = λ domain below. rw (holding-is-colours plan domain valid below) (nearest (shareOf plan domain));
+      upwards =
+          λ domain colour below owns.
+          rw (first-is-held plan domain valid (omega arith), first-is-held plan (domain + 1) valid (omega arith), add-one domain)
+          (owned-range plan domain colour valid below owns);
+      no-others = λ domain past below. undeclared plan domain valid past below .mask;
+    }
+
+-- more colours than there are: the part of validity that looks at their total fails
+pub too-many-colours : TooManyColours
+too-many-colours plan over = go (planValid plan) refl
+  where
+    go : (b : Bool) → planValid plan ≡ b → b ≡ false
+    go true valid = absurd (omega (arith, parts plan valid .colours))
+    go false _ = refl
 
 -- a right to send is a declared domain's, to a declared domain
 pub right-declared :

@@ -8,12 +8,12 @@ use lib.ListN.{getD}
 use borrow.Author.Tests.{eqb-true, leb-true, ltb-true, lt-ltb, le-ltb, not-true}
 use Rattle.lists.proofs.Tests.{both}
 use Rattle.plan.specs.declared.Plan.{Plan}
-use Rattle.plan.specs.Colours.{coloursAt, maskAt, maskFor, maskOf, shareOf, sharesTotal}
+use Rattle.plan.specs.Colours.{coloursAt, coloursTotal, maskAt, maskFor, maskOf, shareOf, sharesTotal}
 use Rattle.plan.specs.Validity.{countsValid, declaredValid, domainValid, maskValid, planValid, undeclaredValid, windowValid, within}
 use Rattle.plan.specs.Rights.{maySend, rightsAt}
 use Rattle.plan.specs.Sums.{allBelow}
 use Rattle.plan.specs.Windows.{ticksTotal}
-use Rattle.plan.specs.Limits.{leastLength, leastPad, mostDomains, mostLength, mostPad}
+use Rattle.plan.specs.Limits.{domainColours, leastLength, leastPad, mostDomains, mostLength, mostPad}
 use Rattle.plan.specs.Limits.{mostRun, mostRunTicks, mostShare, mostShares, mostWindows}
 use Rattle.plan.proofs.Sums.{all-below}
 
@@ -21,11 +21,12 @@ use Rattle.plan.proofs.Sums.{all-below}
 pub limits : (low high number : ℕ) → within low high number ≡ true → (low ≤ number) × (number ≤ high)
 limits low high number h = let parts = both (leb low number) (leb number high) h in (leb-true _ _ (parts .0), leb-true _ _ (parts .1))
 
--- the six parts of the check
+-- the seven parts of the check
 pub record ValidParts (plan : Plan) : Type 0 where
   pub counts : countsValid plan ≡ true
   pub domains : allBelow (domainValid plan) mostDomains ≡ true
   pub shares : sharesTotal plan (plan .domains) ≤ mostShares
+  pub colours : coloursTotal plan ≤ domainColours
   pub masks : allBelow (maskValid plan) mostDomains ≡ true
   pub windows : allBelow (windowValid plan) mostWindows ≡ true
   pub ticks : ticksTotal plan ≤ mostRunTicks
@@ -33,7 +34,8 @@ pub record ValidParts (plan : Plan) : Type 0 where
 pub parts : (plan : Plan) → planValid plan ≡ true → ValidParts plan
 unfolding planValid
 parts plan valid =
-    let sixth = both _ _ valid in
+    let seventh = both _ _ valid in
+    let sixth = both _ _ (seventh .0) in
     let fifth = both _ _ (sixth .0) in
     let fourth = both _ _ (fifth .0) in
     let third = both _ _ (fourth .0) in
@@ -42,9 +44,10 @@ parts plan valid =
       counts = second .0;
       domains = second .1;
       shares = leb-true _ _ (third .1);
-      masks = fourth .1;
-      windows = fifth .1;
-      ticks = leb-true _ _ (sixth .1);
+      colours = leb-true _ _ (fourth .1);
+      masks = fifth .1;
+      windows = sixth .1;
+      ticks = leb-true _ _ (seventh .1);
     }
 
 -- the four counts

@@ -3,7 +3,7 @@
 use Prim.Native.Nat.{ℕ, _≤_, _<_}
 use lib.ListN.{getD}
 use Rattle.plan.specs.declared.Plan.{Plan}
-use Rattle.plan.specs.Colours.{firstColour, shareOf}
+use Rattle.plan.specs.Colours.{coloursTotal, shareOf}
 use Rattle.plan.specs.Limits.{domainColours, mostDomains, mostLength, mostPad}
 use Rattle.plan.specs.Limits.{mostRun, mostShare, mostWindows}
 
@@ -15,7 +15,7 @@ SharesBounded plan =
 
 -- and their shares together give no more colours than domains have
 abbrev pub ColoursBounded : Plan → Type 0
-ColoursBounded plan = SharesBounded plan × (firstColour plan (plan .domains) ≤ domainColours)
+ColoursBounded plan = SharesBounded plan × (coloursTotal plan ≤ domainColours)
 
 -- run, windows, pad and lengths
 abbrev pub TicksBounded : Plan → Type 0

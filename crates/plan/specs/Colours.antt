@@ -1,4 +1,5 @@
 -- Document 01, "The core and its tables": a domain's share, its colours, its mask and its holding.
+-- Document 02, E2: how many colours a share gives.
 -- Assumes nothing.
 use Prim.Native.Nat.{ℕ, zero, suc, _+_, _*_, _-_, _/_, _%_, _^_}
 use mathlib.Core.Bool.{Bool, cond}
@@ -10,9 +11,10 @@ use Rattle.plan.specs.declared.Plan.{Plan}
 use Rattle.plan.specs.Sums.{sumTo}
 use Rattle.plan.specs.Limits.{domainColours, mostDomains, mostShares}
 
--- a share, in thousandths of the domains' colours, gives as many colours, rounded down
+-- a share, in thousandths of the domains' colours, gives the nearest number of colours, an exact half
+-- going up: half a colour is added, and what is then over a whole number is dropped
 unfoldable pub coloursOf : ℕ → ℕ
-coloursOf share = share * domainColours / mostShares
+coloursOf share = (share * domainColours + mostShares / 2) / mostShares
 
 -- a domain's share
 abbrev pub shareOf : Plan → ℕ → ℕ
@@ -30,6 +32,10 @@ sharesTotal plan count = sumTo (shareOf plan) count
 -- number given out before it
 unfoldable pub firstColour : Plan → ℕ → ℕ
 firstColour plan domain = sumTo (coloursAt plan) domain
+
+-- the colours' total: as many as are given out once the last domain has its own
+abbrev pub coloursTotal : Plan → ℕ
+coloursTotal plan = firstColour plan (plan .domains)
 
 -- the 16-bit mask of `count` adjacent colours from a first one on
 unfoldable pub maskFrom : ℕ → ℕ → ℕ

@@ -7,3 +7,4 @@ pub mod Rights
 pub mod Bounds
 pub mod Windows
 pub mod Validity
+pub mod Theorems

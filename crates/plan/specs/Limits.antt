@@ -52,7 +52,8 @@ mostShare = 1_000
 abbrev pub mostShares : ℕ
 mostShares = 1_000
 
--- the colours that domains share; the one above them is the kernel's
+-- the colours that domains share, and so the greatest total of those that their shares give; above it
+-- 16. The colour past them is the kernel's.
 abbrev pub domainColours : ℕ
 domainColours = 15
 

@@ -6,8 +6,9 @@ use lib.Dec.{eqb, leb, ltb}
 use lib.ListN.{getD}
 use Rattle.plan.specs.declared.Plan.{Plan}
 use Rattle.plan.specs.Sums.{allBelow}
-use Rattle.plan.specs.Colours.{coloursAt, maskAt, maskFor, shareOf, sharesTotal}
-use Rattle.plan.specs.Limits.{leastDomains, leastLength, leastPad}
+use Rattle.plan.specs.Colours.{coloursAt, coloursTotal, maskAt, maskFor}
+use Rattle.plan.specs.Colours.{shareOf, sharesTotal}
+use Rattle.plan.specs.Limits.{domainColours, leastDomains, leastLength, leastPad}
 use Rattle.plan.specs.Limits.{leastRun, leastShare, leastWindows}
 use Rattle.plan.specs.Limits.{mostDomains, mostLength, mostPad, mostRun}
 use Rattle.plan.specs.Limits.{mostRunTicks, mostShare, mostShares, mostWindows}
@@ -58,13 +59,14 @@ windowValid plan slot =
     (ltb owner (plan .domains) && within leastLength mostLength length)
     (eqb owner 0 && eqb length 0)
 
--- plan validity: the parts above at every entry, and neither the shares together nor the run's ticks over
--- their limits
+-- plan validity: the parts above at every entry; and neither the shares together, nor the colours that
+-- they give, nor the run's ticks over their limits
 unfoldable pub planValid : Plan → Bool
 planValid plan =
     countsValid plan
     && allBelow (domainValid plan) mostDomains
     && leb (sharesTotal plan (plan .domains)) mostShares
+    && leb (coloursTotal plan) domainColours
     && allBelow (maskValid plan) mostDomains
     && allBelow (windowValid plan) mostWindows
     && leb (ticksTotal plan) mostRunTicks

@@ -6,7 +6,7 @@ use crate::limits::MOST_SHARES;
 ghost use mathlib.Core.Path.{_≡_};
 ghost use Prim.Native.Nat.{_+_, _≤_, _<_};
 ghost use Rattle.plan.specs.Bounds.{ColoursBounded, SharesBounded};
-ghost use Rattle.plan.specs.Colours.{coloursOf, hasBit, holdingOf};
+ghost use Rattle.plan.specs.Colours.{coloursOf, coloursTotal, hasBit, holdingOf};
 ghost use Rattle.plan.specs.Colours.{maskFrom, masksFrom, sharesTotal};
 ghost use Rattle.plan.specs.Limits.{domainColours, mostDomains, mostShare};
 
@@ -18,12 +18,12 @@ pub fn has_bit(mask: u32, bit: u32) -> bool
     (mask >> bit) % 2 == 1
 }
 
-// How many colours a share gives.
+// How many colours a share gives: the nearest number, an exact half going up.
 pub fn colours_of(share: u32) -> u32
     requires { ⌜ share ≤ mostShare ⌝ }
     ensures { λ r. ⌜ r ≡ coloursOf share ⌝ }
 {
-    share * DOMAIN_COLOURS / MOST_SHARES
+    (share * DOMAIN_COLOURS + MOST_SHARES / 2) / MOST_SHARES
 }
 
 // The mask of `count` adjacent colours from a first one on.
@@ -62,6 +62,22 @@ pub fn shares_total(plan: Plan) -> u32
         i += 1;
     }
     total
+}
+
+// The total of the colours that the declared domains' shares give.
+pub fn colours_total(plan: Plan) -> u32
+    requires { ⌜ SharesBounded plan ⌝ }
+    ensures { λ r. ⌜ r ≡ coloursTotal plan ⌝ }
+{
+    let shares = plan.shares;
+    let domains = plan.domains as usize;
+    let mut colours: u32 = 0;
+    let mut i: usize = 0;
+    while i < domains {
+        colours += colours_of(shares[i]);
+        i += 1;
+    }
+    colours
 }
 
 // The mask of each declared domain, and 0 for the others.

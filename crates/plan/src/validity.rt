@@ -1,5 +1,6 @@
 // Plan validity (12): whether the reader could give a plan value.
 use crate::Plan;
+use crate::limits::DOMAIN_COLOURS;
 use crate::limits::DOMAIN_ENTRIES;
 use crate::limits::LEAST_DOMAINS;
 use crate::limits::LEAST_LENGTH;
@@ -17,6 +18,7 @@ use crate::limits::MOST_SHARES;
 use crate::limits::MOST_WINDOWS;
 use crate::limits::WINDOW_ENTRIES;
 use crate::sharing::colours_of;
+use crate::sharing::colours_total;
 use crate::sharing::has_bit;
 use crate::sharing::masks_of;
 use crate::sharing::shares_total;
@@ -154,6 +156,9 @@ pub fn is_valid(plan: Plan) -> bool
         return false;
     }
     if MOST_SHARES < shares_total(plan) {
+        return false;
+    }
+    if DOMAIN_COLOURS < colours_total(plan) {
         return false;
     }
     if !masks_valid(plan) {

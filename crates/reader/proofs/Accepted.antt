@@ -11,7 +11,7 @@ use borrow.Author.Tests.{eq-eqb, eqb-false, eqb-true, le-leb, lt-ltb, ltb-false,
 use Rattle.plan.proofs.MaskLists.{mask-alike, mask-due}
 use Rattle.plan.proofs.Sums.{below-all}
 use Rattle.plan.specs.declared.Plan.{Plan}
-use Rattle.plan.specs.Colours.{coloursAt, sharesTotal}
+use Rattle.plan.specs.Colours.{coloursAt, firstColour, sharesTotal}
 use Rattle.plan.specs.Validity.{countsValid, declaredValid, domainValid, maskValid, planValid, undeclaredValid, windowValid, within}
 use Rattle.plan.specs.Parts.{withMasks}
 use Rattle.plan.specs.Windows.{ticksTotal}
@@ -125,12 +125,13 @@ module _ (draft : Draft) (good : GoodDraft draft) (fine : Passes draft) where
       both _ _ (eq-eqb _ _ (none .0)) (eq-eqb _ _ (none .1)))
 
   passing-valid : planValid (planOf draft) ≡ true
-  unfolding planWithMasks withMasks planValid sharesTotal ticksTotal
+  unfolding planWithMasks withMasks planValid sharesTotal firstColour ticksTotal
   passing-valid =
-      both _ _ (both _ _ (both _ _ (both _ _ (both _ _
+      both _ _ (both _ _ (both _ _ (both _ _ (both _ _ (both _ _
       counts-pass
       (below-all (domainValid (planOf draft)) mostDomains domain-pass))
       (le-leb _ _ (fine .shares)))
+      (le-leb _ _ (fine .colours)))
       (below-all (maskValid (planOf draft)) mostDomains mask-pass))
       (below-all (windowValid (planOf draft)) mostWindows window-pass))
       (le-leb _ _ (fine .ticks))

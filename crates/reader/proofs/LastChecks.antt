@@ -10,9 +10,9 @@ use lib.Dec.{eqb, leb}
 use lib.ListN.{getD}
 use borrow.Author.Tests.{eq-eqb, eqb-false, le-leb, leb-false, leb-true, lt-leb, ltb-false, ne-eqb}
 use Rattle.plan.specs.declared.Plan.{Plan}
-use Rattle.plan.specs.Colours.{coloursAt, sharesTotal}
+use Rattle.plan.specs.Colours.{coloursAt, coloursTotal, sharesTotal}
 use Rattle.plan.specs.Windows.{ticksTotal}
-use Rattle.plan.specs.Limits.{mostDomains, mostRunTicks, mostShares}
+use Rattle.plan.specs.Limits.{domainColours, mostDomains, mostRunTicks, mostShares}
 use Rattle.refusal.proofs.Passed.{both-passed, not-refused, when-passed}
 use Rattle.refusal.specs.declared.Refusal.the-variants.{WrongDomain}
 use Rattle.refusal.specs.declared.Verdict.{Verdict}
@@ -20,7 +20,7 @@ use Rattle.refusal.specs.declared.Verdict.the-variants.{Accepted, Refused}
 use Rattle.syntax.proofs.Choices.{same-or-not}
 use Rattle.reader.specs.declared.Draft.{Draft}
 use Rattle.reader.specs.Final.{earlierKept, finalVerdict, firstColourless, firstOf, lacking, mayVerdict, mentionsFrom}
-use Rattle.reader.specs.Final.{undeclaredMentions}
+use Rattle.reader.specs.Final.{sharesVerdict, undeclaredMentions}
 
 -- ---- the first undeclared recipient
 
@@ -69,7 +69,7 @@ unfolding mayAfter firstOf
 may-found zero some = absurd (some refl)
 may-found (suc offset) some = let back : suc offset - 1 ≡ offset = omega arith in rw back
 
-may-none : (mentions : List ℕ) → mayVerdict mentions ≡ Accepted → mentions ≡ []
+pub may-none : (mentions : List ℕ) → mayVerdict mentions ≡ Accepted → mentions ≡ []
 may-none [] e = refl
 may-none (offset ∷ more) e = absurd (not-refused _ e)
 
@@ -141,21 +141,25 @@ pub record Passes (draft : Draft) : Type 0 where
   pub nothing-lacking : lacking (draft .plan) ≡ false
   pub all-declared : undeclaredMentions (draft .named) (draft .plan .domains) ≡ []
   pub shares : sharesTotal (draft .plan) (draft .plan .domains) ≤ mostShares
+  pub colours : coloursTotal (draft .plan) ≤ domainColours
   pub coloured : draft .plan .domains ≤ firstColourless (draft .plan) (draft .plan .domains) 0
   pub ticks : ticksTotal (draft .plan) ≤ mostRunTicks
 
 pub passes : (textLength : ℕ) (draft : Draft) → finalVerdict textLength draft ≡ Accepted → Passes draft
-unfolding finalVerdict
+unfolding finalVerdict sharesVerdict
 passes textLength draft accepted =
     let first = when-passed _ _ _ accepted in
     let second = both-passed _ _ (first .1) in
-    let third = when-passed _ _ _ (second .1) in
+    let rest = both-passed _ _ (second .1) in
+    let third = when-passed _ _ _ (rest .0) in
     let fourth = when-passed _ _ _ (third .1) in
     let fifth = when-passed _ _ _ (fourth .1) in
+    let sixth = when-passed _ _ _ (rest .1) in
     record {
       nothing-lacking = first .0;
       all-declared = may-none _ (second .0);
       shares = ltb-false _ _ (third .0);
-      coloured = ltb-false _ _ (fourth .0);
-      ticks = ltb-false _ _ (fifth .0);
+      colours = ltb-false _ _ (fourth .0);
+      coloured = ltb-false _ _ (fifth .0);
+      ticks = ltb-false _ _ (sixth .0);
     }

@@ -4,5 +4,6 @@ pub mod Filling
 pub mod GoodDraft
 pub mod HighBits
 pub mod LastChecks
+pub mod Sixteen
 pub mod Walking
 pub mod WholeText

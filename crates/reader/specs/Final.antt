@@ -1,17 +1,18 @@
--- Document 01, "The plan text": the checks of a whole text, once no line of it was refused, in their order.
--- Assumes nothing.
+-- Document 01, "The plan text": the checks of a whole text, once no line of it was refused, in their order;
+-- with 16 of document 02's E2 among them. Assumes nothing.
 use Prim.Native.Nat.{ℕ, zero, suc, _+_, _-_}
 use mathlib.Core.Bool.{Bool, true, false, cond, _||_}
 use mathlib.Core.List.{List, [], _∷_}
 use lib.Dec.{eqb, leb, ltb}
 use lib.ListN.{getD}
 use Rattle.plan.specs.declared.Plan.{Plan}
-use Rattle.plan.specs.Colours.{coloursAt, masksFrom, sharesTotal}
-use Rattle.plan.specs.Limits.{mostDomains, mostRunTicks, mostShares}
+use Rattle.plan.specs.Colours.{coloursAt, coloursTotal, masksFrom, sharesTotal}
+use Rattle.plan.specs.Limits.{domainColours, mostDomains, mostRunTicks, mostShares}
 use Rattle.plan.specs.Parts.{withMasks}
 use Rattle.plan.specs.Windows.{ticksTotal}
 use Rattle.refusal.specs.Checks.{andThen, when}
-use Rattle.refusal.specs.declared.Refusal.the-variants.{NoColour, RepeatedOrMissing, RunTooLong}
+use Rattle.refusal.specs.declared.Refusal.the-variants.{ColoursOverFifteen, NoColour}
+use Rattle.refusal.specs.declared.Refusal.the-variants.{RepeatedOrMissing, RunTooLong}
 use Rattle.refusal.specs.declared.Refusal.the-variants.{SharesOverThousand, WrongDomain}
 use Rattle.refusal.specs.declared.Verdict.{Verdict}
 use Rattle.refusal.specs.declared.Verdict.the-variants.{Accepted, Refused}
@@ -59,17 +60,24 @@ firstColourless plan (suc left) domain =
       | false ↦ firstColourless plan left (domain + 1)
     ]
 
--- the checks after the last line, in their order: 5, 4, 7, 6, 9
+-- 7, 16 and 6: the shares together, the colours that they give together, and each share by itself
+unfoldable pub sharesVerdict : Plan → Verdict
+sharesVerdict plan =
+    let shares = sharesTotal plan (plan .domains) in
+    let colours = coloursTotal plan in
+    let colourless = firstColourless plan (plan .domains) 0 in
+    when (ltb mostShares shares) (SharesOverThousand shares)
+    (when (ltb domainColours colours) (ColoursOverFifteen colours)
+    (when (ltb colourless (plan .domains)) (NoColour colourless) Accepted))
+
+-- the checks after the last line, in their order: 5, 4, then 7, 16 and 6, then 9
 unfoldable pub finalVerdict : ℕ → Draft → Verdict
 finalVerdict textLength draft =
     let plan = draft .plan in
-    let total = sharesTotal plan (plan .domains) in
-    let colourless = firstColourless plan (plan .domains) 0 in
     when (lacking plan) (RepeatedOrMissing textLength)
     (andThen (mayVerdict (undeclaredMentions (draft .named) (plan .domains)))
-    (when (ltb mostShares total) (SharesOverThousand total)
-    (when (ltb colourless (plan .domains)) (NoColour colourless)
-    (when (ltb mostRunTicks (ticksTotal plan)) RunTooLong Accepted))))
+    (andThen (sharesVerdict plan)
+    (when (ltb mostRunTicks (ticksTotal plan)) RunTooLong Accepted)))
 
 -- an accepted plan keeps its colour masks
 unfoldable pub planWithMasks : Plan → Plan

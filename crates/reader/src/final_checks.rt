@@ -1,10 +1,12 @@
 // The checks of a whole text, once no line of it was refused; and the masks of a plan that passes them.
 use crate::Draft;
 use plan::Plan;
+use plan::limits::DOMAIN_COLOURS;
 use plan::limits::DOMAIN_ENTRIES;
 use plan::limits::MOST_RUN_TICKS;
 use plan::limits::MOST_SHARES;
 use plan::sharing::colours_of;
+use plan::sharing::colours_total;
 use plan::sharing::masks_of;
 use plan::sharing::shares_total;
 use plan::timing::ticks_total;
@@ -13,7 +15,8 @@ use refusal::Verdict;
 ghost use mathlib.Core.Path.{_≡_};
 ghost use Rattle.plan.specs.Bounds.{ColoursBounded, SharesBounded, TicksBounded};
 ghost use Rattle.reader.specs.Final.{earlierKept, finalVerdict, firstColourless};
-ghost use Rattle.reader.specs.Final.{lacking, mayVerdict, planWithMasks, undeclaredMentions};
+ghost use Rattle.reader.specs.Final.{lacking, mayVerdict, planWithMasks};
+ghost use Rattle.reader.specs.Final.{sharesVerdict, undeclaredMentions};
 
 // No pad, domain, window or run.
 fn is_lacking(plan: Plan) -> bool
@@ -68,6 +71,26 @@ fn first_colourless(plan: Plan) -> usize
     domain
 }
 
+// Whether the shares fit: all together, by the colours that they give, and each by itself.
+fn shares_verdict(plan: Plan) -> Verdict
+    requires { ⌜ SharesBounded plan ⌝ }
+    ensures { λ r. ⌜ r ≡ sharesVerdict plan ⌝ }
+{
+    let shares = shares_total(plan) as usize;
+    if (MOST_SHARES as usize) < shares {
+        return Verdict::Refused(Refusal::SharesOverThousand(shares));
+    }
+    let colours = colours_total(plan) as usize;
+    if (DOMAIN_COLOURS as usize) < colours {
+        return Verdict::Refused(Refusal::ColoursOverFifteen(colours));
+    }
+    let colourless = first_colourless(plan);
+    if colourless < plan.domains as usize {
+        return Verdict::Refused(Refusal::NoColour(colourless));
+    }
+    Verdict::Accepted
+}
+
 // The checks in their order.
 pub fn final_verdict(length: usize, draft: Draft) -> Verdict
     requires { ⌜ SharesBounded (draft .plan) × TicksBounded (draft .plan) ⌝ }
@@ -82,13 +105,9 @@ pub fn final_verdict(length: usize, draft: Draft) -> Verdict
     if let Verdict::Refused(refusal) = recipients {
         return Verdict::Refused(refusal);
     }
-    let total = shares_total(plan) as usize;
-    if (MOST_SHARES as usize) < total {
-        return Verdict::Refused(Refusal::SharesOverThousand(total));
-    }
-    let colourless = first_colourless(plan);
-    if colourless < plan.domains as usize {
-        return Verdict::Refused(Refusal::NoColour(colourless));
+    let sharing = shares_verdict(plan);
+    if let Verdict::Refused(refusal) = sharing {
+        return Verdict::Refused(refusal);
     }
     if MOST_RUN_TICKS < ticks_total(plan) {
         return Verdict::Refused(Refusal::RunTooLong);

@@ -7,7 +7,7 @@ use Rattle.refusal.specs.declared.Refusal.{Refusal}
 use Rattle.refusal.specs.declared.Refusal.the-variants.{TextTooLong, BrokenShape, NumberOutOfLimits, WrongDomain, RepeatedOrMissing}
 use Rattle.refusal.specs.declared.Refusal.the-variants.{NoColour, SharesOverThousand, BadRecipient, RunTooLong, TooMany}
 use Rattle.refusal.specs.declared.Refusal.the-variants.{WrongLength, ImpossiblePlan, DamagedTable, ImpossibleState}
-use Rattle.refusal.specs.declared.Refusal.the-variants.{FrameOutOfLimits}
+use Rattle.refusal.specs.declared.Refusal.the-variants.{FrameOutOfLimits, ColoursOverFifteen}
 
 pub number-not-zero : (refusal : Refusal) → eqb (refusalCode refusal .number) 0 ≡ false
 number-not-zero TextTooLong = refl
@@ -25,3 +25,4 @@ number-not-zero ImpossiblePlan = refl
 number-not-zero DamagedTable = refl
 number-not-zero ImpossibleState = refl
 number-not-zero FrameOutOfLimits = refl
+number-not-zero (ColoursOverFifteen total) = refl

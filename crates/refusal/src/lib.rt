@@ -2,8 +2,8 @@
 ghost use mathlib.Core.Path.{_≡_};
 ghost use Rattle.refusal.specs.Code.{codeOf, codeWith, refusalCode};
 
-// The rows of document 01's table of refusals, and 15 of document 02's E1, one case each. What a case
-// holds is its companion.
+// The rows of document 01's table of refusals, and those that document 02 adds (15 by E1, 16 by E2),
+// one case each. What a case holds is its companion.
 pub enum Refusal {
     TextTooLong,
     BrokenShape(usize),
@@ -20,6 +20,7 @@ pub enum Refusal {
     DamagedTable,
     ImpossibleState,
     FrameOutOfLimits,
+    ColoursOverFifteen(usize),
 }
 
 // What a call answers of itself: that it did its work, or why it did nothing.
@@ -61,6 +62,7 @@ fn refusal_code(refusal: Refusal) -> Code
         Refusal::DamagedTable => code_with(13, 0),
         Refusal::ImpossibleState => code_with(14, 0),
         Refusal::FrameOutOfLimits => code_with(15, 0),
+        Refusal::ColoursOverFifteen(total) => code_with(16, total),
     }
 }
 

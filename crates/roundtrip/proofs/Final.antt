@@ -10,7 +10,7 @@ use lib.ListN.{drop, getD, length, replicate, drop-of-length-le}
 use lib.Seq.{drop-cons}
 use borrow.Author.Tests.{eqb-true, le-ltb, ltb-false, ltb-true, ne-eqb}
 use Rattle.plan.specs.declared.Plan.{Plan}
-use Rattle.plan.specs.Colours.{coloursAt, maskAt, maskOf, masksFrom, sharesTotal}
+use Rattle.plan.specs.Colours.{coloursAt, coloursTotal, firstColour, maskAt, maskOf, masksFrom, sharesTotal}
 use Rattle.plan.specs.Validity.{planValid, windowValid}
 use Rattle.plan.specs.Windows.{ticksTotal}
 use Rattle.plan.proofs.MaskLists.{mask-alike}
@@ -19,9 +19,9 @@ use Rattle.plan.proofs.ValidPlans.{counts, declared, parts, undeclared}
 use Rattle.plan.proofs.Sums.{all-below}
 use Rattle.refusal.specs.declared.Verdict.the-variants.{Accepted}
 use Rattle.plan.specs.Zeros.{noPlan}
-use Rattle.reader.specs.Final.{finalVerdict, firstColourless, lacking, mentionsFrom, planWithMasks}
+use Rattle.reader.specs.Final.{finalVerdict, firstColourless, lacking, mentionsFrom, planWithMasks, sharesVerdict}
 use Rattle.plan.specs.Parts.{domainsOf, planFrom, windowsOf, withMasks}
-use Rattle.plan.specs.Limits.{mostDomains, mostRunTicks, mostShares, mostWindows}
+use Rattle.plan.specs.Limits.{domainColours, mostDomains, mostRunTicks, mostShares, mostWindows}
 use Rattle.roundtrip.specs.Accepted.{Shaped}
 use Rattle.roundtrip.proofs.Filled.{filled-all, filled-none}
 use Rattle.roundtrip.proofs.Progress.{soFar}
@@ -122,13 +122,14 @@ pub accepted :
     → planValid plan ≡ true
     → Quiet (plan .domains) named
     → finalVerdict textLength (draftBeforeOps (unmasked plan) named) ≡ Accepted
-unfolding finalVerdict sharesTotal ticksTotal
+unfolding finalVerdict sharesVerdict sharesTotal firstColour ticksTotal
 accepted plan named textLength valid quiet =
     let sound = parts plan valid in
     rw (
       none-lacking plan valid,
       none-undeclared named (plan .domains) quiet (mostDomains - plan .domains) (plan .domains) (omega arith),
       le-ltb mostShares (sharesTotal plan (plan .domains)) (sound .shares),
+      le-ltb domainColours (coloursTotal plan) (sound .colours),
       none-colourless plan valid (plan .domains) 0 (omega arith),
       le-ltb (plan .domains) (plan .domains) (omega arith),
       le-ltb mostRunTicks (ticksTotal plan) (sound .ticks),

@@ -1,1 +1,3 @@
+pub mod Reading
 pub mod WorkedExample
+pub mod ShareExamples

@@ -1,24 +1,7 @@
 -- The eleven marked entries of document 01, "Settled numbers", proved together, each by computing. Assumes nothing.
 use Prim.Native.Nat.{ℕ}
 use mathlib.Core.Path.{refl}
-use Rattle.lists.specs.Ascii.{bytesOf}
-use Rattle.plan.specs.Colours.{masksFrom}
-use Rattle.plan.specs.Zeros.{noPlan}
 use Rattle.lexer.specs.Decimal.{digitsOf, decimalOf}
-use Rattle.lexer.specs.Scan.{scanFrom, scanOf, allBytes}
-use Rattle.lexer.specs.Tokens.{valueAfter, decimalValue, digitsToken, runToken, longestRun, tokenFrom, tokenAt}
-use Rattle.syntax.specs.Brackets.{passHead, bracketedNumber, bracketedOp}
-use Rattle.syntax.specs.Keywords.{follows}
-use Rattle.syntax.specs.Ops.{numberOp, sendOp, opKeywords, opAt}
-use Rattle.syntax.specs.Recipients.{nextRecipient, recipientAt, mention, recipientsFrom, recipientsAt}
-use Rattle.syntax.specs.Tokens.{passOpen, passClose, passLineEnd, sameBytes, isWord, passWord, takeNumber}
-use Rattle.forms.specs.Forms.{padForm, runForm, declaredDomain, windowForm, opForm}
-use Rattle.forms.specs.Forms.{nextDomain, listedDomain, mayForm, domainForm}
-use Rattle.line.specs.Lines.{closedLine, notedLine, formKeywords, formLine, lineAt}
-use Rattle.reader.specs.Draft.{noDraft, noOps, takePad, takeRun, takeDomain, takeWindow, takeOp, takeLine}
-use Rattle.plan.specs.Parts.{withMasks}
-use Rattle.reader.specs.Final.{mentionsFrom, firstOf, firstColourless, finalVerdict, planWithMasks}
-use Rattle.reader.specs.Read.{walkFrom, readVerdict, readOf}
 use Rattle.engine.proofs.Computing.{computing}
 use Rattle.report.specs.Lines.{kindAndValue, seenLine, recordLines, domainLines, seenLines}
 use Rattle.report.specs.Lines.{pairLine, endLine, runLines, refusalLine}
@@ -26,25 +9,9 @@ use Rattle.report.specs.Planrun.{ranLines, planrunOf}
 use Rattle.worked_example.specs.Example.{textOf}
 use Rattle.worked_example.specs.WorkedExample.{WorkedExample, dirtyTable, firstWindowAt}
 use Rattle.worked_example.specs.WorkedExample.{foundBy, stepAt, tableAfter}
+use Rattle.worked_example.proofs.Reading.{reading}
 
--- every definition that reading a text computes with, named once
-reading : ℕ
-unfolding
-    bytesOf masksFrom noPlan
-    scanFrom scanOf allBytes
-    valueAfter decimalValue digitsToken runToken longestRun tokenFrom tokenAt
-    passOpen passClose passLineEnd sameBytes isWord passWord takeNumber
-    passHead bracketedNumber bracketedOp follows numberOp sendOp opKeywords opAt
-    nextRecipient recipientAt mention recipientsFrom recipientsAt
-    padForm runForm declaredDomain windowForm opForm nextDomain listedDomain mayForm domainForm
-    closedLine notedLine formKeywords formLine lineAt
-    noDraft noOps takePad takeRun takeDomain takeWindow takeOp takeLine
-    withMasks
-    mentionsFrom firstOf firstColourless finalVerdict planWithMasks
-    walkFrom readVerdict readOf
-reading = 0
-
--- and printing lines
+-- every definition that printing lines computes with
 printing : ℕ
 unfolding
     digitsOf decimalOf kindAndValue seenLine recordLines domainLines seenLines

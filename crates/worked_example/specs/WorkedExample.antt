@@ -1,5 +1,5 @@
 -- Document 01, "Settled numbers": the eleven entries that are marked to be proved, a field for
--- each, in the paper's order. Assumes nothing.
+-- each, in the paper's order; the second as document 02's E2 changes it. Assumes nothing.
 use Prim.Native.Nat.{ℕ, zero, suc, _-_}
 use mathlib.Core.Bool.{false}
 use mathlib.Core.List.{List, [], _∷_}
@@ -84,8 +84,8 @@ stepAt clock = stepOf (exampleRead .plan) (exampleRead .scripts) 10 (firstWindow
 pub record WorkedExample : Type 0 where
   -- 1: the run above, from the plan's text to the printed lines
   pub fullRun : planrunOf examplePlan ≡ exampleOutput
-  -- 2: share 66 gives no colour, 67 one, 300 four
-  pub shares : (coloursOf 66 ≡ 0) × (coloursOf 67 ≡ 1) × (coloursOf 300 ≡ 4)
+  -- 2: share 33 gives no colour, 34 one, 300 five
+  pub shares : (coloursOf 33 ≡ 0) × (coloursOf 34 ≡ 1) × (coloursOf 300 ≡ 5)
   -- 3: line 100 has set 36, colour 9 and L1 index 4
   pub lineHundred : (setOf 100 ≡ 36) × (colourOf 100 ≡ 9) × (l1Index 100 ≡ 4)
   -- 4: the box from 0 to 1 has line 125, that from 7 to 6 line 4,029

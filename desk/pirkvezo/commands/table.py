@@ -1,11 +1,12 @@
 """table: the share table and the windows, laid out."""
 import json
 
-from ..advice import COLOURS, KERNEL_COLOUR, least_share
+from ..advice import KERNEL_COLOUR
 from ..inputs import plan_file, refusal_lines, refusal_values
-from ..layout import columns, count, ranges, squares
+from ..layout import columns, count, ranges, signed, squares
 from ..plans import read
 from ..refusals import Refused
+from ..shares import COLOURS, SHARES, least_share, rounded
 
 NAME = "table"
 HELP = "lay out a plan's share table, windows and ticks"
@@ -45,9 +46,9 @@ def table(plan):
             domain=domain, share=plan.shares[domain], may=list(plan.recipients[domain]), colours=colours,
             sets=[4 * colour + way for colour in colours for way in range(4)],
             lines=256 * len(colours), holding=plan.holding(domain),
-            # thousandths: of a colour that rounding lost, and of the share that gave nothing
-            lost_colour=plan.shares[domain] * COLOURS - 1000 * len(colours),
-            lost_share=plan.shares[domain] - least_share(len(colours)),
+            # thousandths: of a colour that rounding gave (or took, below 0), and of the share that gave nothing
+            rounded=rounded(plan.shares[domain], len(colours)),
+            spare=plan.shares[domain] - least_share(len(colours)),
             windows=plan.run * len(owned), ticks_sold=plan.run * sum(window.length for window in owned),
             ticks_padded=plan.run * len(owned) * plan.pad))
     let = [sum(colour in entry["colours"] for entry in domains) for colour in range(16)]
@@ -66,19 +67,18 @@ def table_lines(name, plan, made):
     held = sum(made["let"])
     lines = [name, "", "Shares"]
     lines += columns(
-        ["domain", "share", "holding", "colours", "squares", "sets", "lines", "lost", "spare",
+        ["domain", "share", "holding", "colours", "squares", "sets", "lines", "rounded", "spare",
          "may send to"],
         [[entry["domain"], entry["share"], entry["holding"], ranges(entry["colours"]),
           squares(entry["colours"]), ranges(entry["sets"]), entry["lines"],
-          f"{entry['lost_colour'] / 1000:.3f}", entry["lost_share"], ranges(entry["may"])] for entry in domains]
+          signed(entry["rounded"]), entry["spare"], ranges(entry["may"])] for entry in domains]
         + [["all", sum(plan.shares), held, "", "", "", sum(entry["lines"] for entry in domains),
-            f"{sum(entry['lost_colour'] for entry in domains) / 1000:.3f}",
-            sum(entry["lost_share"] for entry in domains), ""]],
+            signed(sum(entry["rounded"] for entry in domains)), sum(entry["spare"] for entry in domains), ""]],
         left=["colours", "squares", "sets", "may send to"])
     lines += [
         "holding: colours held. lines: how many of the lines 0 to 4095 the domain may touch, those with",
-        "(line mod 64) in its sets. lost: the part of a colour that rounding down took. spare: by how",
-        "much the share could be smaller and give as many colours."]
+        f"(line mod 64) in its sets. rounded: colours held minus share * {COLOURS} / {SHARES}, what rounding",
+        "gave (+) or took (-). spare: by how much the share could be smaller and give as many colours."]
     lines += ["", f"Unsold colours: {ranges(made['unsold'])}. Colour {KERNEL_COLOUR} is the kernel's."]
     if twice or made["let"][KERNEL_COLOUR]:
         lines.append(f"Counted colour by colour: WRONG, let twice or the kernel's: {ranges(twice)}.")

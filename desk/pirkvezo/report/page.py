@@ -2,8 +2,9 @@
 from collections import Counter
 
 from ..history import history
-from ..layout import count, ranges
+from ..layout import count, ranges, signed
 from ..refusals import excerpt, shown
+from ..shares import COLOURS, SHARES, rounded
 from .markup import escape, table
 from .pictures import KERNEL, owners, round_picture, share_picture
 from .style import STYLE
@@ -113,24 +114,23 @@ def _shares(plan):
     for d in range(plan.domains):
         colours = plan.colours(d)
         sets = [s for c in colours for s in range(4 * c, 4 * c + 4)]
-        lost = plan.shares[d] * 15 - 1000 * len(colours)
         rows.append([_domain(d), plan.shares[d], ranges(colours), len(colours), ranges(sets),
-                     256 * len(colours), f"{lost / 1000:.3f}",
+                     256 * len(colours), signed(rounded(plan.shares[d], len(colours))),
                      ", ".join(str(r) for r in plan.recipients[d]) or "nobody"])
     held = owners(plan)
     free = [c for c in range(KERNEL) if not held[c]]
     twice = [c for c in range(KERNEL + 1) if len(held[c]) + (c == KERNEL) > 1]
     sold = sum(plan.shares)
-    notes = [f"Shares total {sold} of 1000.",
+    notes = [f"Shares total {sold} of {SHARES}.",
              f"Colours nobody holds: {ranges(free)}." if free else "Every colour is let.",
              f"Let twice: {ranges(twice)}." if twice else
              "Counted: no colour is let twice, and none of the kernel's is let."]
-    heads = ("Domain", "Share", "Colours", "Held", "Sets = line mod 64", "Lines", "Lost colours",
+    heads = ("Domain", "Share", "Colours", "Held", "Sets = line mod 64", "Lines", "Rounded",
              "May send to")
     return ("<h2>Shares of the cache</h2>\n" + share_picture(plan) + table(heads, rows)
             + f'<p>{" ".join(notes)}</p>\n<p class="note">Lines: how many '
-            'of 0 to 4095 the domain may touch. Lost colours: share &#215; 15 / 1000, less what it '
-            'holds.</p>\n')
+            f'of 0 to 4095 the domain may touch. Rounded: colours held minus share &#215; {COLOURS} / '
+            f'{SHARES}, what rounding gave (+) or took (-).</p>\n')
 
 
 def _time(plan, run):

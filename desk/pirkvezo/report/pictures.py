@@ -34,7 +34,7 @@ def share_picture(plan):
             style, word = f"d{holders[0]}", " ".join(f"d{d}" for d in holders)
             tip = " and ".join(f"domain {d}" for d in holders)
         else:
-            style, word, tip = "unsold", "", "nobody's: not sold, or lost in rounding"
+            style, word, tip = "unsold", "", "nobody's: no share gives it"
         first = 4 * colour
         body.append(
             f'<g data-colour="{colour}"><title>colour {colour}: {tip}; sets {first} to {first + 3}'

@@ -31,7 +31,7 @@ static bool domains_are_possible(const struct plan *plan)
     for (uint32_t domain = plan->domains; domain < DOMAINS; domain++) {
         unused |= plan->share[domain] | plan->may[domain] | plan->colours[domain];
     }
-    return unused == 0;
+    return next <= DOMAIN_COLOURS && unused == 0;
 }
 
 /* The windows, and the ticks that all their repeats take. */

@@ -70,7 +70,8 @@ enum refusal {
     LENGTH_WRONG = 11,
     PLAN_IMPOSSIBLE = 12,
     TABLE_DAMAGED = 13,
-    STATE_IMPOSSIBLE = 14
+    STATE_IMPOSSIBLE = 14,
+    COLOURS_TOO_MANY = 16 /* 15 is for frames, which the peer does not make */
 };
 
 /* The kinds of a stored op. */
@@ -126,9 +127,10 @@ struct place {
     uint64_t start;
 };
 
+/* The nearest number of colours: half of one is added, so that an exact half goes up. */
 static inline uint32_t colours_of_share(uint32_t share)
 {
-    return share * DOMAIN_COLOURS / ALL_SHARES;
+    return (share * DOMAIN_COLOURS + ALL_SHARES / 2) / ALL_SHARES;
 }
 
 static inline uint32_t colour_of_line(uint32_t line)

@@ -342,16 +342,23 @@ static const uint8_t *first_undeclared(const struct reader *reader)
     return first;
 }
 
-/* Hands out the colours upwards, each domain's behind those of the one before. */
+/* Hands out the colours upwards, each domain's behind those of the one before. Shares that are
+ * rounded one by one can give more than there are, so that is looked at before any is handed
+ * out. */
 static bool share_out(struct reader *reader)
 {
     struct plan *plan = reader->plan;
-    uint32_t sum = 0, next = 0;
+    uint32_t sum = 0, total = 0, next = 0;
     for (uint32_t domain = 0; domain < plan->domains; domain++) {
         sum += plan->share[domain];
+        total += colours_of_share(plan->share[domain]);
     }
     if (sum > ALL_SHARES) {
         refuse(reader, SHARES_TOO_MANY, sum);
+        return false;
+    }
+    if (total > DOMAIN_COLOURS) {
+        refuse(reader, COLOURS_TOO_MANY, total);
         return false;
     }
     for (uint32_t domain = 0; domain < plan->domains; domain++) {

@@ -11,6 +11,7 @@ use pirkvezo_differential::generate::lists::{random_call, random_world};
 use pirkvezo_differential::generate::mutate::mutate;
 use pirkvezo_differential::generate::scatter::scatter;
 use pirkvezo_differential::generate::sketch::Sketch;
+use pirkvezo_differential::generate::whole::Whole;
 use pirkvezo_differential::generate::write::Style;
 use pirkvezo_differential::rng::Rng;
 use pirkvezo_differential::seed::cases;
@@ -24,7 +25,7 @@ struct Trial<'e> {
     calls: u64,
 }
 
-/// Compares an engine with the reference over so many cases. Each case is four
+/// Compares an engine with the reference over so many cases. Each case is five
 /// texts, a list of calls from a fresh start, a world that no run reaches, and
 /// one that is damaged again and again. Gives how many calls were compared, and
 /// what they came to.
@@ -55,6 +56,7 @@ impl<'e> Trial<'e> {
         mutate(rng, &mut text);
         self.read(&text)?;
         self.read(&faulty_text(rng).0)?;
+        self.read(&Whole::random(rng).text)?;
         self.read(&random_text(rng))?;
         self.list(rng)?;
         self.scattered(rng)?;
@@ -136,7 +138,7 @@ mod tests {
     fn the_peer_agrees_with_the_reference() {
         let agreed = agrees(&Peer, 2_000);
         let (_, tally) = agreed.unwrap_or_else(|difference| panic!("{difference}"));
-        tally.assert_met("read", &[0, 1, 2, 3, 4, 5, 6, 7, 8, 9, 10, 11]);
+        tally.assert_met("read", &[0, 1, 2, 3, 4, 5, 6, 7, 8, 9, 10, 11, 16]);
         tally.assert_met("fresh start", &[0, 11, 12]);
         tally.assert_met("step", &[0, 11, 12, 13, 14]);
         tally.assert_met("run", &[0, 11, 12, 13, 14]);
@@ -147,6 +149,7 @@ mod tests {
     #[derive(Clone, Copy, Debug, PartialEq, Eq)]
     enum Faulty {
         OffsetOneOff,
+        TotalOneOff,
         ScriptsLeft,
         BoxesLeft,
         CacheLeft,
@@ -169,6 +172,7 @@ mod tests {
             let number = Peer.read_plan(text, scripts, plan, answer);
             match self {
                 Faulty::OffsetOneOff if number == 2 => answer[1] += 1,
+                Faulty::TotalOneOff if number == 16 => answer[1] -= 1,
                 Faulty::ScriptsLeft => scripts.copy_from_slice(&lent),
                 _ => {}
             }
@@ -229,6 +233,7 @@ mod tests {
     fn a_faulty_peer_is_found_out() {
         let faults = [
             Faulty::OffsetOneOff,
+            Faulty::TotalOneOff,
             Faulty::ScriptsLeft,
             Faulty::BoxesLeft,
             Faulty::CacheLeft,

@@ -172,10 +172,11 @@ fn workload(name: &str, sketch: Sketch) -> Workload {
     }
 }
 
-/// Eight domains that may all send to each other, with full scripts.
+/// Eight domains of one colour each that may all send to each other, with full
+/// scripts.
 fn eight(windows: u32, length: u32, run: u32, act: &dyn Fn(u32, u32) -> Act) -> Sketch {
     let member = |domain| Member {
-        share: 125,
+        share: 99,
         may: (0..8).filter(|other| *other != domain).collect(),
         script: (0..256).map(|place| act(domain, place)).collect(),
     };

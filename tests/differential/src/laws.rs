@@ -1,7 +1,8 @@
 //! What document 01 says of every call, whatever the engine: refused calls
 //! change nothing, the answer fits the state, and only the log bytes of new
-//! records are written. These hold for one engine alone, so they bind also
-//! where there is no second one.
+//! records are written. What document 02, E2, says of every plan: its shares give
+//! its colours, and none is let twice. These hold for one engine alone, so they
+//! bind also where there is no second one.
 
 use crate::engine::{ANSWER, BOXES, CACHE, PLAN, SCRIPTS, STATE};
 use crate::timeline::Timeline;
@@ -38,14 +39,18 @@ pub fn judge(call: &Call, before: &World, after: &World, number: u32) -> Result<
         if after.answer[2..] != [0, 0] {
             return say("a refused call answers 0, 0 behind its companion");
         }
-        if number > 10 && after.answer[1] != 0 {
-            return say("11 to 14 have the companion 0");
-        }
-        return Ok(());
+        let companion = after.answer[1];
+        return match number {
+            16 if !matches!(call, Call::Read(_)) => say("16 is for readings alone"),
+            16 if !(16..=19).contains(&companion) => say("16 has a total of 16 to 19 colours"),
+            11..=15 | 17.. if companion != 0 => say("11 to 14 have the companion 0"),
+            _ => Ok(()),
+        };
     }
     if after.answer[1] != 0 {
         return say("acceptance is 0, 0");
     }
+    judge_colours(after)?;
     match call {
         Call::Read(_) => {
             expected.plan = after.plan.clone();
@@ -93,6 +98,30 @@ fn declared(world: &World) -> Result<usize, String> {
 /// How many records each part holds.
 fn room(world: &World) -> usize {
     world.log.len() / (8 * world.plan[2] as usize)
+}
+
+/// Judges the colours in a plan that was given or taken: to each domain the number
+/// nearest to its share, an exact half going up, in one piece behind those of the
+/// domain before it, and none past the fifteenth.
+fn judge_colours(world: &World) -> Result<(), String> {
+    let mut taken = 0;
+    for domain in 0..declared(world)? {
+        let (share, mask) = (world.plan[4 + domain], world.plan[84 + domain]);
+        let held = mask.count_ones();
+        // In thousandths of a colour.
+        let gained = 1_000 * i64::from(held) - 15 * i64::from(share);
+        if held == 0 || !(-499..=500).contains(&gained) {
+            return Err("a domain has not the number of colours nearest to its share".into());
+        }
+        if taken + held > 15 {
+            return Err("more colours were let than there are".into());
+        }
+        if mask >> taken != (1 << held) - 1 {
+            return Err("colours were not let one behind the other".into());
+        }
+        taken += held;
+    }
+    Ok(())
 }
 
 fn judge_log(domain: u32, before: &World, after: &World, expected: World) -> Result<(), String> {

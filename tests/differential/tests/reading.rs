@@ -1,5 +1,5 @@
-//! Readings of texts: good ones, ones with a known fault, mutated ones and
-//! random bytes. Document 01, "The plan text".
+//! Readings of texts: good ones, ones with a known fault or several, mutated ones
+//! and random bytes. Document 01, "The plan text", and document 02, E2.
 
 use pirkvezo_differential::compare::Pair;
 use pirkvezo_differential::engine::{under_test, Reference};
@@ -7,11 +7,13 @@ use pirkvezo_differential::generate::bytes::random_text;
 use pirkvezo_differential::generate::faults::faulty_text;
 use pirkvezo_differential::generate::mutate::mutate;
 use pirkvezo_differential::generate::sketch::Sketch;
+use pirkvezo_differential::generate::whole::Whole;
 use pirkvezo_differential::generate::write::Style;
 use pirkvezo_differential::rng::Rng;
 use pirkvezo_differential::seed::cases;
 use pirkvezo_differential::tally::Tally;
 use pirkvezo_differential::world::{Call, World};
+use std::collections::BTreeSet;
 
 const STYLES: [Style; 3] = [Style::Plain, Style::Tight, Style::Loose];
 
@@ -67,7 +69,28 @@ fn each_fault_has_its_number() {
             String::from_utf8_lossy(&text)
         );
     }
-    tally.assert_met("read", &[1, 2, 3, 4, 5, 6, 7, 8, 9, 10]);
+    tally.assert_met("read", &[1, 2, 3, 4, 5, 6, 7, 8, 9, 10, 16]);
+}
+
+/// Of all that only the whole text shows, what comes first in the order is told.
+#[test]
+fn several_faults_at_once() {
+    let mut tally = Tally::default();
+    let mut totals = BTreeSet::new();
+    for (case, mut rng) in cases("several faults", 12_000) {
+        let whole = Whole::random(&mut rng);
+        let (number, world) = read(&whole.text, &mut tally, &case);
+        let text = String::from_utf8_lossy(&whole.text);
+        assert_eq!(number, whole.number(), "{case}: {:?}: {text}", whole.wrong);
+        if let Some(companion) = whole.companion() {
+            assert_eq!(world.answer[1], companion, "{case}: {text}");
+        }
+        if number == 16 {
+            totals.insert(world.answer[1]);
+        }
+    }
+    tally.assert_met("read", &[0, 4, 5, 6, 7, 9, 16]);
+    assert!(totals.into_iter().eq(16..=19), "a total was not met");
 }
 
 #[test]
@@ -81,12 +104,13 @@ fn mutated_texts() {
             read(&text, &mut tally, &case);
         }
     }
-    tally.assert_met("read", &[0, 1, 2, 3, 4, 5, 6, 7, 8, 9, 10]);
+    tally.assert_met("read", &[0, 1, 2, 3, 4, 5, 6, 7, 8, 9, 10, 16]);
 }
 
 fn mutated(rng: &mut Rng) -> Vec<u8> {
-    let mut text = match rng.below(3) {
+    let mut text = match rng.below(6) {
         0 => faulty_text(rng).0,
+        1 => Whole::random(rng).text,
         _ => {
             let mut sketch = Sketch::random(rng);
             let most = rng.pick(&[0, 1, 2, 3, 5, 8, 20, 256]);
@@ -130,7 +154,7 @@ fn neighbours_of_one_text() {
             }
         }
     }
-    tally.assert_met("read", &[0, 2, 3, 4, 5, 6, 7, 8]);
+    tally.assert_met("read", &[0, 2, 3, 4, 5, 6, 7, 8, 16]);
 }
 
 /// Stores, plans and answers of another length.

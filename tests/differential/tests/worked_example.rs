@@ -1,5 +1,6 @@
 //! Fixed calls with the answers that document 01 settles, asked of every engine
-//! by itself: "Settled numbers" and "The plan text".
+//! by itself: "Settled numbers" and "The plan text", with the shares of document
+//! 02, E2.
 
 use pirkvezo_differential::engine::{under_test, Engine, Reference};
 use pirkvezo_differential::world::{Call, World};
@@ -43,7 +44,7 @@ fn the_worked_run() {
     for engine in engines() {
         let mut world = worked(&*engine);
         assert_eq!(world.plan[..6], [276, 1, 2, 2, 400, 300]);
-        assert_eq!(world.plan[84..86], [0b111111, 0b1111000000]);
+        assert_eq!(world.plan[84..86], [0b111111, 0b11111000000]);
         let answer = ask(&*engine, &mut world, Call::Run(u64::MAX));
         assert_eq!(answer, [0, 0, 7, 1]);
         assert_eq!(world.state[..4], [2, 1_252, 3, 2]);
@@ -113,7 +114,8 @@ fn readings() {
             at + 31 * 21,
         ),
         (after(&"(op 0(read 1))\n".repeat(257)), 10, at + 256 * 15),
-        (opening.replace("400)(may)", "66)(may)"), 6, 0),
+        (opening.replace("400)(may)", "33)(may)"), 6, 0),
+        (opening.replace("400)(may)", "34)(may)"), 0, 0),
         (opening.replace("(may)", "(may 1)"), 4, 43),
         (after("(domain 1(share 601)(may))"), 7, 1_001),
         (opening.replace("(pad 276)", ""), 5, at - 9),
@@ -127,6 +129,59 @@ fn readings() {
             let mut world = World::blank(0);
             let answer = ask(&*engine, &mut world, Call::Read(text.clone().into_bytes()));
             assert_eq!(answer, [*number, *companion, 0, 0], "{text}");
+        }
+    }
+}
+
+/// A text of these shares that is good but for them.
+fn divided(shares: &[u32]) -> Vec<u8> {
+    let mut text = String::from("(pad 276)\n(run 1)\n");
+    for (own, share) in shares.iter().enumerate() {
+        text += &format!("(domain {own}(share {share})(may))\n");
+    }
+    (text + "(window 0(length 400))\n").into_bytes()
+}
+
+#[test]
+fn colours_of_shares() {
+    let divisions = [
+        (&[34][..], &[0b1][..]),
+        (&[99, 100], &[0b1, 0b110]),
+        (&[100, 300], &[0b11, 0b1111100]),
+        (&[966, 34], &[0x3fff, 0x4000]),
+        (&[500, 499], &[0x00ff, 0x7f00]),
+        (&[300, 300, 300], &[0x001f, 0x03e0, 0x7c00]),
+        (&[1_000], &[0x7fff]),
+    ];
+    for engine in engines() {
+        for (shares, masks) in divisions {
+            let mut world = World::blank(0);
+            let answer = ask(&*engine, &mut world, Call::Read(divided(shares)));
+            assert_eq!(answer, [0; 4], "{shares:?}");
+            assert_eq!(world.plan[84..84 + masks.len()], *masks, "{shares:?}");
+        }
+    }
+}
+
+#[test]
+fn too_many_colours() {
+    let divisions = [
+        (&[125; 8][..], 16, 16),
+        (&[100; 8], 16, 16),
+        (&[500, 500], 16, 16),
+        (&[600, 100, 100, 100, 100], 16, 17),
+        (&[100, 100, 100, 100, 100, 500], 16, 18),
+        (&[100, 100, 300, 100, 100, 100, 100, 100], 16, 19),
+        // Over the whole as well; then a share without a colour as well.
+        (&[600, 500], 7, 1_100),
+        (&[33, 500, 100, 100, 100, 100], 16, 16),
+    ];
+    for engine in engines() {
+        for (shares, number, companion) in divisions {
+            let mut world = World::blank(0);
+            let answer = ask(&*engine, &mut world, Call::Read(divided(shares)));
+            assert_eq!(answer, [number, companion, 0, 0], "{shares:?}");
+            assert_eq!(world.plan[..], [0; 92], "{shares:?}");
         }
     }
 }
@@ -153,6 +208,14 @@ fn refusals_of_a_step() {
         refused(&|world| world.plan.fill(0), 12);
         refused(&|world| world.plan[84] |= 1 << 16, 12);
         refused(&|world| world.plan[91] = 1, 12);
+        refused(&|world| world.plan[85] = 0b1111000000, 12);
+        for second in [0x7f00, 0xff00] {
+            let crowd = move |world: &mut World| {
+                world.plan[4..6].copy_from_slice(&[500, 500]);
+                world.plan[84..86].copy_from_slice(&[0x00ff, second]);
+            };
+            refused(&crowd, 12);
+        }
         refused(&|world| world.cache[0] = 32_768, 13);
         refused(&|world| world.cache[271] = 64, 13);
         refused(&|world| world.boxes[1] = 65_537, 13);

@@ -1,6 +1,8 @@
-//! Colours and how shares give them: document 01, "The core and its tables".
+//! Colours: document 01, "The core and its tables". How shares give them: document
+//! 02, E2.
 
 use crate::geometry::Line;
+use crate::limits::{COLOURS, WHOLE};
 
 /// A set of colours, bit c for colour c. A plan made from flat numbers can hold
 /// bits that stand for no colour; they are kept so that they can be refused.
@@ -32,13 +34,21 @@ impl Colours {
     }
 }
 
-/// The number of colours that a share of 0 to 1,000 thousandths gives.
+/// The number of colours that a share of 0 to 1,000 thousandths gives: the
+/// nearest one. Half a colour is added before the fraction is dropped, so an
+/// exact half goes up.
 pub fn colours_for(share: u32) -> u32 {
-    share * 15 / 1_000
+    (share * COLOURS + WHOLE / 2) / WHOLE
 }
 
-/// Deals colours from 0 upwards in the order of the shares, which are 1,000
-/// together at most.
+/// How many colours these shares give together. Since each is rounded by itself,
+/// that can be more than there are, even where the shares are within the whole.
+pub fn total_for(shares: impl Iterator<Item = u32>) -> u32 {
+    shares.map(colours_for).sum()
+}
+
+/// Deals colours from 0 upwards in the order of the shares, which give at most
+/// as many as there are.
 pub fn deal(shares: impl Iterator<Item = u32>) -> impl Iterator<Item = Colours> {
     shares.scan(0, |next, share| {
         let count = colours_for(share);

@@ -1,5 +1,5 @@
-//! The reader and the machine of document 01 and the frame maker of document 02,
-//! in plain Rust.
+//! The reader and the machine of document 01 and, of document 02, the frame maker
+//! (E1) and the shares to the nearest colour (E2), in plain Rust.
 //!
 //! This is a second reading of the papers. It is written from them alone and
 //! shares no code with the proved implementation, so that the two can be held

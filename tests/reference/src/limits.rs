@@ -1,5 +1,5 @@
 //! The limits of the numbers in a plan: document 01, "The plan text". Those of a
-//! frame: document 02, E1.
+//! frame: document 02, E1. The limit of all colours together: document 02, E2.
 
 use std::ops::RangeInclusive;
 
@@ -15,6 +15,8 @@ pub const WINDOWS: usize = 32;
 pub const OPS: usize = 256;
 /// All shares together, in thousandths.
 pub const WHOLE: u32 = 1_000;
+/// The colours that domains share: all but the kernel's.
+pub const COLOURS: u32 = 15;
 /// The most ticks that a run may take.
 pub const TICKS: u64 = 4_294_967_295;
 /// How far past its window's end the dearest op can carry the clock.

@@ -1,7 +1,7 @@
 //! A plan and what makes it possible: document 01, "The core and its tables",
-//! "The plan text" and refusal 12.
+//! "The plan text" and refusal 12, with the shares of document 02, E2.
 
-use crate::colours::{colours_for, deal, Colours};
+use crate::colours::{colours_for, deal, total_for, Colours};
 use crate::limits;
 use crate::refusal::Refusal;
 use crate::schedule::Schedule;
@@ -96,6 +96,7 @@ impl Plan {
         self.shares()
             .all(|share| limits::SHARE.contains(&share) && colours_for(share) > 0)
             && self.shares().sum::<u32>() <= limits::WHOLE
+            && total_for(self.shares()) <= limits::COLOURS
             && deal(self.shares()).eq(self.domains.iter().map(|domain| domain.colours))
     }
 

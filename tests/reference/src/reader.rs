@@ -1,6 +1,6 @@
-//! The reader: document 01, "The plan text".
+//! The reader: document 01, "The plan text", with the shares of document 02, E2.
 
-use crate::colours::{colours_for, deal};
+use crate::colours::{colours_for, deal, total_for};
 use crate::limits;
 use crate::op::Op;
 use crate::plan::{Domain, Plan, Recipients, Window};
@@ -190,14 +190,13 @@ impl Draft {
         };
         self.judge_recipients()?;
         self.judge_shares()?;
-        let shares = self.domains.iter().map(|domain| domain.share);
         let plan = Plan {
             pad,
             run,
             domains: self
                 .domains
                 .iter()
-                .zip(deal(shares))
+                .zip(deal(self.shares()))
                 .map(|(declared, colours)| Domain {
                     share: declared.share,
                     may: declared.recipients(),
@@ -224,14 +223,23 @@ impl Draft {
             })
     }
 
+    fn shares(&self) -> impl Iterator<Item = u32> + '_ {
+        self.domains.iter().map(|domain| domain.share)
+    }
+
+    /// All shares together come first, then all their colours, and only then
+    /// each share by itself.
     fn judge_shares(&self) -> Result<(), Refusal> {
-        let sum = self.domains.iter().map(|domain| domain.share).sum();
+        let sum = self.shares().sum();
         if sum > limits::WHOLE {
             return Err(Refusal::Shares { sum });
         }
-        self.domains
-            .iter()
-            .position(|domain| colours_for(domain.share) == 0)
+        let total = total_for(self.shares());
+        if total > limits::COLOURS {
+            return Err(Refusal::Colours { total });
+        }
+        self.shares()
+            .position(|share| colours_for(share) == 0)
             .map_or(Ok(()), |domain| Err(Refusal::NoColour { domain }))
     }
 

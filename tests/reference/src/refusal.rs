@@ -1,5 +1,5 @@
-//! The refusals: the table in document 01, "The plan text", and 15 from document
-//! 02, E1.
+//! The refusals: the table in document 01, "The plan text", and from document 02
+//! 15 (E1) and 16 (E2).
 
 /// Why a call was refused. Offsets are in bytes from the text's start.
 #[derive(Clone, Copy, Debug, PartialEq, Eq)]
@@ -34,6 +34,8 @@ pub enum Refusal {
     State,
     /// 15: a count and weights that no frame is made from.
     Frame,
+    /// 16: shares that give more colours together than there are.
+    Colours { total: u32 },
 }
 
 impl Refusal {
@@ -55,10 +57,11 @@ impl Refusal {
             Refusal::Damaged => 13,
             Refusal::State => 14,
             Refusal::Frame => 15,
+            Refusal::Colours { .. } => 16,
         }
     }
 
-    /// The number returned beside it: an offset, a domain, a sum or 0.
+    /// The number returned beside it: an offset, a domain, a sum, a total or 0.
     pub fn companion(self) -> u64 {
         match self {
             Refusal::Shape { at }
@@ -69,6 +72,7 @@ impl Refusal {
             | Refusal::TooMany { at } => at as u64,
             Refusal::NoColour { domain } => domain as u64,
             Refusal::Shares { sum } => u64::from(sum),
+            Refusal::Colours { total } => u64::from(total),
             Refusal::TooLong
             | Refusal::Ticks
             | Refusal::TableLength

@@ -3,7 +3,6 @@ use Prim.Native.Nat.{_≤_}
 use mathlib.Core.Path.{_≡_, refl, sym, _∙_}
 use lib.ListN.{length}
 use borrow.Author.Needs.{needs}
-use Rattle.plan.proofs.Shares.{colours-at-most}
 use Rattle.plan.specs.Bounds.{SharesBounded, TicksBounded}
 use Rattle.script.specs.Limits.{scriptsLength}
 use Rattle.reader.specs.Draft.{noOps}
@@ -67,7 +66,7 @@ plan-with-masks-requires c κs =
     let checked = c .before .before .before .before .before .before .before in
     let walked = checked .before .before .before .before in
     let passed = sym (checked .final-verdict .ensures) ∙ c .before .before .before .before .before .enum-told2 .given .1 in
-    (shares-bounded walked, colours-at-most _ _ (passes _ (walked .walk .result .draft) passed .shares))
+    (shares-bounded walked, passes _ (walked .walk .result .draft) passed .colours)
 
 returns-5 : tie.Need-returns-5
 unfolding noOps

@@ -48,6 +48,9 @@ returns-14 c = simp (← (c .code-with14 .ensures), c .before .enum-told6 .given
 returns-15 : tie.Need-returns-15
 returns-15 c = simp (← (c .code-with15 .ensures), c .before .enum-told7 .given .1)
 
+returns-16 : tie.Need-returns-16
+returns-16 c = simp (← (c .code-with16 .ensures), c .before .before .refusal9 .given .1)
+
 pub refusal-code-spec : {M : Type 1} → statement M
 refusal-code-spec =
     tie.close
@@ -58,5 +61,5 @@ refusal-code-spec =
     (λ c κs. search needs) (λ c. search needs) (λ c κs. search needs) (λ c. search needs) (λ c κs. search needs)
     (λ c. search needs) (λ c κs. search needs) (λ c. search needs) (λ c κs. search needs) (λ c. search needs)
     (λ c κs. search needs) (λ c. search needs) (λ c κs. search needs) (λ c. search needs) (λ c κs. search needs)
-    returns returns-2 returns-3 returns-4 returns-5 returns-6 returns-7 returns-8 returns-9 returns-10 returns-11
-    returns-12 returns-13 returns-14 returns-15)
+    (λ c. search needs) (λ c κs. search needs) returns returns-2 returns-3 returns-4 returns-5 returns-6 returns-7 returns-8 returns-9 returns-10 returns-11
+    returns-12 returns-13 returns-14 returns-15 returns-16)

@@ -1,6 +1,7 @@
 //! Changes from outside to what is lent: damaged tables, impossible states,
 //! other plans, rows of another length.
 
+use super::shares::{colours_of, crowded_shares, masks_of};
 use super::sketch::Sketch;
 use super::stores::odd_number;
 use crate::rng::Rng;
@@ -135,8 +136,10 @@ fn disturb_plan(rng: &mut Rng, world: &mut World) {
     let edges = [
         0,
         1,
-        66,
-        67,
+        33,
+        34,
+        99,
+        100,
         275,
         276,
         1_000,
@@ -148,7 +151,7 @@ fn disturb_plan(rng: &mut Rng, world: &mut World) {
         u32::MAX,
     ];
     let edge = rng.pick(&edges);
-    match rng.below(10) {
+    match rng.below(12) {
         0 => {
             let other = match rng.one_in(3) {
                 true => Sketch::at_the_limit(rng),
@@ -161,7 +164,14 @@ fn disturb_plan(rng: &mut Rng, world: &mut World) {
         2 => world.plan[rng.place(92)] = any,
         3 => world.plan[rng.place(92)] ^= 1 << rng.below(32),
         4 => world.plan[rng.place(4)] = rng.pick(&[0, 1, 2, 8, 9, 32, 33, 276, 277, any]),
-        5 => world.plan[4 + rng.place(domains)] = rng.within(0..=1_001),
+        5 => {
+            let share = &mut world.plan[4 + rng.place(domains)];
+            let near = [share.wrapping_sub(1), share.wrapping_add(1)];
+            *share = match rng.one_in(2) {
+                true => rng.within(0..=1_001),
+                false => rng.pick(&near),
+            };
+        }
         6 => world.plan[12 + rng.place(domains)] ^= 1 << rng.below(9),
         7 => {
             let window = rng.place(windows);
@@ -180,7 +190,22 @@ fn disturb_plan(rng: &mut Rng, world: &mut World) {
             ];
             world.plan[84 + domain] = rng.pick(&changed);
         }
+        9 | 10 => crowd(rng, &mut world.plan),
         _ => world.plan.fill(0),
+    }
+}
+
+/// Puts in shares that give more colours than there are, with the masks that they
+/// would have if there were more, or with those cut off at some colour.
+fn crowd(rng: &mut Rng, plan: &mut [u32]) {
+    let count = plan[2].clamp(2, 8);
+    plan[2] = count;
+    let shares = crowded_shares(rng, count);
+    let masks = masks_of(shares.iter().map(|share| colours_of(*share)));
+    let kept = rng.pick(&[u32::MAX, 0xffff, 0x7fff, 0]);
+    for (domain, (share, mask)) in shares.into_iter().zip(masks).enumerate() {
+        plan[4 + domain] = share;
+        plan[84 + domain] = mask & kept;
     }
 }
 

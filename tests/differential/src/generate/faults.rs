@@ -1,15 +1,17 @@
 //! Texts that are good but for one fault, with the number that must be
-//! returned: document 01, "The plan text".
+//! returned: document 01, "The plan text", and document 02, E2.
 
+use super::shares::{crowded_shares, BARE};
 use super::sketch::{Act, Member, Sketch};
 use super::write::{Style, LONGEST};
 use crate::rng::Rng;
 
-/// A text with one fault, and its refusal's number, 1 to 10.
+/// A text with one fault, and its refusal's number, 1 to 10 or 16.
 pub fn faulty_text(rng: &mut Rng) -> (Vec<u8>, u32) {
-    let mut sketch = small_sketch(rng);
+    let mut sketch = Sketch::random(rng);
+    shorten(&mut sketch);
     let style = rng.pick(&[Style::Plain, Style::Tight, Style::Loose]);
-    let number = rng.within(1..=10);
+    let number = rng.pick(&[1, 2, 3, 4, 5, 6, 7, 8, 9, 10, 16]);
     match number {
         1 => {
             let mut text = sketch.text(rng, style);
@@ -29,7 +31,7 @@ pub fn faulty_text(rng: &mut Rng) -> (Vec<u8>, u32) {
         5 => return (missing_or_twice(rng, &sketch, style), 5),
         6 => {
             let domain = rng.place(sketch.members.len());
-            sketch.members[domain].share = rng.within(1..=66);
+            sketch.members[domain].share = rng.within(BARE);
         }
         7 => {
             let domain = rng.place(sketch.members.len());
@@ -54,35 +56,42 @@ pub fn faulty_text(rng: &mut Rng) -> (Vec<u8>, u32) {
             };
             may.insert(rng.place(may.len() + 1), wrong);
         }
-        9 if rng.one_in(2) => {
-            sketch = Sketch::at_the_limit(rng);
-            let members = sketch.members.iter_mut();
-            members.for_each(|member| member.script.truncate(20));
-            let shortest = sketch.windows.iter_mut().min_by_key(|window| window.1);
-            shortest.expect("a window").1 += 1;
-        }
-        9 => {
-            sketch.pad = 1_000_000;
-            sketch.run = 1_000;
-            while sketch.run as u64 * sketch.pass() <= u64::from(u32::MAX) {
-                sketch.windows.push((0, 1_000_000));
-            }
-        }
-        _ => match rng.one_in(2) {
+        9 => break_ticks(rng, &mut sketch),
+        10 => match rng.one_in(2) {
             true => sketch.windows.resize(33, (0, 1)),
             false => sketch.members[0].script.resize(257, Act::Compute(1)),
         },
+        _ => {
+            let count = rng.within(2..=8);
+            let shares = crowded_shares(rng, count);
+            sketch = Sketch::of_shares(rng, &shares);
+            shorten(&mut sketch);
+        }
     }
     (sketch.text(rng, style), number)
 }
 
-/// A good sketch with room for one thing more, whose text is not too long.
-fn small_sketch(rng: &mut Rng) -> Sketch {
-    let mut sketch = Sketch::random(rng);
+/// Cuts scripts so that there is room for one thing more and the text is not too
+/// long.
+pub(super) fn shorten(sketch: &mut Sketch) {
     for member in &mut sketch.members {
         member.script.truncate(20);
     }
-    sketch
+}
+
+/// Makes the run take too many ticks: by a little, or by far.
+pub(super) fn break_ticks(rng: &mut Rng, sketch: &mut Sketch) {
+    if rng.one_in(2) {
+        sketch.stretch_to_the_limit(rng);
+        let shortest = sketch.windows.iter_mut().min_by_key(|window| window.1);
+        shortest.expect("a window").1 += 1;
+        return;
+    }
+    sketch.pad = 1_000_000;
+    sketch.run = 1_000;
+    while sketch.run as u64 * sketch.pass() <= u64::from(u32::MAX) {
+        sketch.windows.push((0, 1_000_000));
+    }
 }
 
 fn outside_limits(rng: &mut Rng, sketch: &mut Sketch) {
@@ -111,7 +120,7 @@ fn outside_limits(rng: &mut Rng, sketch: &mut Sketch) {
 
 /// A recipient that is never declared; where all eight domains are, a window too
 /// many of a domain that comes too late.
-fn undeclared(rng: &mut Rng, sketch: &mut Sketch) {
+pub(super) fn undeclared(rng: &mut Rng, sketch: &mut Sketch) {
     if sketch.members.len() == 8 {
         sketch.members.pop();
         let may = sketch.members.iter_mut().map(|member| &mut member.may);
@@ -126,7 +135,8 @@ fn undeclared(rng: &mut Rng, sketch: &mut Sketch) {
     may.insert(rng.place(may.len() + 1), 7);
 }
 
-fn missing_or_twice(rng: &mut Rng, sketch: &Sketch, style: Style) -> Vec<u8> {
+/// The text without one kind of line, or with a second pad or run at its end.
+pub(super) fn missing_or_twice(rng: &mut Rng, sketch: &Sketch, style: Style) -> Vec<u8> {
     let text = sketch.text(rng, style);
     let extra = [
         format!("(pad {})", sketch.pad),

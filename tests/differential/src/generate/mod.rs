@@ -9,6 +9,8 @@ pub mod lists;
 pub mod mutate;
 pub mod pairs;
 pub mod scatter;
+pub mod shares;
 pub mod sketch;
 pub mod stores;
+pub mod whole;
 pub mod write;

@@ -3,8 +3,9 @@
 use crate::rng::Rng;
 use std::ops::Range;
 
-/// Numbers at and past the limits of "The plan text".
-const EDGES: [&str; 34] = [
+/// Numbers at and past the limits of "The plan text", and shares at which the
+/// number of colours changes.
+const EDGES: [&str; 41] = [
     "0",
     "1",
     "2",
@@ -12,8 +13,11 @@ const EDGES: [&str; 34] = [
     "7",
     "8",
     "9",
-    "66",
-    "67",
+    "33",
+    "34",
+    "99",
+    "100",
+    "125",
     "199",
     "200",
     "201",
@@ -23,6 +27,10 @@ const EDGES: [&str; 34] = [
     "275",
     "276",
     "277",
+    "300",
+    "500",
+    "900",
+    "966",
     "999",
     "1000",
     "1001",

@@ -3,6 +3,7 @@
 //! from the reference.
 
 use super::habits::Habits;
+use super::shares::{colours_of, fitting_shares};
 use crate::engine::{PLAN, SCRIPTS};
 use crate::rng::Rng;
 
@@ -37,6 +38,13 @@ impl Sketch {
     /// A plan that the reader accepts.
     pub fn random(rng: &mut Rng) -> Self {
         let count = rng.within(1..=8);
+        let shares = fitting_shares(rng, count);
+        Sketch::of_shares(rng, &shares)
+    }
+
+    /// A plan of these shares, in which all else is as the reader accepts it.
+    pub fn of_shares(rng: &mut Rng, shares: &[u32]) -> Self {
+        let count = shares.len() as u32;
         let most = rng.pick(&[0, 3, 12, 40, 256]);
         let mut sketch = Sketch {
             pad: match rng.below(4) {
@@ -50,11 +58,11 @@ impl Sketch {
                 1 => rng.within(1..=12),
                 _ => rng.within(1..=1_000),
             },
-            members: shares(rng, count)
-                .into_iter()
+            members: shares
+                .iter()
                 .enumerate()
                 .map(|(own, share)| Member {
-                    share,
+                    share: *share,
                     may: recipients(rng, own as u32, count),
                     script: Vec::new(),
                 })
@@ -78,6 +86,12 @@ impl Sketch {
     /// refused.
     pub fn at_the_limit(rng: &mut Rng) -> Self {
         let mut sketch = Sketch::random(rng);
+        sketch.stretch_to_the_limit(rng);
+        sketch
+    }
+
+    /// Gives this plan a pad, a run and windows of its domains as above.
+    pub fn stretch_to_the_limit(&mut self, rng: &mut Rng) {
         // The first four divide the most ticks that a run may take.
         let any = rng.within(80..=1_000);
         let run = rng.pick(&[85, 255, 257, 771, any]);
@@ -95,12 +109,11 @@ impl Sketch {
             .iter_mut()
             .for_each(|length| *length += 1);
         rng.shuffle(&mut lengths);
-        (sketch.pad, sketch.run) = (pad, run);
-        sketch.windows = lengths
+        (self.pad, self.run) = (pad, run);
+        self.windows = lengths
             .into_iter()
-            .map(|length| (rng.place(sketch.members.len()) as u32, length as u32))
+            .map(|length| (rng.place(self.members.len()) as u32, length as u32))
             .collect();
-        sketch
     }
 
     /// Lowers the run until its ticks are within the limit.
@@ -120,7 +133,7 @@ impl Sketch {
 
     /// The colours of a domain, by number.
     pub fn colours(&self, domain: usize) -> std::ops::Range<u32> {
-        let holding = |member: &Member| member.share * 15 / 1_000;
+        let holding = |member: &Member| colours_of(member.share);
         let first = self.members[..domain].iter().map(holding).sum();
         first..first + holding(&self.members[domain])
     }
@@ -167,23 +180,6 @@ impl Act {
             Act::Compute(ticks) => 0x50_0000 | ticks,
         }
     }
-}
-
-/// Shares that give each domain a colour and are 1,000 together at most.
-fn shares(rng: &mut Rng, count: u32) -> Vec<u32> {
-    let mut left = 1_000 - 67 * count;
-    let mut shares = vec![67; count as usize];
-    for share in &mut shares {
-        let more = match rng.below(4) {
-            0 => 0,
-            1 => left,
-            _ => rng.within(0..=left),
-        };
-        *share += more;
-        left -= more;
-    }
-    rng.shuffle(&mut shares);
-    shares
 }
 
 fn recipients(rng: &mut Rng, own: u32, count: u32) -> Vec<u32> {

@@ -13,20 +13,22 @@ fn the_worked_plan() {
     expected[12] = 0b10;
     expected[20..22].copy_from_slice(&[0, 1]);
     expected[52..54].copy_from_slice(&[400, 300]);
-    expected[84..86].copy_from_slice(&[0b111111, 0b1111000000]);
+    expected[84..86].copy_from_slice(&[0b111111, 0b11111000000]);
     assert_eq!(flat, expected);
     assert_eq!(plan_from_flat(&flat), Some(plan));
 }
 
 #[test]
 fn the_largest_plan() {
+    // Seven times two colours and once one: all fifteen.
     let domains: String = (0..8)
         .map(|own| {
             let may: String = (0..8)
                 .filter(|other| *other != own)
                 .map(|other| format!(" {other}"))
                 .collect();
-            format!("(domain {own}(share 125)(may{may}))\n")
+            let share = if own < 7 { 125 } else { 99 };
+            format!("(domain {own}(share {share})(may{may}))\n")
         })
         .collect();
     let windows: String = (0..32)
@@ -36,8 +38,8 @@ fn the_largest_plan() {
     let flat = plan_to_flat(&plan);
     assert_eq!(plan_from_flat(&flat), Some(plan));
     assert_eq!(flat[12..20], [254, 253, 251, 247, 239, 223, 191, 127]);
-    assert_eq!(flat[84], 1);
-    assert_eq!(flat[91], 1 << 7);
+    assert_eq!(flat[84], 0b11);
+    assert_eq!(flat[91], 1 << 14);
     assert_eq!((flat[51], flat[83]), (7, 32));
 }
 

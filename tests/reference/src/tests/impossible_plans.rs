@@ -1,7 +1,8 @@
 //! Plans that the reader could not give are refusal 12: document 01, "The plan
-//! text" and "Two lists of calls".
+//! text" and "Two lists of calls", and document 02, E2.
 
 use super::desk::{Desk, WORKED};
+use crate::colours::Colours;
 use crate::flat::{plan_from_flat, plan_to_flat};
 use crate::plan::{Domain, Recipients, Window};
 use crate::{Plan, Refusal, State};
@@ -50,7 +51,7 @@ fn single_numbers_past_their_limits() {
     for domain in [2, 7, 8, u32::MAX] {
         assert_impossible(with(|plan| plan.windows[0].domain = domain));
     }
-    for share in [0, 1, 66, 701, 1_001, u32::MAX] {
+    for share in [0, 1, 33, 601, 1_001, u32::MAX] {
         assert_impossible(with(|plan| plan.domains[1].share = share));
     }
 }
@@ -60,10 +61,74 @@ fn colours_that_the_shares_do_not_give() {
     for colours in [0, 0b1, 0b111110, 0b1111111, 0xffff, 0x1_003f, u32::MAX] {
         assert_impossible(with(|plan| plan.domains[0].colours.0 = colours));
     }
-    // 400 to 466 thousandths all give six colours.
-    for (share, possible) in [(399, false), (400, true), (466, true), (467, false)] {
+    // 367 to 433 thousandths all give six colours.
+    for (share, possible) in [(366, false), (367, true), (433, true), (434, false)] {
         let plan = with(|plan| plan.domains[0].share = share);
         assert_eq!(plan.is_possible(), possible, "{share}");
+    }
+}
+
+/// The worked plan with domains of these shares, which hold these colours.
+fn divided(domains: &[(u32, u32)]) -> Plan {
+    with(|plan| {
+        let domains = domains.iter().map(|(share, colours)| Domain {
+            share: *share,
+            may: Recipients::default(),
+            colours: Colours(*colours),
+        });
+        plan.domains = domains.collect();
+    })
+}
+
+#[test]
+fn shares_that_give_too_many_colours() {
+    // Two times eight. The second mask runs into the kernel's colour, is cut off
+    // there, begins in the first, is the first, or is none.
+    for second in [0xff00, 0x7f00, 0x7f80, 0x00ff, 0] {
+        assert_impossible(divided(&[(500, 0x00ff), (500, second)]));
+    }
+    // Seven each, as if halves went down.
+    assert_impossible(divided(&[(500, 0x007f), (500, 0x3f80)]));
+    // Seven times two and five more: 19 colours.
+    for cut in [u32::MAX, 0xffff, 0x7fff] {
+        let pairs = (0..7).map(|own| (100, (0b11 << (2 * own)) & cut));
+        let all: Vec<_> = pairs.chain([(300, (0b11111 << 14) & cut)]).collect();
+        assert_impossible(divided(&all));
+    }
+    // Eight times two, the first without any, each with one, or all with two.
+    let eight = |masks: fn(u32) -> u32| {
+        let domains: Vec<_> = (0..8).map(|own| (125, masks(own))).collect();
+        divided(&domains)
+    };
+    assert_impossible(eight(|own| 0b11 << (2 * own)));
+    assert_impossible(eight(|own| 0b11 << (2 * own) >> 2));
+    assert_impossible(eight(|own| 1 << own));
+    assert_impossible(eight(|_| 0b11));
+}
+
+#[test]
+fn shares_that_give_all_the_colours_or_fewer() {
+    for domains in [
+        &[(500, 0x00ff), (499, 0x7f00)][..],
+        &[(966, 0x3fff), (34, 0x4000)],
+        &[(300, 0x001f), (300, 0x03e0), (300, 0x7c00)],
+        &[(34, 0b1), (34, 0b10), (99, 0b100)],
+    ] {
+        assert!(divided(domains).is_possible(), "{domains:?}");
+    }
+}
+
+#[test]
+fn shares_past_their_limits_with_masks_to_match() {
+    for domains in [
+        // A share without a colour.
+        [(33, 0b0), (400, 0b11_1111)],
+        [(400, 0b11_1111), (0, 0b0)],
+        // Fifteen colours, but over the whole.
+        [(533, 0x00ff), (499, 0x7f00)],
+        [(1_000, 0x7fff), (33, 0)],
+    ] {
+        assert_impossible(divided(&domains));
     }
 }
 

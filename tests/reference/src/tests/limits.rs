@@ -68,16 +68,16 @@ fn numbers_of_ops() {
 fn shares() {
     let text =
         |n: u64| format!("(pad 276)\n(run 1)\n(domain 0(share {n})(may))\n(window 0(length 1))");
-    assert_taken(&text, [67, 1_000]);
+    assert_taken(&text, [34, 1_000]);
     assert_outside(&text, "share ", [0, 1_001]);
     assert_eq!(reading(text(1)), (6, 0));
-    assert_eq!(reading(text(66)), (6, 0));
+    assert_eq!(reading(text(33)), (6, 0));
 }
 
 #[test]
 fn domain_numbers() {
     let eight: String = (0..8)
-        .map(|n| format!("(domain {n}(share 125)(may {}))\n", (n + 1) % 8))
+        .map(|n| format!("(domain {n}(share 99)(may {}))\n", (n + 1) % 8))
         .collect();
     let start = format!("(pad 276)\n(run 1)\n{eight}");
     let window = |n| format!("{start}(window {n}(length 1))");
@@ -121,7 +121,7 @@ fn windows_and_ops() {
 #[test]
 fn a_full_store() {
     let domains: String = (0..8)
-        .map(|n| format!("(domain {n}(share 125)(may))\n"))
+        .map(|n| format!("(domain {n}(share 99)(may))\n"))
         .collect();
     let ops: String = (0..2_048)
         .map(|n| format!("(op {}(read {}))\n", n / 256, n % 10))
@@ -138,12 +138,12 @@ fn a_full_store() {
 fn shares_together() {
     let text = |last| {
         format!(
-            "(pad 276)\n(run 1)\n(domain 0(share 500)(may))\n(domain 1(share {last})(may))\n\
+            "(pad 276)\n(run 1)\n(domain 0(share 600)(may))\n(domain 1(share {last})(may))\n\
              (window 0(length 1))"
         )
     };
-    assert_eq!(reading(text(500)), (0, 0));
-    assert_eq!(reading(text(501)), (7, 1_001));
+    assert_eq!(reading(text(400)), (0, 0));
+    assert_eq!(reading(text(401)), (7, 1_001));
 }
 
 #[test]

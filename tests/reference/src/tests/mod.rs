@@ -1,5 +1,7 @@
 //! Tests of the reference against documents 01 and 02.
 
+mod colour_totals;
+mod colours;
 mod costs;
 mod damage;
 mod desk;

@@ -1,5 +1,6 @@
 //! The order of refusals: document 01, "The plan text". The reader's own order
-//! is in the tests of readings; here are 11, 12, 13, 14 and last 4.
+//! is in the tests of readings and of colour totals; here are 11, 12, 13, 14 and
+//! last 4.
 
 use super::desk::{Desk, WORKED};
 use crate::{Plan, Refusal};
@@ -113,6 +114,7 @@ fn numbers_and_companions() {
         (Refusal::Damaged, (13, 0)),
         (Refusal::State, (14, 0)),
         (Refusal::Frame, (15, 0)),
+        (Refusal::Colours { total: 17 }, (16, 17)),
     ];
     for (refusal, expected) in all {
         assert_eq!((refusal.number(), refusal.companion()), expected);

@@ -157,11 +157,11 @@ fn the_sum_of_shares_comes_before_a_share_without_colour() {
              (window 0(length 400))"
         )
     };
-    assert_eq!(reading(text(66, 935)), (7, 1_001));
-    assert_eq!(reading(text(66, 934)), (6, 0));
-    assert_eq!(reading(text(934, 66)), (6, 1));
-    assert_eq!(reading(text(1, 66)), (6, 0));
-    assert_eq!(reading(text(933, 67)), (0, 0));
+    assert_eq!(reading(text(33, 968)), (7, 1_001));
+    assert_eq!(reading(text(33, 967)), (6, 0));
+    assert_eq!(reading(text(967, 33)), (6, 1));
+    assert_eq!(reading(text(1, 33)), (6, 0));
+    assert_eq!(reading(text(966, 34)), (0, 0));
     assert_eq!(reading(text(1_000, 1_000)), (7, 2_000));
 }
 

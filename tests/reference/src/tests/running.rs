@@ -70,7 +70,7 @@ fn a_fresh_start_takes_damaged_things() {
 
 #[test]
 fn windows_start_when_the_plan_says() {
-    let text = "(pad 300)\n(run 3)\n(domain 0(share 500)(may))\n(domain 1(share 500)(may))\n\
+    let text = "(pad 300)\n(run 3)\n(domain 0(share 500)(may))\n(domain 1(share 400)(may))\n\
                 (window 0(length 10))\n(window 0(length 20))\n(window 1(length 5))";
     let mut desk = Desk::of(text);
     desk.put_ops(0, &[Op::Compute(200); 256]);
@@ -121,7 +121,7 @@ fn ticks_of_the_kernels_flush() {
 fn a_late_switch_still_fits_into_the_least_pad() {
     // An op begun at the last tick takes 213, all sixteen L1 lines are dirty.
     let mut desk = Desk::of(
-        "(pad 276)\n(run 1)\n(domain 0(share 900)(may 1))\n(domain 1(share 100)(may))\n\
+        "(pad 276)\n(run 1)\n(domain 0(share 900)(may 1))\n(domain 1(share 99)(may))\n\
          (window 0(length 1601))\n",
     );
     let mut ops: Vec<Op> = (0..16).map(Op::Write).collect();
@@ -136,7 +136,7 @@ fn a_late_switch_still_fits_into_the_least_pad() {
 #[test]
 fn a_script_goes_on_in_the_domains_next_window() {
     let mut desk = Desk::of(
-        "(pad 276)\n(run 2)\n(domain 0(share 500)(may))\n(domain 1(share 500)(may))\n\
+        "(pad 276)\n(run 2)\n(domain 0(share 500)(may))\n(domain 1(share 400)(may))\n\
          (window 0(length 1))\n(window 1(length 1))\n",
     );
     desk.put_ops(0, &[Op::Compute(1), Op::Compute(2), Op::Compute(3)]);

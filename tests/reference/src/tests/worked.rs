@@ -1,4 +1,5 @@
-//! The eleven figures that document 01 marks P under "Settled numbers".
+//! The eleven figures that document 01 marks P under "Settled numbers", that of
+//! the shares as document 02, E2, changes it.
 
 use super::desk::{reading, Desk, WORKED};
 use crate::cache::Cache;
@@ -22,8 +23,8 @@ fn p01_the_worked_run() {
 }
 
 #[test]
-fn p02_shares_round_down() {
-    assert_eq!([66, 67, 300].map(colours_for), [0, 1, 4]);
+fn p02_shares_to_the_nearest_colour() {
+    assert_eq!([33, 34, 100, 300].map(colours_for), [0, 1, 2, 5]);
     let desk = Desk::of(WORKED);
     let holdings: Vec<_> = desk
         .plan
@@ -31,7 +32,7 @@ fn p02_shares_round_down() {
         .iter()
         .map(|domain| domain.colours.holding())
         .collect();
-    assert_eq!(holdings, [6, 4]);
+    assert_eq!(holdings, [6, 5]);
 }
 
 #[test]

@@ -10,4 +10,4 @@ unfolding coloursOf
 returns c = refl
 
 pub colours-of-spec : {M : Type 1} → statement M
-colours-of-spec = tie.close (tie.spec (λ c. search needs) returns)
+colours-of-spec = tie.close (tie.spec (λ c. search needs) (λ c. search needs) returns)

@@ -4,12 +4,12 @@ use mathlib.Core.Path.{_∙_, _≡_, refl, sym}
 use Prim.Native.Nat.{_≤_}
 use borrow.Author.Needs.{needs}
 use borrow.Author.Tests.{le-leb, lt-leb, not-false, not-true}
-use Rattle.plan.specs.Colours.{sharesTotal}
+use Rattle.plan.specs.Bounds.{SharesBounded}
+use Rattle.plan.specs.Colours.{coloursTotal, sharesTotal}
 use Rattle.plan.specs.Validity.{countsValid, domainValid, maskValid, planValid, windowValid}
 use Rattle.plan.specs.Sums.{allBelow}
-use Rattle.plan.specs.Limits.{mostDomains, mostShares, mostWindows}
+use Rattle.plan.specs.Limits.{domainColours, mostDomains, mostShares, mostWindows}
 use Rattle.plan.proofs.ValidPlans.{counts-of, lengths-most, shares-most}
-use Rattle.plan.proofs.Shares.{colours-at-most}
 use Rattle.plan.proofs.validity.is_valid.Statement.{statement}
 use Rattle.plan.proofs.validity.is_valid.Tie as tie
 
@@ -23,11 +23,18 @@ placed c = sym (c .before .domains-valid .ensures) ∙ not-false _ (c .if2 .left
 shared : (c : tie.Else3) → sharesTotal (c .before .before .before .before .before .before .args .plan) (c .before .before .before .before .before .before .args .plan .domains) ≤ mostShares
 shared c = rw (c .before .shares-total .ensures) at (c .if3 .left)
 
-masked : (c : tie.Else4) → allBelow (maskValid (c .before .before .before .before .before .before .before .before .args .plan)) mostDomains ≡ true
-masked c = sym (c .before .masks-valid .ensures) ∙ not-false _ (c .if4 .left)
+coloured : (c : tie.Else4) → coloursTotal (c .before .before .before .before .before .before .before .before .args .plan) ≤ domainColours
+coloured c = rw (c .before .colours-total .ensures) at (c .if4 .left)
 
-windowed : (c : tie.Else5) → allBelow (windowValid (c .before .before .before .before .before .before .before .before .before .before .args .plan)) mostWindows ≡ true
-windowed c = sym (c .before .windows-valid .ensures) ∙ not-false _ (c .if5 .left)
+masked : (c : tie.Else5) → allBelow (maskValid (c .before .before .before .before .before .before .before .before .before .before .args .plan)) mostDomains ≡ true
+masked c = sym (c .before .masks-valid .ensures) ∙ not-false _ (c .if5 .left)
+
+windowed : (c : tie.Else6) → allBelow (windowValid (c .before .before .before .before .before .before .before .before .before .before .before .before .args .plan)) mostWindows ≡ true
+windowed c = sym (c .before .windows-valid .ensures) ∙ not-false _ (c .if6 .left)
+
+-- the number of domains and their shares are within their limits
+bounded : (c : tie.Else2) → SharesBounded (c .before .before .before .before .args .plan)
+bounded c = (counts-of _ (counted (c .before .before)) .domains-most, shares-most _ (placed c))
 
 returns : tie.Need-returns
 unfolding planValid
@@ -40,29 +47,21 @@ returns-2 : tie.Need-returns-2
 unfolding planValid
 returns-2 c = rw (counted (c .before .before), sym (c .before .domains-valid .ensures) ∙ not-true _ (c .if2 .taken)) refl
 
-shares-total-requires : tie.Need-shares-total-requires
-shares-total-requires c κs = (counts-of _ (counted (c .before .before)) .domains-most, shares-most _ (placed c))
-
 returns-3 : tie.Need-returns-3
 unfolding planValid
 returns-3 c =
     let over = lt-leb _ _ (rw (c .before .shares-total .ensures) at (c .if3 .taken)) in
     rw (counted (c .before .before .before .before), placed (c .before .before), over) refl
 
-masks-valid-requires : tie.Need-masks-valid-requires
-masks-valid-requires c κs = (
-  (counts-of _ (counted (c .before .before .before .before)) .domains-most, shares-most _ (placed (c .before .before))),
-  colours-at-most _ _ (shared c),
-)
-
 returns-4 : tie.Need-returns-4
 unfolding planValid
 returns-4 c =
+    let over = lt-leb _ _ (rw (c .before .colours-total .ensures) at (c .if4 .taken)) in
     rw (
       counted (c .before .before .before .before .before .before),
       placed (c .before .before .before .before),
       le-leb _ _ (shared (c .before .before)),
-      sym (c .before .masks-valid .ensures) ∙ not-true _ (c .if4 .taken),
+      over,
     )
     refl
 
@@ -73,23 +72,37 @@ returns-5 c =
       counted (c .before .before .before .before .before .before .before .before),
       placed (c .before .before .before .before .before .before),
       le-leb _ _ (shared (c .before .before .before .before)),
-      masked (c .before .before),
-      sym (c .before .windows-valid .ensures) ∙ not-true _ (c .if5 .taken),
+      le-leb _ _ (coloured (c .before .before)),
+      sym (c .before .masks-valid .ensures) ∙ not-true _ (c .if5 .taken),
     )
     refl
-
-ticks-total-requires : tie.Need-ticks-total-requires
-ticks-total-requires c κs =
-    let count = counts-of _ (counted (c .before .before .before .before .before .before .before .before)) in
-    (count .run-most, count .windows-most, count .pad-most, lengths-most _ (windowed c))
 
 returns-6 : tie.Need-returns-6
 unfolding planValid
 returns-6 c =
     rw (
-      counted (c .before .before .before .before .before .before .before .before .before),
-      placed (c .before .before .before .before .before .before .before),
-      le-leb _ _ (shared (c .before .before .before .before .before)),
+      counted (c .before .before .before .before .before .before .before .before .before .before),
+      placed (c .before .before .before .before .before .before .before .before),
+      le-leb _ _ (shared (c .before .before .before .before .before .before)),
+      le-leb _ _ (coloured (c .before .before .before .before)),
+      masked (c .before .before),
+      sym (c .before .windows-valid .ensures) ∙ not-true _ (c .if6 .taken),
+    )
+    refl
+
+ticks-total-requires : tie.Need-ticks-total-requires
+ticks-total-requires c κs =
+    let count = counts-of _ (counted (c .before .before .before .before .before .before .before .before .before .before)) in
+    (count .run-most, count .windows-most, count .pad-most, lengths-most _ (windowed c))
+
+returns-7 : tie.Need-returns-7
+unfolding planValid
+returns-7 c =
+    rw (
+      counted (c .before .before .before .before .before .before .before .before .before .before .before),
+      placed (c .before .before .before .before .before .before .before .before .before),
+      le-leb _ _ (shared (c .before .before .before .before .before .before .before)),
+      le-leb _ _ (coloured (c .before .before .before .before .before)),
       masked (c .before .before .before),
       windowed (c .before),
       c .ticks-total .ensures,
@@ -100,5 +113,6 @@ pub is-valid-spec : {M : Type 1} → statement M
 is-valid-spec =
     tie.close
     (tie.spec
-    (λ c κs. search needs) returns domains-valid-requires returns-2 shares-total-requires returns-3
-    masks-valid-requires returns-4 (λ c κs. search needs) returns-5 ticks-total-requires returns-6)
+    (λ c κs. search needs) returns domains-valid-requires returns-2 (λ c κs. bounded c) returns-3
+    (λ c κs. bounded (c .before .before)) returns-4 (λ c κs. (bounded (c .before .before .before .before), coloured c))
+    returns-5 (λ c κs. search needs) returns-6 ticks-total-requires returns-7)
