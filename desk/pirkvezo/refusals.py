@@ -356,7 +356,7 @@ def _passing(text, worth, limit):
 def _no_colour(domain, text):
     found, shares = _shares(text)
     fix = f"give it at least {LEAST_SHARE}, the least share that gives one"
-    # where all is let, a colour for this domain has to come from another
+    # where all is let or sold, what this domain needs has to come from others
     if any(new < old for old, new in zip(shares, mended(shares))):
         fix += f"; to make room, {_other_shares(shares)}"
     return found[domain].offset, f"domain {domain}: the share {shares[domain]} gives no colour", fix
@@ -380,8 +380,9 @@ def _other_shares(shares):
     for domain, (old, new) in enumerate(zip(shares, mended(shares))):
         if old != new:
             share, colours = ("one", "") if said else ("a share", " colours")
-            said.append(f"domain {domain} {share} of {new} "
-                        f"({colours_of(old)}{colours} become {colours_of(new)})")
+            before, after = colours_of(old), colours_of(new)
+            gives = f"{before}{colours} become {after}" if before != after else f"still {after}{colours}"
+            said.append(f"domain {domain} {share} of {new} ({gives})")
     return "give " + ", ".join(said) if said else ""
 
 

@@ -53,6 +53,8 @@ def mended(shares):
     [125, 125, 125, 125, 125, 125, 125, 99]
     >>> mended([300, 300, 300, 20])
     [300, 300, 299, 34]
+    >>> mended([433, 566, 1])
+    [433, 533, 34]
     """
     made = [max(share, least_share(1)) for share in shares]
     # it ends: eight domains of one colour each have only eight
@@ -60,4 +62,17 @@ def mended(shares):
         several = [domain for domain, share in enumerate(made) if colours_of(share) > 1]
         cheapest = min(reversed(several), key=lambda domain: cut(made[domain]))
         made[cheapest] -= cut(made[cheapest])
+    return _within_all(made)
+
+
+def _within_all(shares):
+    """The shares without thousandths that give nothing, so far as they total over 1000.
+
+    That is always enough: the least shares that give 15 colours total less.
+    """
+    over, made = sum(shares) - SHARES, list(shares)
+    for domain in reversed(range(len(made))):
+        taken = max(0, min(over, made[domain] - least_share(colours_of(made[domain]))))
+        made[domain] -= taken
+        over -= taken
     return made

@@ -21,7 +21,7 @@ REFUSAL = [
     "    (domain 7 (share 125) (may))",
     "                     ^",
     "    fix: give domain 7 a share of 99 (2 colours become 1)"]
-CHANGE = re.compile(r"domain (\d) (?:a share|one) of (\d+) \((\d+)(?: colours)? become (\d+)\)")
+CHANGE = re.compile(r"domain (\d) (?:a share|one) of (\d+) \((?:(\d+)(?: colours)? become|still) (\d+)(?: colours)?\)")
 
 
 def text_of(sold, rest="(window 0 (length 400))\n(run 1)\n"):
@@ -44,7 +44,8 @@ def colours(sold):
 
 def follow(sold, fix):
     """The shares after what a fix asks for, and its changes: domain, share, colours before and after."""
-    changes = [tuple(map(int, found)) for found in CHANGE.findall(fix)]
+    changes = [(int(domain), int(share), int(before or after), int(after))
+               for domain, share, before, after in CHANGE.findall(fix)]
     told = {domain: share for domain, share, _, _ in changes}
     return [told.get(domain, share) for domain, share in enumerate(sold)], changes
 
@@ -115,6 +116,9 @@ class BadInput(unittest.TestCase):
                  "domain 2 one of 299 (5 become 4), domain 3 one of 299 (5 become 4)"),
                 ([300, 300, 300, 33], "give it at least 34, the least share that gives one; to make room, give "
                  "domain 2 a share of 299 (5 colours become 4), domain 3 one of 34 (0 become 1)"),
+                # nor may the shares total over 1000 then
+                ([433, 566, 1], "give it at least 34, the least share that gives one; to make room, give "
+                 "domain 1 a share of 533 (still 8 colours), domain 2 one of 34 (0 become 1)"),
                 ([300, 33], "give it at least 34, the least share that gives one")]:
             with self.subTest(sold):
                 self.assertEqual(refused(text_of(sold)).fix, fix)
@@ -136,16 +140,21 @@ class BadInput(unittest.TestCase):
         self.assertEqual(totals, {16, 17, 18, 19})
 
     def test_a_fix_leaves_no_domain_without_a_colour(self):
-        chance, numbers = random.Random(23), []
-        while len(numbers) < 100:
-            sold = too_many_at_random(chance)[:7] + [chance.randint(1, 33)]
+        chance, numbers, tight = random.Random(23), [], 0
+        while len(numbers) < 400:
+            sold = too_many_at_random(chance)[:chance.randint(1, 7)] + [chance.randint(1, 33)]
             said = refused(text_of(sold))
             numbers.append(said.number)
-            if said.number == 16:
-                after = refused(text_of(follow(sold, said.fix)[0]))
-                # a share that had to be raised can bring the total over 1000
-                self.assertIn(after and after.number, (None, 7), sold)
-        self.assertGreater(numbers.count(16), 30)
+            if said.number in (6, 16):
+                # 6 asks for 34 in words of its own, and for more only where that would not do
+                fixed, changes = follow(sold, said.fix)
+                fixed = fixed[:-1] + [34]
+                pirkvezo.read(text_of(fixed))
+                self.assertEqual(bool(changes), refused(text_of(sold[:-1] + [34])) is not None)
+                tight += sum(sold[:-1] + [34]) > 1000
+                for domain, _, before, after in changes:
+                    self.assertEqual((before, after), (colours(sold)[domain], colours(fixed)[domain]))
+        self.assertGreater(min(numbers.count(6), numbers.count(16), tight), 30)
 
     def test_check(self):
         status, out, errors = call("check", EIGHT)
