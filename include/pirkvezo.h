@@ -78,6 +78,13 @@ uint32_t pirkvezo_frame(uint32_t count,
                         uint32_t *frame, size_t frame_length,
                         uint64_t *answer, size_t answer_length);
 
+/* How many steps a run from a fresh start can take at most: the ops stored in the eight scripts, each up to its end, and
+ * windows times run. With at least that limit such a run ends. Nothing but the answer is written.
+ * answer: number, companion, the bound (0 where refused), 0. */
+uint32_t pirkvezo_step_bound(const uint32_t *plan, size_t plan_length,
+                             const uint32_t *scripts, size_t scripts_length,
+                             uint64_t *answer, size_t answer_length);
+
 #ifdef __cplusplus
 }
 #endif

@@ -1,8 +1,11 @@
-"""Pirkvezo from Python: read a plan, run it, look at what each domain saw; make windows by weights.
+"""Pirkvezo from Python: read a plan, run it, look at what each domain saw; say how many steps a run
+can take; make windows by weights.
 
     >>> import pirkvezo
     >>> plan = pirkvezo.read(b"(pad 276)\\n(domain 0 (share 400) (may))\\n"
     ...                      b"(window 0 (length 300))\\n(run 1)\\n(op 0 (read 3))\\n")
+    >>> plan.bound
+    2
     >>> world = pirkvezo.World.fresh(plan)
     >>> world.run()
     Run(steps=2, ended=True)
@@ -15,10 +18,10 @@ Every number that decides anything comes from the proved library through its C i
 package lays it out as Python values and puts words to it; the package itself is not proved.
 """
 from .frames import Frame, frame
-from .library import LibraryMissing
+from .library import Fault, LibraryMissing
 from .plans import Op, Plan, Window, read
 from .refusals import Refused
 from .worlds import Record, Run, World
 
 __all__ = ["read", "Plan", "Op", "Window", "Refused", "World", "Record", "Run", "frame", "Frame",
-           "LibraryMissing"]
+           "Fault", "LibraryMissing"]

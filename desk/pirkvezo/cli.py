@@ -7,15 +7,15 @@ import pkgutil
 import sys
 
 from . import build, commands
-from .library import LibraryMissing
+from .library import Fault, LibraryMissing
 
-ABOUT = """Check, see, compare and report plans, and make their windows by weights.
+ABOUT = """Check, see, compare and report plans, bound their runs, and make their windows by weights.
 
-Every number that decides anything (verdict, masks, clocks, records, frames)
+Every number that decides anything (verdict, masks, clocks, records, bounds, frames)
 comes from the proved library. What is around it only words, lays out and draws, and is not proved.
 """
 EXIT = """exit status: 0 done, 1 a plan or a frame was refused, 2 bad arguments, a file that cannot be
-read, or a library that cannot be built"""
+read, or a library that cannot be built or is at fault"""
 
 
 class Parser(argparse.ArgumentParser):
@@ -52,6 +52,9 @@ def main(arguments=None):
     """Runs the command line; the exit status."""
     if sys.stdout is None:
         return _fail("standard output is closed")
+    if sys.stderr is None:
+        # print would take standard output in its place
+        sys.stderr = open(os.devnull, "w")
     for stream in (sys.stdout, sys.stderr):
         if hasattr(stream, "reconfigure"):
             stream.reconfigure(errors="backslashreplace")
@@ -79,7 +82,7 @@ def _main(arguments):
     try:
         build.ensure()
         return args.run_command(args)
-    except (LibraryMissing, build.CannotBuild) as why:
+    except (LibraryMissing, build.CannotBuild, Fault) as why:
         return _fail(str(why))
     except MemoryError:
         return _fail("not enough memory")

@@ -20,7 +20,10 @@ class Event:
 
 @dataclasses.dataclass(frozen=True)
 class WindowHistory:
-    """A window of the run. No op begins from `end` on; the pad lasts to `padded_end`."""
+    """A window of the run. No op begins from `end` on; the pad lasts to `padded_end`.
+
+    `steps` are those that the library answered: one for each op, and one for the switch.
+    """
     index: int
     owner: int
     start: int
@@ -28,14 +31,15 @@ class WindowHistory:
     padded_end: int
     ops: List[Event]
     boxes_at_start: Tuple[int, ...]
+    steps: int
 
 
 def history(plan: Plan, log_length: int = 16384, windows: Optional[int] = None) -> List[WindowHistory]:
     """The run's windows, from a fresh start; at most the first `windows` of them.
 
         >>> first, second = history(read(open("examples/worked_example.plan", "rb").read()))
-        >>> first.start, first.end, first.padded_end, len(first.ops)
-        (0, 400, 676, 3)
+        >>> first.start, first.end, first.padded_end, len(first.ops), first.steps
+        (0, 400, 676, 3, 4)
         >>> second.ops[0]
         Event(record=Record(kind='got', value=77, clock=881), begin=676, end=881, position=0)
     """
@@ -43,7 +47,7 @@ def history(plan: Plan, log_length: int = 16384, windows: Optional[int] = None) 
     limit = plan.windows_total if windows is None else min(windows, plan.windows_total)
     boxes = world.boxes
     while world.windows < limit:
-        index, start = world.windows, world.clock
+        index, start, before = world.windows, world.clock, world.steps
         window, ops = plan.window(index), []
         # windows share one tuple while no box changes: a run has up to 32,000 windows
         now = world.boxes
@@ -55,5 +59,6 @@ def history(plan: Plan, log_length: int = 16384, windows: Optional[int] = None) 
                 break
             ops.append(Event(world.last_record(window.owner), begin, world.clock, position))
         end = start + window.length
-        found.append(WindowHistory(index, window.owner, start, end, end + plan.pad, ops, boxes))
+        found.append(WindowHistory(index, window.owner, start, end, end + plan.pad, ops, boxes,
+                                   world.steps - before))
     return found

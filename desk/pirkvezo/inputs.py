@@ -2,6 +2,7 @@
 that is not there is said before anything is built or run."""
 import argparse
 import dataclasses
+import json
 import os
 import sys
 
@@ -82,3 +83,12 @@ def refusal_values(refused):
     return {"number": refused.number, "companion": refused.companion, "line": refused.line,
             "column": refused.column, "offset": refused.offset, "words": refused.words,
             "fix": refused.fix}
+
+
+def print_refused(args, refused):
+    """Prints why a plan was refused, for people or as JSON; the exit status."""
+    if args.json:
+        print(json.dumps(dict(file=args.plan.name, refusal=refusal_values(refused)), indent=2))
+    else:
+        print("\n".join(refusal_lines(args.plan.name, refused)))
+    return 1

@@ -32,11 +32,16 @@ _ENTRY_POINTS = {
                      Boxes, _SIZE, ctypes.c_void_p, _SIZE, ctypes.c_uint64],
     "pirkvezo_log": [PlanNumbers, _SIZE, StateNumbers, _SIZE, ctypes.c_void_p, _SIZE, ctypes.c_uint32],
     "pirkvezo_frame": [ctypes.c_uint32, WeightNumbers, _SIZE, FrameNumbers, _SIZE],
+    "pirkvezo_step_bound": [PlanNumbers, _SIZE, Scripts, _SIZE],
 }
 
 
 class LibraryMissing(Exception):
     """The shared library is not there, or is not the library."""
+
+
+class Fault(Exception):
+    """What is proved never to happen has happened: the desk or its library is at fault."""
 
 
 def path():
@@ -106,4 +111,11 @@ def frame(count, weights, numbers):
     """Makes a frame of `count` windows by weights into numbers; the answer's four numbers."""
     answer = Answer()
     load().pirkvezo_frame(count, weights, WEIGHTS, numbers, FRAME, answer, ANSWER)
+    return tuple(answer)
+
+
+def step_bound(plan, scripts):
+    """How many steps a run of plan and scripts takes at most; the answer's four numbers."""
+    answer = Answer()
+    load().pirkvezo_step_bound(plan, PLAN, scripts, SCRIPTS, answer, ANSWER)
     return tuple(answer)

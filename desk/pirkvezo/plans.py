@@ -64,7 +64,7 @@ class Plan:
     """An accepted plan. `read` makes it; `numbers` and `scripts` are what the library wrote.
 
     Windows count from 0 over all repeats. Sums that a plan implies are worked out here from the
-    library's numbers; they decide nothing.
+    library's numbers; they decide nothing. The bound is the library's own.
 
         >>> plan = read(open("examples/worked_example.plan", "rb").read())
         >>> plan.pad, plan.run, plan.shares, plan.recipients
@@ -75,6 +75,8 @@ class Plan:
         (676, 976, 2, 1252)
         >>> [str(op) for op in plan.ops(1)]
         ['(receive 0)', '(read 100)']
+        >>> plan.bound
+        7
     """
     text: bytes = dataclasses.field(repr=False)
     numbers: Tuple[int, ...] = dataclasses.field(repr=False)
@@ -108,6 +110,18 @@ class Plan:
     def ticks_total(self) -> int:
         """The tick at which the run ends."""
         return self.window_start(self.windows_total)
+
+    @property
+    def bound(self) -> int:
+        """How many steps a run takes at most, from a fresh start and in all calls together.
+
+        As a limit it always suffices, however long the log is.
+        """
+        plan, scripts = library.PlanNumbers(*self.numbers), library.Scripts(*self.scripts)
+        number, companion, steps = library.step_bound(plan, scripts)[:3]
+        if number:
+            raise Refused(number, companion)
+        return steps
 
     def window(self, k) -> Window:
         """The window with index k of the run."""

@@ -1,7 +1,7 @@
 """A run of a plan: state, cache table, boxes and log, in buffers that the object owns."""
 import ctypes
 import dataclasses
-from typing import List, Tuple
+from typing import List, Optional, Tuple
 
 from . import library
 from .plans import Plan
@@ -48,8 +48,10 @@ class World:
         (1, 676, (3, 0))
         >>> world.boxes[8 * 0 + 1]
         78
-        >>> world.run().ended
-        True
+        >>> world.run()
+        Run(steps=3, ended=True)
+        >>> world.steps, world.plan.bound
+        (7, 7)
     """
 
     def __init__(self, plan: Plan, log_length: int = 16384):
@@ -64,6 +66,7 @@ class World:
         # an empty log still has an address
         self._log = (ctypes.c_uint8 * max(log_length, 1))()
         _accepted(library.fresh_start(self._plan, self._state, self._cache, self._boxes))
+        self._steps, self._bound = 0, plan.bound
 
     @classmethod
     def fresh(cls, plan: Plan, log_length: int = 16384) -> "World":
@@ -72,17 +75,32 @@ class World:
 
     def step(self) -> Run:
         """One step: an op, or a switch."""
-        answer = _accepted(library.step(self._plan, self._scripts, self._state, self._cache,
-                                        self._boxes, self._log, self.log_length))
-        return Run(answer[2], answer[3] == 1)
+        return self._went(library.step(self._plan, self._scripts, self._state, self._cache,
+                                       self._boxes, self._log, self.log_length))
 
-    def run(self, limit: int = MOST_STEPS) -> Run:
-        """At most `limit` steps; without a limit, to the end."""
+    def run(self, limit: Optional[int] = None) -> Run:
+        """At most `limit` steps; without a limit, to the end, and so at most the plan's bound."""
+        if limit is None:
+            return self._run_to_the_end()
         if not isinstance(limit, int) or not 0 <= limit <= MOST_STEPS:
             raise ValueError("a limit is a number of steps from 0 to 2**64 - 1")
-        answer = _accepted(library.run(self._plan, self._scripts, self._state, self._cache,
-                                       self._boxes, self._log, self.log_length, limit))
-        return Run(answer[2], answer[3] == 1)
+        return self._went(library.run(self._plan, self._scripts, self._state, self._cache,
+                                      self._boxes, self._log, self.log_length, limit))
+
+    def _run_to_the_end(self) -> Run:
+        # steps done before only leave fewer to do, so the bound is enough wherever the run is
+        done = self.run(self._bound)
+        if not done.ended:
+            raise _broken(f"with a limit of {self._bound} steps, its bound, a run has not ended")
+        return done
+
+    def _went(self, answer) -> Run:
+        """How far a call came, by its answer. The bound is for the steps of all calls together."""
+        steps, ended = _accepted(answer)[2:]
+        self._steps += steps
+        if self._steps > self._bound:
+            raise _broken(f"a run has taken {self._steps} steps, and its bound is {self._bound}")
+        return Run(steps, ended == 1)
 
     def run_windows(self, n: int) -> Run:
         """Single steps until n windows of the run are completed, or to the end.
@@ -119,6 +137,11 @@ class World:
         return self.log_length // (RECORD_BYTES * self.plan.domains)
 
     @property
+    def steps(self) -> int:
+        """Steps done since the fresh start, in all calls together."""
+        return self._steps
+
+    @property
     def windows(self) -> int:
         """Windows completed."""
         return self._state[0]
@@ -151,6 +174,12 @@ class World:
 def _record(part):
     return Record(RECORD_KINDS[part[0] - 1], int.from_bytes(part[2:4], "little"),
                   int.from_bytes(part[4:8], "little"))
+
+
+def _broken(words):
+    # proved not to happen: raised so that a fault of the desk itself cannot pass unseen
+    return library.Fault(f"THIS MUST NOT HAPPEN: {words}. The bound is proved, so the desk or its "
+                         "library is at fault.")
 
 
 def _accepted(answer):

@@ -102,9 +102,10 @@ class Commands(unittest.TestCase):
     def test_run(self):
         with open(os.path.join(ROOT, "examples", "filter.out")) as kept:
             kept = kept.read()
-        self.assertEqual(call("run", "examples/filter.plan"), (0, kept, ""))
+        steps = "18 steps of at most 18\n"
+        self.assertEqual(call("run", "examples/filter.plan"), (0, kept, "examples/filter.plan: " + steps))
         with open(os.path.join(ROOT, "examples", "filter.plan"), "rb") as plan:
-            self.assertEqual(call("run", "-", text=plan.read()), (0, kept, ""))
+            self.assertEqual(call("run", "-", text=plan.read()), (0, kept, "standard input: " + steps))
         rows = list(csv.reader(io.StringIO(call("run", "--csv", "examples/filter.plan")[1])))
         self.assertEqual(len(rows) - 1, kept.count("(seen "))
         seen = [f"(seen {row[0]} {row[5]} ({row[6]} {row[7]}))" for row in rows[1:]]

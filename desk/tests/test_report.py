@@ -133,6 +133,7 @@ class Pages(unittest.TestCase):
     def test_the_longest_run(self):
         plan = read(longest())
         written = page("longest", plan)
+        self.assertIn("34048 steps of at most 34048", written)
         self.assertLess(len(written.encode()), 5_000_000)
         tree = xml.fromstring(written)
         drawn, listed = indexes(tree)

@@ -1,5 +1,5 @@
-/* A whole list of calls: a plan is read, started, run in parts and to its end, and each domain's log is asked for; then calls that are
- * refused, which change nothing; then frames by weights. tests/host/expected.txt is what it prints. */
+/* A whole list of calls: a plan is read, started, run in parts and to its end, and each domain's log is asked for; then runs limited by
+ * the step bound; then calls that are refused, which change nothing; then frames by weights. tests/host/expected.txt is what it prints. */
 #include <inttypes.h>
 #include <stdio.h>
 #include <string.h>
@@ -70,6 +70,11 @@ static uint32_t ask(uint32_t domain)
                         answer, PIRKVEZO_ANSWER);
 }
 
+static uint32_t bound(size_t plan_length, size_t scripts_length)
+{
+    return pirkvezo_step_bound(plan, plan_length, scripts, scripts_length, answer, PIRKVEZO_ANSWER);
+}
+
 /* A record is eight bytes: kind, 0, value (two bytes), clock (four), little end first. */
 static void print_record(uint32_t domain, const uint8_t *r)
 {
@@ -93,6 +98,7 @@ static void print_log(uint32_t domain)
 static void accepted_calls(void)
 {
     print_call("read_plan", read_text(settled));
+    print_call("step_bound", bound(PIRKVEZO_PLAN, PIRKVEZO_SCRIPTS));
     print_call("fresh_start", start());
     print_call("run, limit 0", run(0));
     print_call("step", step());
@@ -103,6 +109,17 @@ static void accepted_calls(void)
     printf("(end %" PRIu64 " %" PRIu64 ")\n", state[0], state[1]);
     print_log(0);
     print_log(1);
+}
+
+/* The limit that always suffices: asked for first, and one step less does not. */
+static void bounded_run(void)
+{
+    print_call("step_bound after the run", bound(PIRKVEZO_PLAN, PIRKVEZO_SCRIPTS));
+    uint64_t limit = answer[2];
+    print_call("fresh_start again", start());
+    print_call("run, one step less than the bound", run(limit - 1));
+    print_call("fresh_start once more", start());
+    print_call("run, the bound", run(limit));
 }
 
 /* Each is told why. */
@@ -122,7 +139,13 @@ static void refused_calls(void)
     print_call("run, a colour mask of 17 bits", run(1));
     print_call("fresh_start, the same", start());
     print_call("log, the same", ask(0));
+    print_call("step_bound, the same", bound(PIRKVEZO_PLAN, PIRKVEZO_SCRIPTS));
+    print_call("step_bound, the same and scripts of 2,047 numbers", bound(PIRKVEZO_PLAN, PIRKVEZO_SCRIPTS - 1));
     plan[84] -= 65536;
+    print_call("step_bound, a plan of 91 numbers", bound(PIRKVEZO_PLAN - 1, PIRKVEZO_SCRIPTS));
+    memset(answer, 255, sizeof answer);
+    print_call("step_bound, an answer of 3 numbers",
+               pirkvezo_step_bound(plan, PIRKVEZO_PLAN, scripts, PIRKVEZO_SCRIPTS, answer, PIRKVEZO_ANSWER - 1));
 
     print_call("fresh_start, a plan of 91 numbers",
                pirkvezo_fresh_start(plan, PIRKVEZO_PLAN - 1, state, PIRKVEZO_STATE, cache, PIRKVEZO_CACHE,
@@ -198,6 +221,7 @@ int main(void)
 {
     static struct tables before, after;
     accepted_calls();
+    bounded_run();
     copy_tables(&before);
     refused_calls();
     refused_readings();

@@ -1,4 +1,4 @@
--- What an access and the two flushes of a switch can take at most. Assumes nothing.
+-- What an access and the two flushes of a switch can take at most, and that an access takes a tick at least. Assumes nothing.
 use Prim.Native.Nat.{ℕ, _+_, _*_, _≤_}
 use mathlib.Core.Path.{_≡_, refl}
 use mathlib.Core.Bool.{Bool, true, false, cond}
@@ -50,6 +50,23 @@ look-ticks writes line entry ways = go (holdsLine entry line)
 pub access-ticks : (writes : Bool) (line : ℕ) (table : List ℕ) → accessOf writes line table .ticks ≤ mostAccessTicks
 unfolding accessOf lookupAt
 access-ticks writes line table = look-ticks writes line _ _
+
+-- and at least: what L1 holds takes one tick
+look-takes : (writes : Bool) (line entry : ℕ) (ways : List ℕ) → 1 ≤ lookupOf writes line entry ways .ticks
+unfolding lookupOf lookupL1 lookupL2
+look-takes writes line entry ways = go (holdsLine entry line)
+  where
+    searched : (known : Bool) → 1 ≤ cond known hit2Ticks missTicks
+    searched true = omega arith
+    searched false = omega arith
+
+    go : (holds : Bool) → 1 ≤ cond holds (lookupL1 writes line entry ways) (lookupL2 writes line entry ways) .ticks
+    go true = omega arith
+    go false = omega (arith, searched (has (cleanEntry line) ways))
+
+pub access-takes : (writes : Bool) (line : ℕ) (table : List ℕ) → 1 ≤ accessOf writes line table .ticks
+unfolding accessOf lookupAt
+access-takes writes line table = look-takes writes line _ _
 
 -- a test counts at most every number
 count-limit : (test : ℕ → Bool) (entries : List ℕ) → countWhere test entries ≤ length entries

@@ -2,18 +2,18 @@
 use mathlib.Core.Path.{_≡_, refl, sym, ap, subst, _∙_}
 use mathlib.Core.Bool.{true}
 use mathlib.Core.List.{List}
-use Prim.Native.Nat.{ℕ, _+_, _≤_}
+use Prim.Native.Nat.{ℕ, _≤_}
 use lib.ListN.{length}
 use Rattle.plan.specs.declared.Plan.{Plan}
-use Rattle.plan.specs.Limits.{mostRunTicks}
 use Rattle.plan.specs.Validity.{planValid}
 use Rattle.script.specs.Limits.{scriptsLength}
+use Rattle.bound.specs.Bound.{stepBound}
 use Rattle.cache.specs.Lines.{emptyTable}
 use Rattle.records.specs.Records.{partRecords}
 use Rattle.ops.specs.Ops.{emptyBoxes}
 use Rattle.state.specs.declared.State.{State}
 use Rattle.state.specs.StateValidity.{stateValid}
-use Rattle.state.specs.World.{World, endedOf}
+use Rattle.state.specs.World.{World}
 use Rattle.machine.specs.Steps.{runOf, steps}
 use Rattle.machine.specs.View.{worldWith}
 use Rattle.reachable.proofs.Ending.{ends}
@@ -80,14 +80,14 @@ pub fresh-run-accepted : (plan : Plan) (scripts log : List ℕ)
 unfolding runOf
 fresh-run-accepted plan scripts log possible store = reached-accepted plan scripts log 0 possible store
 
--- and it ends, where its limit is large enough for every plan
+-- and it ends, where its limit is at least the bound
 pub fresh-run-ends : (plan : Plan) (scripts log : List ℕ) (limit : ℕ)
     → planValid plan ≡ true
     → length scripts ≡ scriptsLength
-    → mostRunTicks + scriptsLength ≤ limit
+    → stepBound plan scripts ≤ limit
     → runCallOf plan scripts (freshWorld log) limit .ending ≡ Ended
 unfolding runCallOf ranFrom freshWorld
-fresh-run-ends plan scripts log limit possible store large =
+fresh-run-ends plan scripts log limit possible store enough =
     let quota = partRecords plan (length log) in
     ap (λ (verdict : Verdict). runFrom verdict plan scripts (freshWorld log) limit .ending) (fresh-run-accepted plan scripts log possible store)
-    ∙ ap endingOf (ends plan scripts quota possible limit log large)
+    ∙ ap endingOf (ends plan scripts quota possible limit log enough)

@@ -3,3 +3,4 @@ pub mod Computing
 pub mod FreshRuns
 pub mod Passing
 pub mod Verdicts
+pub mod StepBounds

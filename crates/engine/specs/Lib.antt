@@ -3,3 +3,4 @@ pub mod FreshStart
 pub mod Running
 pub mod Answers
 pub mod LogQuery
+pub mod Theorems

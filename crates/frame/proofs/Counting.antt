@@ -10,7 +10,7 @@ use lib.ListN.{getD}
 use borrow.Author.Tests.{lt-ltb}
 use Rattle.plan.specs.Limits.{mostDomains}
 use Rattle.plan.specs.Sums.{sumTo}
-use Rattle.plan.proofs.Sums.{last-or-earlier, sum-mono, sum-more, sum-most, sum-same}
+use Rattle.plan.proofs.Sums.{last-or-earlier, sum-mono, sum-more, sum-most, sum-same, sum-under}
 use Rattle.frame.specs.Quotas.{countBelow}
 
 -- ---- sums
@@ -22,18 +22,6 @@ term-most f zero index below = absurd (not-suc-le-zero below)
 term-most f (suc count) index below =
     last-or-earlier (λ (n : ℕ). f n ≤ sumTo f count + f count) count index (omega arith)
     (λ small. let before = term-most f count index small in omega arith) below
-
--- a sum of no greater terms is no greater
-pub sum-under :
-    (f g : ℕ → ℕ) (count : ℕ)
-    → ((index : ℕ) → index < count → f index ≤ g index)
-    → sumTo f count ≤ sumTo g count
-unfolding sumTo
-sum-under f g zero each = zero-le
-sum-under f g (suc count) each =
-    let before = sum-under f g count (λ index below. each index (omega arith)) in
-    let here = each count (omega arith) in
-    omega arith
 
 -- ---- counting
 

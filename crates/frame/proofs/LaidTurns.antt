@@ -11,11 +11,11 @@ use lib.ListN.{length, length-append}
 use borrow.Author.Tests.{eq-eqb, ltb-false, ltb-true, ne-eqb}
 use Rattle.plan.specs.Limits.{mostDomains}
 use Rattle.plan.specs.Sums.{sumTo}
-use Rattle.plan.proofs.Sums.{last-or-earlier, sum-same}
+use Rattle.plan.proofs.Sums.{last-or-earlier, sum-same, sum-under}
 use Rattle.frame.specs.Quotas.{countBelow}
 use Rattle.frame.specs.Theorems.{occurrences}
 use Rattle.frame.specs.Turns.{turnWindows, firstTurns}
-use Rattle.frame.proofs.Counting.{count-mono, sum-under}
+use Rattle.frame.proofs.Counting.{count-mono}
 
 -- ---- occurrences
 

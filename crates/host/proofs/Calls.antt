@@ -107,14 +107,14 @@ module _ (plan scripts : List ℕ) where
 -- ---- a call on the list's own arrays
 
 -- every array but the answer is the list's own
-abbrev ownRunArrays : List ℕ → RunArrays
+abbrev pub ownRunArrays : List ℕ → RunArrays
 ownRunArrays answer =
     record { plan = own; scripts = own; state = own; cache = own; boxes = own; log = own; answer = answer }
 
 abbrev ownLogArrays : List ℕ → LogArrays
 ownLogArrays answer = record { plan = own; state = own; log = own; answer = answer }
 
-all-own-arrays : (arrays : RunArrays) → OwnRunArrays arrays → arrays ≡ ownRunArrays (arrays .answer)
+pub all-own-arrays : (arrays : RunArrays) → OwnRunArrays arrays → arrays ≡ ownRunArrays (arrays .answer)
 all-own-arrays arrays owned =
     let plan = is-own (arrays .plan) (owned .0) in
     let scripts = is-own (arrays .scripts) (owned .1) in
@@ -189,7 +189,7 @@ module _ (plan scripts : List ℕ) (held : Arrays) where
     abbrev ran : RunOutcome
     ran = runCallOf (planOf plan) scripts (meant held) limit
 
-    did-is : allFit plan (held .state) answer ≡ true → did ≡ runDone ran answer
+    pub did-is : allFit plan (held .state) answer ≡ true → did ≡ runDone ran answer
     unfolding hostRun
     did-is fit = rw (fit, hostRun) refl
 

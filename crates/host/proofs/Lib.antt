@@ -4,4 +4,5 @@ pub mod Lists
 pub mod Shown
 pub mod Texts
 pub mod Isolation
+pub mod StepBounds
 pub mod Examples

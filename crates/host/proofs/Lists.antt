@@ -88,7 +88,7 @@ module _ (plan scripts : List ℕ) where
         ap (λ (refused : Bool). cond refused 0 (stepsAsked (asCall call))) (sym (ap isRefusal number) ∙ accepted)
         ∙ asks-same call
 
-    next-long :
+    pub next-long :
         (refused : Bool)
         → refusal ≡ refused
         → (refusal ≡ true) ⊎ AllOwnArrays call
@@ -175,13 +175,13 @@ module _ (list : HostList) (is : IsHostList list) where
       (λ (call : FreshCall). record { state = call .state; cache = call .cache; boxes = call .boxes; log = list .log })
       (start-fits .1)
 
-  start-meant : meant (startArrays list) ≡ startWorld (engineList list)
+  pub start-meant : meant (startArrays list) ≡ startWorld (engineList list)
   unfolding startWorld
   start-meant =
       let again = fresh-back (list .plan) (list .oldState) (list .oldCache) (list .oldBoxes) in
       ap meant start-is ∙ (λ i. worldWith (again i) (fresh .cache) (fresh .boxes) (list .log))
 
-  start-long : length (startArrays list .state) ≡ stateLength
+  pub start-long : length (startArrays list .state) ≡ stateLength
   unfolding stateNumbers numbersFrom
   start-long = ap (λ (a : Arrays). length (a .state)) start-is
 

@@ -18,7 +18,7 @@ use Rattle.reader.specs.Read.{readOf}
 use Rattle.isolation.specs.Points.{FreshRun, InWindowOf, opsOf, windowsAfter, worldAfter}
 use Rattle.isolation.specs.Statement.{BoxesAgree, Correspond, Only, SameKernelSets, SameL1}
 use Rattle.isolation.specs.Statement.{SameSets, ScriptsAgree, StartedOnTime}
-use Rattle.pirkvezo.specs.Answers.{answerLength}
+use Rattle.pirkvezo.specs.Answers.{answerLength, fourthOf, thirdOf}
 use Rattle.pirkvezo.specs.LogQuery.{LogCall, hostLog}
 use Rattle.pirkvezo.specs.Numbers.{stateClockOffset, completedOffset, planOf}
 use Rattle.pirkvezo.specs.Numbers.{positionsOffset, stateNumbers}
@@ -101,7 +101,7 @@ shownBy log query =
     record {
       number = query .number;
       answer = query .answer;
-      bytes = part (getD (query .answer) 2 0) (getD (query .answer) 3 0) log;
+      bytes = part (thirdOf (query .answer)) (fourthOf (query .answer)) log;
     }
 
 unfoldable pub logShown : List ℕ → List ℕ → List ℕ → ℕ → List ℕ → LogShown

@@ -26,12 +26,13 @@ use lib.ListN.{getD, length, length-replicate}
 use Rattle.plan.specs.declared.Plan.{Plan}
 use Rattle.plan.specs.Validity.{planValid}
 use Rattle.plan.specs.Windows.{windowOwner, windowStart, windowsTotal}
+use Rattle.bound.specs.Bound.{stepBound}
 use Rattle.records.specs.Records.{logPart, partRecords}
 use Rattle.ops.specs.Ops.{boxIndex, boxesLength, emptyBoxes}
 use Rattle.state.specs.World.{positionAt, recordsAt}
 use Rattle.reachable.proofs.Reached.{boxes-length}
 use Rattle.machine.specs.Fresh.{freshWorld}
-use Rattle.isolation.specs.Points.{FreshRun, InWindowOf, SameBoxesTo, Starts, mostSteps, opsOf, windowsAfter, worldAfter}
+use Rattle.isolation.specs.Points.{FreshRun, InWindowOf, SameBoxesTo, Starts, opsOf, windowsAfter, worldAfter}
 use Rattle.isolation.specs.Solo.{AgreesWithSolo, InSet, Matches, SameInWindow, SameToMember, SoloInput, soloAt, soloHere}
 use Rattle.isolation.specs.Solo.{waitSteps}
 use Rattle.isolation.specs.Statement.{BoxesAgree, Correspond, HasCorresponding, Only, SameKernelSets, SameL1}
@@ -108,7 +109,7 @@ module _ {Named : ℕ → Type 0} (plan : Plan) (scripts scripts′ log log′ :
   possible = shared .possible
 
   -- the boxes at the start of each of the first run's windows
-  start-of : (window : ℕ) → window < windowsTotal plan → StartedOnTime one mostSteps window
+  start-of : (window : ℕ) → window < windowsTotal plan → StartedOnTime one (stepBound plan (one .scripts)) window
   start-of window room = every-start one possible window (omega arith)
 
   mailAt : (window : ℕ) → Dec (window < windowsTotal plan) → List ℕ
@@ -181,7 +182,7 @@ module _ {Named : ℕ → Type 0} (plan : Plan) (scripts scripts′ log log′ :
     abbrev now : ℕ
     now = windowsAfter one count
 
-    there : StartedOnTime other mostSteps now
+    there : StartedOnTime other (stepBound (other .plan) (other .scripts)) now
     there = every-start other possible now (scheduled-after one possible count .windows)
 
     -- the other's window lasts as long

@@ -3,3 +3,4 @@ pub mod Points
 pub mod Statement
 pub mod Texts
 pub mod Solo
+pub mod StepBounds

@@ -7,10 +7,9 @@ use mathlib.Core.Path.{_≡_}
 use lib.Dec.{eqb, ltb}
 use lib.ListN.{getD}
 use Rattle.plan.specs.declared.Plan.{Plan}
-use Rattle.plan.specs.Limits.{mostDomains, mostRunTicks}
+use Rattle.plan.specs.Limits.{mostDomains}
 use Rattle.plan.specs.Sums.{sumTo}
 use Rattle.plan.specs.Windows.{windowOwner, windowsTotal}
-use Rattle.script.specs.Limits.{scriptsLength}
 use Rattle.ops.specs.Ops.{boxIndex}
 use Rattle.state.specs.World.{World}
 use Rattle.machine.specs.Fresh.{reachedWorld}
@@ -56,11 +55,6 @@ opsFor run domain count window =
 
 unfoldable pub opsOfDomain : FreshRun → ℕ → ℕ → ℕ
 opsOfDomain run domain count = sumTo (opsFor run domain count) (suc (windowsAfter run count))
-
--- no run from a fresh start has more steps before its end: each is a window's switch, and a window
--- takes a tick or more, or one of the ops of the script store
-abbrev pub mostSteps : ℕ
-mostSteps = mostRunTicks + scriptsLength
 
 -- after `count` steps a run is in a window of a domain that a predicate names
 pub record InWindowOf (Named : ℕ → Type 0) (run : FreshRun) (count : ℕ) : Type 0 where

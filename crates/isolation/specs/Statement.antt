@@ -11,6 +11,7 @@ use Rattle.plan.specs.declared.Plan.{Plan}
 use Rattle.plan.specs.Colours.{ownsColour}
 use Rattle.plan.specs.Windows.{windowOwner, windowStart, windowsTotal}
 use Rattle.script.specs.Limits.{mostOps}
+use Rattle.bound.specs.Bound.{stepBound}
 use Rattle.cache.specs.Lines.{kernelColour, l1Length, setColour, setIndex, setCount, waysPerSet}
 use Rattle.state.specs.World.{positionAt}
 use Rattle.refusal.specs.Code.{codeOf}
@@ -20,7 +21,7 @@ use Rattle.engine.specs.Running.{runCallOf}
 use Rattle.isolation.specs.Calls.{Admissible, AllOwn, Call, CallList, IsList, afterCall}
 use Rattle.isolation.specs.Calls.{isRefused, leavesOf, pointOf, refusedCode, runTwice}
 use Rattle.isolation.specs.Calls.{verdictAfter}
-use Rattle.isolation.specs.Points.{FreshRun, InWindowOf, SameBoxesTo, Starts, mostSteps}
+use Rattle.isolation.specs.Points.{FreshRun, InWindowOf, SameBoxesTo, Starts}
 use Rattle.isolation.specs.Points.{opsOf, opsOfDomain, windowsAfter, worldAfter}
 
 -- the run of a list
@@ -215,11 +216,11 @@ pub record ListLaws (list : CallList) : Type 0 where
       → runCallOf (list .plan) (list .scripts) (leavesOf list) (first + second)
       ≡ runTwice (list .plan) (list .scripts) (leavesOf list) first second
   -- every window of the plan does start in its run, on time, and so does the run's end, which is
-  -- where a next window would start: the run is over after at most `mostSteps` steps
+  -- where a next window would start: the run is over after at most as many steps as its bound
   pub starts :
       (window : ℕ)
       → window ≤ windowsTotal (list .plan)
-      → StartedOnTime (runOfList list) mostSteps window
+      → StartedOnTime (runOfList list) (stepBound (list .plan) (list .scripts)) window
   -- a domain's script position is the number of ops that its windows so far held
   pub positions :
       (domain : ℕ)

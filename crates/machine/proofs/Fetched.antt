@@ -3,7 +3,6 @@ use Prim.Native.Nat.{ℕ, _+_, _*_, _<_}
 use mathlib.Core.Bool.{Bool, true, false, cond}
 use mathlib.Core.List.{List}
 use mathlib.Core.Path.{_≡_, refl}
-use native.Mathlib.Omega.{arith}
 use lib.Dec.{ltb}
 use lib.ListN.{getD}
 use borrow.Author.Tests.{ltb-true}
@@ -12,10 +11,7 @@ use Rattle.script.specs.declared.ScriptItem.the-variants.{Op as Fetch, End}
 use Rattle.script.specs.Fetch.{decodeOf, fetchOf}
 use Rattle.script.specs.Limits.{OpWithinLimits, mostOps}
 use Rattle.script.proofs.Laws.{decode-within}
-
--- the end of a script is no op
-pub end-is-none : (op : Op) → End ≡ Fetch op → ⊥
-end-is-none op same = let none : _≡_ {A = ℕ} 0 1 = cc in omega arith
+use Rattle.script.proofs.ScriptEnd.{end-is-none}
 
 module _ (scripts : List ℕ) (domain position : ℕ) (op : Op) (fetched : fetchOf scripts domain position ≡ Fetch op) where
   -- the stored number there was decoded

@@ -11,12 +11,12 @@ use Rattle.plan.specs.Windows.{windowEnd, windowsTotal}
 use Rattle.script.specs.declared.Op.{Op}
 use Rattle.script.specs.declared.ScriptItem.{ScriptItem}
 use Rattle.script.specs.declared.ScriptItem.the-variants.{Op as Fetch, End}
+use Rattle.script.proofs.ScriptEnd.{end-is-none}
 use Rattle.state.specs.declared.State.{State}
 use Rattle.state.specs.World.{World, endedOf, recordsAt, runningOf}
 use Rattle.machine.specs.declared.Turn.{Turn}
 use Rattle.machine.specs.Steps.{activeStep, isEnd, nextItem, nextStepOf, opStepOf, runOf, stepOf, steps, switchDue, turnOf}
 use Rattle.machine.specs.Switch.{switchOf}
-use Rattle.machine.proofs.Fetched.{end-is-none}
 use Rattle.machine.proofs.Runs.{step-active, step-ended, steps-last}
 
 -- an op is next in a turn: before the window's end, with room in the domain's part of the log, where an op stands next in its script

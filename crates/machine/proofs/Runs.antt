@@ -36,7 +36,7 @@ module _ (plan : Plan) (scripts : List ℕ) (quota : ℕ) where
   run-more limit world running = rw (running, runOf)
 
   -- a run of one step or more, by whether it had ended
-  by-end : (Holds : RunEffect → Type 0) (limit : ℕ) (world : World)
+  pub by-end : (Holds : RunEffect → Type 0) (limit : ℕ) (world : World)
       → (endedOf plan (world .state) ≡ true → Holds (ranWith 0 world))
       → (endedOf plan (world .state) ≡ false → Holds (oneMore (runOf plan scripts quota limit (stepOf plan scripts quota world))))
       → Holds (runOf plan scripts quota (suc limit) world)

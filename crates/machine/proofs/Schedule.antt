@@ -37,7 +37,7 @@ pub next-start : (plan : Plan) (window : ℕ) → windowStart plan (suc window) 
 unfolding windowStart windowEnd
 next-start plan window = refl
 
-pub start-end : (plan : Plan) (window : ℕ) → windowStart plan window ≤ windowEnd plan window
+start-end : (plan : Plan) (window : ℕ) → windowStart plan window ≤ windowEnd plan window
 unfolding windowEnd
 start-end plan window = omega arith
 

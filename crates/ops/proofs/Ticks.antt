@@ -1,4 +1,4 @@
--- How many ticks an op may take, and an op that takes as many. Assumes nothing.
+-- How many ticks an op may take, an op that takes as many, and that every op takes one at least. Assumes nothing.
 use Prim.Native.Nat.{ℕ, _≤_}
 use mathlib.Core.Bool.{Bool, true, false, cond}
 use mathlib.Core.List.{List, [], _∷_}
@@ -20,23 +20,24 @@ use Rattle.script.specs.Limits.{OpWithinLimits}
 use Rattle.cache.specs.Access.{accessOf, lookupAt, lookupL1, lookupL2, lookupOf}
 use Rattle.cache.specs.Lines.{tableLength}
 use Rattle.cache.specs.Sets.{has, moveToFront, without}
-use Rattle.cache.proofs.Ticks.{access-ticks}
+use Rattle.cache.proofs.Ticks.{access-takes, access-ticks}
 use Rattle.records.specs.declared.Observation.{Observation}
 use Rattle.records.specs.declared.Observation.the-variants.{Ran}
 use Rattle.ops.specs.Ops.{Effect, boxLine, boxesLength, computeOf, effectOf, kernelEntryLine, messageOf, ownsLine}
 use Rattle.ops.specs.Ops.{receiveOf, touchOf}
 
--- a choice between two effects keeps a bound of both
-choice-ticks : (test : Bool) (one other : Effect) → one .ticks ≤ dearestOp → other .ticks ≤ dearestOp
-    → cond test one other .ticks ≤ dearestOp
-choice-ticks true one other left right = left
-choice-ticks false one other left right = right
+-- a choice between two effects keeps what both keep
+choice-ticks : (Keeps : ℕ → Type 0) (test : Bool) (one other : Effect) → Keeps (one .ticks) → Keeps (other .ticks) → Keeps (cond test one other .ticks)
+choice-ticks Keeps true one other left right = left
+choice-ticks Keeps false one other left right = right
+
+-- ---- no more than the dearest op
 
 touch-ticks : (plan : Plan) (domain : ℕ) (writes : Bool) (line : ℕ) (cache boxes : List ℕ)
     → touchOf plan domain writes line cache boxes .ticks ≤ dearestOp
 unfolding touchOf
 touch-ticks plan domain writes line cache boxes =
-    choice-ticks (ownsLine plan domain line) _ _ (omega (arith, access-ticks writes line cache)) (omega arith)
+    choice-ticks (λ ticks. ticks ≤ dearestOp) (ownsLine plan domain line) _ _ (omega (arith, access-ticks writes line cache)) (omega arith)
 
 -- the entry line's access first, and for one that is allowed the box's access besides
 message-ticks : (plan : Plan) (sender recipient : ℕ) (denied passed : Observation) (number : ℕ) (cache boxes : List ℕ)
@@ -45,7 +46,7 @@ unfolding messageOf
 message-ticks plan sender recipient denied passed number cache boxes =
     let entry = access-ticks false kernelEntryLine cache in
     let box = access-ticks true (boxLine sender recipient) (accessOf false kernelEntryLine cache .table) in
-    choice-ticks (maySend plan sender recipient) _ _ (omega arith) (omega arith)
+    choice-ticks (λ ticks. ticks ≤ dearestOp) (maySend plan sender recipient) _ _ (omega arith) (omega arith)
 
 -- no op takes more
 pub effect-ticks : (plan : Plan) (domain : ℕ) (op : Op) (cache boxes : List ℕ) → OpWithinLimits op
@@ -57,6 +58,31 @@ effect-ticks plan domain (Send recipient word) cache boxes within =
     message-ticks plan domain recipient _ _ _ cache boxes
 effect-ticks plan domain (Receive sender) cache boxes within = message-ticks plan sender domain _ _ _ cache boxes
 effect-ticks plan domain (Compute ticks) cache boxes within = omega arith
+
+-- ---- a tick at least
+
+touch-takes : (plan : Plan) (domain : ℕ) (writes : Bool) (line : ℕ) (cache boxes : List ℕ)
+    → 1 ≤ touchOf plan domain writes line cache boxes .ticks
+unfolding touchOf
+touch-takes plan domain writes line cache boxes =
+    choice-ticks (λ ticks. 1 ≤ ticks) (ownsLine plan domain line) _ _ (access-takes writes line cache) (omega arith)
+
+message-takes : (plan : Plan) (sender recipient : ℕ) (denied passed : Observation) (number : ℕ) (cache boxes : List ℕ)
+    → 1 ≤ messageOf plan sender recipient denied passed number cache boxes .ticks
+unfolding messageOf
+message-takes plan sender recipient denied passed number cache boxes =
+    choice-ticks (λ ticks. 1 ≤ ticks) (maySend plan sender recipient) _ _ (omega arith) (omega arith)
+
+-- no op takes less
+pub effect-takes : (plan : Plan) (domain : ℕ) (op : Op) (cache boxes : List ℕ) → OpWithinLimits op
+    → 1 ≤ effectOf plan domain op cache boxes .ticks
+unfolding effectOf receiveOf computeOf OpWithinLimits
+effect-takes plan domain (Read line) cache boxes within = touch-takes plan domain false line cache boxes
+effect-takes plan domain (Write line) cache boxes within = touch-takes plan domain true line cache boxes
+effect-takes plan domain (Send recipient word) cache boxes within =
+    message-takes plan domain recipient _ _ _ cache boxes
+effect-takes plan domain (Receive sender) cache boxes within = message-takes plan sender domain _ _ _ cache boxes
+effect-takes plan domain (Compute ticks) cache boxes within = within .0
 
 -- ---- one that takes as many
 

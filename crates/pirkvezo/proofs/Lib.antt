@@ -6,6 +6,7 @@ pub mod Answered
 pub mod LogQueries
 pub mod Judged
 pub mod Calls
+pub mod Bounds
 pub mod Frames
 pub mod Kept
 pub mod ReadBack

@@ -4,7 +4,7 @@ use Prim.Native.Nat.{ℕ}
 use mathlib.Core.Bool.{Bool, cond, _&&_}
 use mathlib.Core.List.{List, [], _∷_}
 use lib.Dec.{eqb}
-use lib.ListN.{length}
+use lib.ListN.{getD, length}
 use Rattle.refusal.specs.declared.Code.{Code}
 use Rattle.refusal.specs.declared.Refusal.the-variants.{WrongLength}
 use Rattle.refusal.specs.declared.Verdict.{Verdict}
@@ -23,6 +23,13 @@ verdictNumber verdict = codeOf verdict .number
 -- the number, its companion, and two numbers of the call's own
 abbrev pub answerNumbers : Code → ℕ → ℕ → List ℕ
 answerNumbers code third fourth = code .number ∷ code .companion ∷ third ∷ fourth ∷ []
+
+-- the two of its own in an answer array
+abbrev pub thirdOf : List ℕ → ℕ
+thirdOf answer = getD answer 2 0
+
+abbrev pub fourthOf : List ℕ → ℕ
+fourthOf answer = getD answer 3 0
 
 -- the answer after the call; one of another length stays as it is
 unfoldable pub answerOf : Verdict → ℕ → ℕ → List ℕ → List ℕ

@@ -1,6 +1,7 @@
 -- What the library's functions take, answer and leave.
 pub mod Numbers
 pub mod Answers
+pub mod Bounding
 pub mod Reading
 pub mod Starting
 pub mod Running

@@ -1,6 +1,7 @@
 // The library for programs in other languages: every entry point over numbers and slices. Each
 // takes any input, and returns the refusal's number.
 pub mod answers;
+pub mod bounding;
 pub mod framing;
 pub mod log_query;
 pub mod offsets;

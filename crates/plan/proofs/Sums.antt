@@ -60,6 +60,46 @@ sum-same f g zero same = refl
 sum-same f g (suc count) same =
     ap₂ (λ (a b : ℕ). a + b) (sum-same f g count (λ index below. same index (omega arith))) (same count (omega arith))
 
+-- a sum of no greater terms is no greater
+pub sum-under :
+    (f g : ℕ → ℕ) (count : ℕ)
+    → ((index : ℕ) → index < count → f index ≤ g index)
+    → sumTo f count ≤ sumTo g count
+unfolding sumTo
+sum-under f g zero each = zero-le
+sum-under f g (suc count) each =
+    let before = sum-under f g count (λ index below. each index (omega arith)) in
+    let here = each count (omega arith) in
+    omega arith
+
+-- a sum in which one number is larger by one is larger by one
+pub sum-one-more :
+    (f g : ℕ → ℕ) (index count : ℕ)
+    → index < count
+    → ((other : ℕ) → (other ≡ index → ⊥) → g other ≡ f other)
+    → g index ≡ f index + 1
+    → sumTo g count ≡ sumTo f count + 1
+unfolding sumTo
+sum-one-more f g index zero below others here = absurd (omega arith)
+sum-one-more f g index (suc count) below others here =
+    go (eqb index count) refl (λ earlier. sum-one-more f g index count earlier others here)
+  where
+    go :
+        (last : Bool)
+        → eqb index count ≡ last
+        → (index < count → sumTo g count ≡ sumTo f count + 1)
+        → sumTo g count + g count ≡ sumTo f count + f count + 1
+    go true test rest =
+        let same : index ≡ count = eqb-true index count test in
+        let before : sumTo g count ≡ sumTo f count = sum-same g f count (λ other less. others other (λ is. omega arith)) in
+        let grown : g count ≡ f count + 1 = rw (sym same) here in
+        omega arith
+    go false test rest =
+        let differs : (index ≡ count → ⊥) = eqb-false index count test in
+        let before : sumTo g count ≡ sumTo f count + 1 = rest (omega arith) in
+        let kept : g count ≡ f count = others count (λ is. differs (sym is)) in
+        omega arith
+
 -- a bound on each index bounds the sum
 pub sum-most : (f : ℕ → ℕ) (most count : ℕ) → ((index : ℕ) → index < count → f index ≤ most) → sumTo f count ≤ most * count
 unfolding sumTo

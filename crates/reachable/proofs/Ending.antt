@@ -1,142 +1,108 @@
--- Every run from a fresh start ends: a step of a run that has not ended is one op of some script, or one window more, and both are
--- limited. Assumes nothing.
+-- Every run from a fresh start ends within the bound: no script is run past its end, and no window but those of the plan is completed.
+-- Assumes nothing.
 use Prim.Native.Nat.{ℕ, zero, suc, _+_, _≤_, _<_}
-use mathlib.Core.Bool.{Bool, true, false}
+use mathlib.Core.Bool.{Bool, true, false, false≢true}
 use mathlib.Core.List.{List}
-use mathlib.Core.Logic.{_⊎_, inl, inr}
-use mathlib.Core.Path.{_≡_, refl, sym, subst, _∙_}
+use mathlib.Core.Path.{_≡_, refl, sym, ap, subst, _∙_}
+use native.Mathlib.Numerals.{add-one}
 use native.Mathlib.Omega.{arith}
-use lib.Dec.{eqb}
-use lib.ListN.{getD, length, length-set, set}
-use lib.Seq.{getD-set-other, getD-set-same}
-use borrow.Author.Tests.{eqb-false, eqb-true}
 use Rattle.plan.specs.declared.Plan.{Plan}
-use Rattle.plan.specs.Limits.{mostDomains, mostRunTicks}
+use Rattle.plan.specs.Limits.{mostDomains}
 use Rattle.plan.specs.Validity.{planValid}
 use Rattle.plan.specs.Sums.{sumTo}
-use Rattle.plan.specs.Windows.{windowStart, windowsTotal}
-use Rattle.plan.proofs.Sums.{sum-most, sum-same}
-use Rattle.plan.proofs.Windows.{domains-most, owner-declared, pad-least, start-fits}
+use Rattle.plan.specs.Windows.{windowsTotal}
+use Rattle.plan.proofs.Sums.{sum-under}
 use Rattle.script.specs.declared.Op.{Op}
-use Rattle.script.specs.Limits.{mostOps, scriptsLength}
+use Rattle.script.specs.ScriptEnd.{storedOps}
+use Rattle.script.proofs.ScriptEnd.{op-before-end}
+use Rattle.bound.specs.Bound.{opsStored, stepBound}
 use Rattle.state.specs.World.{World, endedOf, freshState, positionAt, runningOf}
 use Rattle.machine.specs.Fresh.{freshWorld}
-use Rattle.machine.specs.Steps.{opStepOf, runOf, stepOf, steps}
+use Rattle.machine.specs.Steps.{RunEffect, opStepOf, runOf, stepOf, steps}
 use Rattle.machine.specs.Switch.{switchOf}
-use Rattle.machine.proofs.Invariant.{in-window, step-cases}
-use Rattle.machine.proofs.Runs.{step-ended, steps-last}
-use Rattle.machine.proofs.Schedule.{next-start, start-end}
-use Rattle.reachable.proofs.Cells.{zeros-length}
-use Rattle.reachable.proofs.Counts.{counted}
+use Rattle.machine.proofs.Invariant.{Begins, in-window, steps-hold}
+use Rattle.machine.proofs.Runs.{by-end}
+use Rattle.machine.proofs.Schedule.{scheduled}
+use Rattle.reachable.specs.StepCounts.{opsRun}
+use Rattle.reachable.proofs.Cells.{cell-holds, cell-zeros, zeros-length}
+use Rattle.reachable.proofs.Progress.{progressOf, run-further}
 
--- ---- a sum in which one number grows by one
+module _ (plan : Plan) (scripts : List ℕ) (quota : ℕ) where
+  -- ---- no script is run past its end
 
-sum-one-more :
-    (f g : ℕ → ℕ) (index count : ℕ)
-    → index < count
-    → ((other : ℕ) → (other ≡ index → ⊥) → g other ≡ f other)
-    → g index ≡ f index + 1
-    → sumTo g count ≡ sumTo f count + 1
-unfolding sumTo
-sum-one-more f g index zero below others here = absurd (omega arith)
-sum-one-more f g index (suc count) below others here =
-    go (eqb index count) refl (λ earlier. sum-one-more f g index count earlier others here)
-  where
-    go :
-        (last : Bool)
-        → eqb index count ≡ last
-        → (index < count → sumTo g count ≡ sumTo f count + 1)
-        → sumTo g count + g count ≡ sumTo f count + f count + 1
-    go true test rest =
-        let same : index ≡ count = eqb-true index count test in
-        let before : sumTo g count ≡ sumTo f count = sum-same g f count (λ other less. others other (λ is. omega arith)) in
-        let grown : g count ≡ f count + 1 = rw (sym same) here in
-        omega arith
-    go false test rest =
-        let differs : (index ≡ count → ⊥) = eqb-false index count test in
-        let before : sumTo g count ≡ sumTo f count + 1 = rest (omega arith) in
-        let kept : g count ≡ f count = others count (λ is. differs (sym is)) in
-        omega arith
+  abbrev WithinScripts : World → Type 0
+  WithinScripts world = (domain : ℕ) → positionAt (world .state) domain ≤ storedOps scripts domain
 
--- ---- the ops that were run, and the windows that were completed
-
--- how far a run has come: its completed windows and the positions of all scripts together
-abbrev pub progressOf : World → ℕ
-progressOf world = world .state .windows + sumTo (positionAt (world .state)) mostDomains
-
--- after n steps a run has come as far, or has ended
-pub record Advanced (plan : Plan) (count : ℕ) (world : World) : Type 0 where
-  pub eight : length (world .state .positions) ≡ mostDomains
-  pub far : (endedOf plan (world .state) ≡ true) ⊎ (progressOf world ≡ count)
-
-module _ (plan : Plan) (scripts : List ℕ) (quota : ℕ) (possible : planValid plan ≡ true) where
-  after-switch :
-      (world : World) (count : ℕ) → length (world .state .positions) ≡ mostDomains → progressOf world ≡ count → Advanced plan (suc count) (switchOf plan world)
+  after-switch : (world : World) → WithinScripts world → world .state .windows < windowsTotal plan → WithinScripts (switchOf plan world)
   unfolding switchOf
-  after-switch world count eight far = record { eight = eight; far = inr (omega arith) }
+  after-switch world within inWindow = within
 
-  after-op :
-      (world : World) (op : Op) (count : ℕ)
-      → length (world .state .positions) ≡ mostDomains
-      → progressOf world ≡ count
-      → Advanced plan (suc count) (opStepOf plan quota (runningOf plan (world .state)) op world)
+  -- an op stands before the end of its script
+  after-op : (world : World) (op : Op) → WithinScripts world → Begins plan scripts quota world op
+      → WithinScripts (opStepOf plan quota (runningOf plan (world .state)) op world)
   unfolding opStepOf
-  after-op world op count eight far =
+  after-op world op within begins domain =
       let running = runningOf plan (world .state) in
-      let positions = world .state .positions in
-      let next = getD positions running 0 + 1 in
-      let declared = owner-declared plan (world .state .windows) possible in
-      let few = domains-most plan possible in
-      let grown =
-      sum-one-more (positionAt (world .state)) (λ domain. getD (set positions running next) domain 0) running mostDomains (omega arith)
-      (λ other differs. getD-set-other positions running other next 0 differs)
-      (getD-set-same positions running next 0 (omega arith)) in
-      record { eight = length-set positions running next ∙ eight; far = inr (omega arith) }
+      let position = positionAt (world .state) running in
+      let before : position + 1 ≤ storedOps scripts running =
+      omega (arith, op-before-end scripts running position op (within running) (begins .next)) in
+      cell-holds (λ n. n ≤ storedOps scripts domain) (world .state .positions) running domain (position + 1) (within domain)
+      (λ same. subst (λ owner. position + 1 ≤ storedOps scripts owner) (sym same) before)
 
-  advance : (world : World) (count : ℕ) → Advanced plan count world → Advanced plan (suc count) (stepOf plan scripts quota world)
-  advance world count advanced = go (advanced .far)
+  at-start : (log : List ℕ) → WithinScripts (freshWorld log)
+  unfolding freshWorld freshState
+  at-start log domain = omega (arith, cell-zeros mostDomains domain)
+
+  within-scripts : (count : ℕ) (log : List ℕ) → WithinScripts (steps plan scripts quota count (freshWorld log))
+  within-scripts count log = steps-hold plan scripts quota WithinScripts after-switch after-op (freshWorld log) (at-start log) count
+
+  -- ---- a run that has not ended did as many steps as its limit
+
+  pub run-whole : (limit : ℕ) (world : World) → endedOf plan (runOf plan scripts quota limit world .world .state) ≡ false
+      → runOf plan scripts quota limit world .done ≡ limit
+  unfolding runOf
+  run-whole zero world running = refl
+  run-whole (suc limit) world running =
+      by-end plan scripts quota (λ ran. endedOf plan (ran .world .state) ≡ false → ran .done ≡ suc limit) limit world
+      (λ ended running′. absurd (false≢true (sym running′ ∙ ended)))
+      (λ before running′. ap (λ done. done + 1) (run-whole limit (stepOf plan scripts quota world) running′) ∙ add-one limit)
+      running
+
+-- ---- a run from a fresh start
+
+module _ (plan : Plan) (scripts : List ℕ) (quota : ℕ) (possible : planValid plan ≡ true) (limit : ℕ) (log : List ℕ) where
+  abbrev ran : RunEffect
+  ran = runOf plan scripts quota limit (freshWorld log)
+
+  -- the steps that it answers are the ops that it ran and the windows that it completed
+  pub steps-are : ran .done ≡ progressOf (ran .world)
+  unfolding freshWorld freshState sumTo
+  steps-are = omega (arith, run-further plan scripts quota possible limit (freshWorld log) (zeros-length mostDomains) .far)
+
+  -- and each of these is no more than its part of the bound
+  pub ops-within : opsRun (ran .world) ≤ opsStored scripts
+  unfolding opsStored
+  ops-within = sum-under _ (storedOps scripts) mostDomains (λ domain below. within-scripts plan scripts quota limit log domain)
+
+  pub steps-within : ran .done ≤ stepBound plan scripts
+  unfolding stepBound
+  steps-within =
+      let windows = scheduled plan scripts quota limit log possible .windows in
+      let ops = ops-within in
+      omega (arith, steps-are)
+
+  -- before its end it has not come as far as the bound
+  pub before-end : endedOf plan (ran .world .state) ≡ false → progressOf (ran .world) < stepBound plan scripts
+  unfolding stepBound
+  before-end running =
+      let inside = in-window plan (ran .world .state) running in
+      let ops = ops-within in
+      omega arith
+
+  -- where its limit is at least the bound, it ends
+  pub ends : stepBound plan scripts ≤ limit → endedOf plan (ran .world .state) ≡ true
+  ends enough = go (endedOf plan (ran .world .state)) refl
     where
-      go : (endedOf plan (world .state) ≡ true) ⊎ (progressOf world ≡ count) → Advanced plan (suc count) (stepOf plan scripts quota world)
-      go (inl ended) = rw (step-ended plan scripts quota world ended) (record { eight = advanced .eight; far = inl ended })
-      go (inr far) =
-          step-cases plan scripts quota world (Advanced plan (suc count))
-          (λ ended. record { eight = advanced .eight; far = inl ended })
-          (λ inWindow. after-switch world count (advanced .eight) far)
-          (λ op begins. after-op world op count (advanced .eight) far)
-
-  advanced : (count : ℕ) (log : List ℕ) → Advanced plan count (steps plan scripts quota count (freshWorld log))
-  unfolding runOf freshWorld freshState sumTo
-  advanced zero log = record { eight = zeros-length mostDomains; far = inr refl }
-  advanced (suc count) log =
-      subst (Advanced plan (suc count)) (sym (steps-last plan scripts quota count (freshWorld log))) (advance _ count (advanced count log))
-
-  -- no run has more windows than ticks
-  window-ticks : (window : ℕ) → window ≤ windowStart plan window
-  unfolding windowStart
-  window-ticks zero = omega arith
-  window-ticks (suc window) =
-      let before = window-ticks window in
-      let pad = pad-least plan possible in
-      let length = start-end plan window in
-      omega (arith, next-start plan window)
-
-  -- a run has as many windows as ticks at most, and as many ops as the script store has numbers: so it ends within that many steps
-  pub ends : (count : ℕ) (log : List ℕ) → mostRunTicks + scriptsLength ≤ count → endedOf plan (steps plan scripts quota count (freshWorld log) .state) ≡ true
-  ends count log many = go (endedOf plan (world .state)) refl (advanced count log .far)
-    where
-      world : World
-      world = steps plan scripts quota count (freshWorld log)
-
-      go :
-          (ended : Bool)
-          → endedOf plan (world .state) ≡ ended
-          → (endedOf plan (world .state) ≡ true) ⊎ (progressOf world ≡ count)
-          → endedOf plan (world .state) ≡ true
-      go true test far = test
-      go false test (inl ended) = ended
-      go false test (inr far) =
-          let inside = in-window plan (world .state) test in
-          let positions = sum-most (positionAt (world .state)) mostOps mostDomains (λ domain below. counted plan scripts quota possible count log .position domain) in
-          let windows = window-ticks (windowsTotal plan) in
-          let ticks = start-fits plan (windowsTotal plan) possible (omega arith) in
-          absurd (omega arith)
+      go : (ended : Bool) → endedOf plan (ran .world .state) ≡ ended → endedOf plan (ran .world .state) ≡ true
+      go true test = test
+      go false test = absurd (omega (arith, steps-are, run-whole plan scripts quota limit (freshWorld log) test, before-end test))

@@ -3,6 +3,7 @@ pub mod Accesses
 pub mod Cells
 pub mod Counts
 pub mod Effects
+pub mod Progress
 pub mod Ending
 pub mod Flushes
 pub mod Lines
@@ -10,3 +11,4 @@ pub mod StateReached
 pub mod Reached
 pub mod Tables
 pub mod Ways
+pub mod WindowSteps

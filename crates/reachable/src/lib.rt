@@ -1,1 +1,2 @@
-// Every world that a run reaches from a fresh start passes the checks for 13 and 14. No code.
+// Every world that a run reaches from a fresh start passes the checks for 13 and 14. Every such run ends within its
+// bound, and no window takes more steps than its length and one. No code.

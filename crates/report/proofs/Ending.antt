@@ -1,10 +1,10 @@
--- The program runs every accepted plan to its end: no run has as many steps as the limit that it asks for. Assumes
--- nothing.
+-- The program runs every accepted plan to its end: no bound is as large as the limit that it asks for. Assumes nothing.
 use Prim.Native.Nat.{ℕ}
 use mathlib.Core.Path.{_≡_, ap, _∙_}
 use native.Mathlib.Omega.{arith}
 use lib.ListN.{length, length-replicate}
 use Rattle.script.specs.Limits.{scriptsLength}
+use Rattle.bound.proofs.Largest.{bounded}
 use Rattle.refusal.specs.declared.Verdict.{Verdict}
 use Rattle.reader.specs.Draft.{noOps}
 use Rattle.reader.specs.Read.{readOf}
@@ -27,5 +27,5 @@ planrun-ends text accepted =
       accepted =
           ap (λ (verdict : Verdict). runFrom verdict plan scripts (freshWorld lentLog) largestLimit .verdict)
           (fresh-run-accepted plan scripts lentLog valid store);
-      ended = fresh-run-ends plan scripts lentLog largestLimit valid store (omega arith);
+      ended = fresh-run-ends plan scripts lentLog largestLimit valid store (omega (arith, bounded plan scripts valid));
     }

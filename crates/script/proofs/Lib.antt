@@ -1,2 +1,3 @@
--- The laws of stored operations that other crates cite.
+-- The laws of stored operations and of scripts' ends that other crates cite.
 pub mod Laws
+pub mod ScriptEnd

@@ -11,6 +11,7 @@ ghost use lib.ListN.{length};
 ghost use Rattle.script.specs.Limits.{lastDomain, mostOps, scriptsLength};
 ghost use Rattle.script.specs.Stored.{packed, storedOf};
 ghost use Rattle.script.specs.Fetch.{decodeOf, fetchOf, opOf};
+ghost use Rattle.script.specs.ScriptEnd.{storedOps};
 
 // An operation with its numbers: the line of a read or a write; the recipient and the word of a send;
 // the sender of a receive; the ticks of a compute.
@@ -120,4 +121,23 @@ pub fn fetch(scripts: &[u32], domain: usize, position: u64) -> ScriptItem
 {
     let index = MOST_OPS * domain + position as usize;
     decode(scripts[index])
+}
+
+// How many ops a domain's script has: those before its end.
+pub fn stored_ops(scripts: &[u32], domain: usize) -> u64
+    requires { ⌜ (length (now scripts) ≡ scriptsLength) × (domain ≤ lastDomain) ⌝ }
+    ensures { λ r. ⌜ r ≡ storedOps (now (scripts .entry)) domain ⌝ }
+{
+    let mut position: u64 = 0;
+    while position < MOST_OPS as u64 {
+        match fetch(scripts, domain, position) {
+            ScriptItem::Op(_) => {
+                position += 1;
+            }
+            ScriptItem::End => {
+                return position;
+            }
+        }
+    }
+    position
 }

@@ -15,6 +15,7 @@ use libc::STDIN_FILENO;
 use libc::STDOUT_FILENO;
 use pirkvezo::answers::ending_number;
 use pirkvezo::answers::put_answer;
+use pirkvezo::bounding::pirkvezo_step_bound;
 use pirkvezo::framing::pirkvezo_frame;
 use pirkvezo::log_query::pirkvezo_log;
 use pirkvezo::offsets::ANSWER_LENGTH;
@@ -656,6 +657,21 @@ fn make_frame(example: Example, fields: &[u8]) -> Example {
     next
 }
 
+// bound LABEL: how many steps a run from a fresh start can take. Prints the answer's four numbers.
+fn ask_bound(example: Example, fields: &[u8]) {
+    let plan = example.plan;
+    let scripts_room = example.scripts;
+    let scripts: &[u32] = &scripts_room;
+    let first: usize = 0;
+    let mut answer = [0u64; ANSWER_LENGTH];
+    let lent_scripts = at_most(example.scripts_length, scripts.len());
+    pirkvezo_step_bound(&plan, &scripts[first..lent_scripts], &mut answer);
+    print_answer(word(fields), answer);
+    print_number(answer[2]);
+    print_number(answer[3]);
+    print(b"\n");
+}
+
 // ---- commands
 
 // Does what one line says.
@@ -694,6 +710,10 @@ fn obey(example: Example, line: &[u8]) -> Example {
     }
     if same(command, b"frame") {
         return make_frame(example, fields);
+    }
+    if same(command, b"bound") {
+        ask_bound(example, fields);
+        return example;
     }
     write(example, line)
 }

@@ -1,3 +1,4 @@
 pub mod Reading
 pub mod WorkedExample
 pub mod ShareExamples
+pub mod BoundExamples

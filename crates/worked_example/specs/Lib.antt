@@ -1,3 +1,4 @@
 pub mod Example
 pub mod WorkedExample
 pub mod ShareExamples
+pub mod BoundExamples

@@ -1,1 +1,2 @@
-// The worked figures of document 01 that are marked to be proved, and those of document 02's E2. No code.
+// The worked figures of document 01 that are marked to be proved, those of document 02's E2, and
+// examples of the step bound (E3). No code.

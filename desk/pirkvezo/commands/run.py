@@ -2,6 +2,7 @@
 import collections
 import csv
 import json
+import os
 import sys
 
 from ..history import history
@@ -17,7 +18,9 @@ EXAMPLE = """example:
   pirkvezo run examples/worked_example.plan
   pirkvezo run --table --windows 1 examples/worked_example.plan
 
-Where a run is stopped by --windows, its last line is (stopped WINDOWS CLOCK) and not (end ..)."""
+Where a run is stopped by --windows, its last line is (stopped WINDOWS CLOCK) and not (end ..).
+The steps done, and how many there are at most, are in the table and in the JSON. Beside the other
+forms they go to standard error."""
 
 
 def add_arguments(parser):
@@ -43,6 +46,7 @@ def run(args):
             print(json.dumps(dict(file=args.plan.name, refusal=None, **made), indent=2))
         elif args.csv:
             _csv(made)
+            _note(f"{args.plan.name}: {_steps(made['steps'], made['bound'])}")
         else:
             print("\n".join(summary_lines(args.plan.name, made)))
         return 0
@@ -52,7 +56,22 @@ def run(args):
         for record in world.log(domain):
             print(f"(seen {domain} {record.clock} {record})")
     print(f"({'end' if ended else 'stopped'} {world.windows} {world.clock})")
+    _note(f"{args.plan.name}: {_steps(world.steps, plan.bound)}")
     return 0
+
+
+def _steps(steps, bound):
+    return f"{count(steps, 'step')} of at most {bound}"
+
+
+def _note(line):
+    """A line beside output that has a form of its own; it comes once all of that is written."""
+    sys.stdout.flush()
+    try:
+        print(line, file=sys.stderr, flush=True)
+    except OSError:
+        # the run is no worse for it; and nothing is left that Python would try to write at its end
+        os.dup2(os.open(os.devnull, os.O_WRONLY), 2)
 
 
 def _refused(args, refused):
@@ -90,6 +109,7 @@ def summary(plan, log_length, windows=None):
             why=_why(plan, domain, len(records), room, len(passed)) if len(records) < len(ops) else None))
     clock = passed[-1].padded_end if passed else 0
     return dict(windows=len(passed), clock=clock, ended=len(passed) == plan.windows_total,
+                steps=sum(window.steps for window in passed), bound=plan.bound,
                 log_length=log_length, records_room=room, domains=domains)
 
 
@@ -105,7 +125,8 @@ def summary_lines(name, made):
     """The summary for people."""
     state = "ended" if made["ended"] else "stopped"
     lines = [f"{name}: {state} after {count(made['windows'], 'window')} at tick {made['clock']}; "
-             f"room for {count(made['records_room'], 'record')} a domain"]
+             f"room for {count(made['records_room'], 'record')} a domain",
+             _steps(made["steps"], made["bound"])]
     for entry in made["domains"]:
         lines += ["", f"Domain {entry['domain']}"]
         if entry["records"]:

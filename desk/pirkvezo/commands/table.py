@@ -2,7 +2,7 @@
 import json
 
 from ..advice import KERNEL_COLOUR
-from ..inputs import plan_file, refusal_lines, refusal_values
+from ..inputs import plan_file, print_refused
 from ..layout import columns, count, ranges, signed, squares
 from ..plans import read
 from ..refusals import Refused
@@ -23,11 +23,7 @@ def run(args):
     try:
         plan = read(args.plan.text)
     except Refused as refused:
-        if args.json:
-            print(json.dumps(dict(file=args.plan.name, refusal=refusal_values(refused)), indent=2))
-        else:
-            print("\n".join(refusal_lines(args.plan.name, refused)))
-        return 1
+        return print_refused(args, refused)
     made = table(plan)
     if args.json:
         print(json.dumps(dict(file=args.plan.name, refusal=None, **made), indent=2))

@@ -65,8 +65,8 @@ def _whole(name, parts):
             '<meta charset="utf-8"/><meta name="viewport" content="width=device-width, '
             f'initial-scale=1"/>\n<title>{escape(name)}: plan report</title>\n'
             f'<style>{STYLE}</style></head>\n<body>\n{"".join(parts)}'
-            '<p class="note">Verdict, colours, clocks and records come from the proved library; '
-            'this page lays them out and draws them, and is not itself proved.</p>\n'
+            '<p class="note">Verdict, colours, clocks, records and bound come from the proved '
+            'library; this page lays them out and draws them, and is not itself proved.</p>\n'
             '</body></html>\n')
 
 
@@ -94,12 +94,12 @@ def _domain(d):
 
 
 def _summary(name, plan, run, log_length):
-    ops = sum(len(w.ops) for w in run)
+    ops, steps = sum(len(w.ops) for w in run), sum(w.steps for w in run)
     return (f'<h1>{escape(name)}</h1>\n<p class="good">Accepted.</p>\n'
             f'<p>{count(plan.domains, "domain")}; {count(len(plan.windows), "window")} a round, '
             f'{count(plan.run, "round")}, {count(plan.windows_total, "window")} in all; pad '
-            f'{plan.pad}; the run ends at tick {plan.ticks_total}. {count(ops, "op")} done; log of '
-            f'{log_length} bytes.</p>\n')
+            f'{plan.pad}; the run ends at tick {plan.ticks_total}. {count(ops, "op")} done; '
+            f'{count(steps, "step")} of at most {plan.bound}; log of {log_length} bytes.</p>\n')
 
 
 def _warnings(warnings):

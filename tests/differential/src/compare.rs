@@ -11,7 +11,8 @@ pub struct Pair<'e> {
     world: World,
 }
 
-/// Two engines or frame makers that do not agree, or one that breaks a law.
+/// Two engines, frame makers or bounders that do not agree, or one that breaks a
+/// law.
 #[derive(Clone, Debug)]
 pub struct Difference(pub(crate) String);
 

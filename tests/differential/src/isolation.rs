@@ -48,7 +48,7 @@ pub struct Compared {
 impl Trail {
     /// Makes a fresh start and steps to the end.
     pub fn walk(engine: &dyn Engine, mut world: World, observer: usize) -> Result<Self, String> {
-        accept(&mut world, engine, &Call::FreshStart)?;
+        world.accept(engine, &Call::FreshStart)?;
         let mut windows = Vec::new();
         let mut current: Vec<Point> = Vec::new();
         loop {
@@ -58,7 +58,7 @@ impl Trail {
                 .or(windows.last().and_then(|w: &Vec<_>| w.last()));
             let point = Point::look(engine, &mut world, observer, before)?;
             current.push(point);
-            accept(&mut world, engine, &Call::Step)?;
+            world.accept(engine, &Call::Step)?;
             let (steps, ended) = (world.answer[2], world.answer[3]);
             if world.state[0] != completed || steps == 0 {
                 windows.push(std::mem::take(&mut current));
@@ -79,7 +79,7 @@ impl Point {
         observer: usize,
         before: Option<&Point>,
     ) -> Result<Self, String> {
-        accept(world, engine, &Call::Log(observer as u32))?;
+        world.accept(engine, &Call::Log(observer as u32))?;
         let (place, length) = (world.answer[2] as usize, world.answer[3] as usize);
         let log = world.log.get(place..place + length);
         let log = log.ok_or("a log was handed back that is not in the log")?;
@@ -159,12 +159,5 @@ fn shared<T: Copy + Eq>(before: Option<&Rc<[T]>>, now: &[T]) -> Rc<[T]> {
     match before {
         Some(before) if **before == *now => before.clone(),
         _ => now.into(),
-    }
-}
-
-fn accept(world: &mut World, engine: &dyn Engine, call: &Call) -> Result<(), String> {
-    match world.call(engine, call) {
-        0 => Ok(()),
-        number => Err(format!("{call:?} was refused with {number}")),
     }
 }

@@ -5,8 +5,10 @@
 //! interface is the other when it is linked. Generators make texts, worlds and
 //! lists of calls from a seed, and each call's answer and everything that it
 //! was lent are held against each other byte by byte. An
-//! [`engine::FrameMaker`] has document 02's frame maker, and is treated alike.
+//! [`engine::FrameMaker`] has document 02's frame maker, an [`engine::Bounder`] its
+//! bound of a run's steps, and both are treated alike.
 
+pub mod bound;
 pub mod compare;
 pub mod engine;
 pub mod frame;

@@ -78,6 +78,14 @@ impl World {
         }
     }
 
+    /// Makes a call that must not be refused.
+    pub fn accept(&mut self, engine: &dyn Engine, call: &Call) -> Result<(), String> {
+        match self.call(engine, call) {
+            0 => Ok(()),
+            number => Err(format!("{call:?} was refused with {number}")),
+        }
+    }
+
     /// The first row in which two worlds differ.
     pub fn first_difference(&self, other: &World) -> Option<&'static str> {
         if self == other {

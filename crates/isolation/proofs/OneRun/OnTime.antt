@@ -11,6 +11,7 @@ use borrow.Author.Tests.{leb-false, leb-true}
 use Rattle.plan.specs.Validity.{planValid}
 use Rattle.plan.specs.Windows.{windowStart, windowsTotal}
 use Rattle.plan.proofs.Sums.{last-or-earlier}
+use Rattle.bound.specs.Bound.{stepBound}
 use Rattle.records.specs.Records.{partRecords}
 use Rattle.state.specs.World.{endedOf, freshState}
 use Rattle.machine.specs.Steps.{runOf}
@@ -19,7 +20,7 @@ use Rattle.machine.proofs.Schedule.{NextStarts, NextWindow, Scheduled, schedule
 use Rattle.machine.specs.Fresh.{freshWorld}
 use Rattle.reachable.proofs.Ending.{ends}
 use Rattle.isolation.specs.Calls.{CallList, IsList, pointOf}
-use Rattle.isolation.specs.Points.{FreshRun, mostSteps, windowsAfter, worldAfter}
+use Rattle.isolation.specs.Points.{FreshRun, windowsAfter, worldAfter}
 use Rattle.isolation.specs.Statement.{StartedOnTime, WindowsOnTime, runOfList}
 use Rattle.isolation.proofs.OneRun.Leaves.{list-valid}
 
@@ -110,17 +111,20 @@ module _ (run : FreshRun) (possible : planValid (run .plan) ≡ true) where
           let less = leb-false window (windowsAfter run count) test in
           next-starts count window next (omega (arith, next .windows))
 
-  -- every run ends
-  all-completed : windowsTotal (run .plan) ≤ windowsAfter run mostSteps
+  -- a run's bound
+  abbrev bound : ℕ
+  bound = stepBound (run .plan) (run .scripts)
+
+  -- every run ends within it
+  all-completed : windowsTotal (run .plan) ≤ windowsAfter run bound
   unfolding worldAfter endedOf
   all-completed =
       leb-true _ _
-      (ends (run .plan) (run .scripts) (partRecords (run .plan) (length (run .log))) possible mostSteps (run .log)
-      (omega arith))
+      (ends (run .plan) (run .scripts) (partRecords (run .plan) (length (run .log))) possible bound (run .log) (omega arith))
 
   -- so every window of the plan does start, and so does the end
-  pub every-start : (window : ℕ) → window ≤ windowsTotal (run .plan) → StartedOnTime run mostSteps window
-  every-start window below = started mostSteps window (le-trans below all-completed)
+  pub every-start : (window : ℕ) → window ≤ windowsTotal (run .plan) → StartedOnTime run bound window
+  every-start window below = started bound window (le-trans below all-completed)
 
 -- (A): after a list, each window so far started on time
 pub on-time : (list : CallList) → IsList list → WindowsOnTime list

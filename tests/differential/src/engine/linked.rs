@@ -1,13 +1,14 @@
 //! The linked library behind the plain interfaces.
 
-use super::FrameMaker;
+use super::{Bounder, FrameMaker};
 
 crate::c_engine! {
     /// The library that PIRKVEZO_LIB names.
     pub struct Linked, "library", "pirkvezo_"
 }
 
-// The peer makes no frames, so this function is not among those of the macro.
+// The peer makes no frames and tells no bounds, so these functions are not among
+// those of the macro.
 extern "C" {
     fn pirkvezo_frame(
         count: u32,
@@ -15,6 +16,15 @@ extern "C" {
         weights_len: usize,
         frame: *mut u32,
         frame_len: usize,
+        answer: *mut u64,
+        answer_len: usize,
+    ) -> u32;
+
+    fn pirkvezo_step_bound(
+        plan: *const u32,
+        plan_len: usize,
+        scripts: *const u32,
+        scripts_len: usize,
         answer: *mut u64,
         answer_len: usize,
     ) -> u32;
@@ -34,6 +44,26 @@ impl FrameMaker for Linked {
                 weights.len(),
                 frame.as_mut_ptr(),
                 frame.len(),
+                answer.as_mut_ptr(),
+                answer.len(),
+            )
+        }
+    }
+}
+
+impl Bounder for Linked {
+    fn name(&self) -> &'static str {
+        "library"
+    }
+
+    fn step_bound(&self, plan: &[u32], scripts: &[u32], answer: &mut [u64]) -> u32 {
+        // As above.
+        unsafe {
+            pirkvezo_step_bound(
+                plan.as_ptr(),
+                plan.len(),
+                scripts.as_ptr(),
+                scripts.len(),
                 answer.as_mut_ptr(),
                 answer.len(),
             )

@@ -1,12 +1,14 @@
 //! Document 01's entry points over plain numbers, whoever implements them, and
-//! beside them document 02's frame maker.
+//! beside them document 02's frame maker and its bound of a run's steps.
 
+mod bounder;
 mod c_engine;
 mod frame_maker;
 #[cfg(linked)]
 mod linked;
 mod reference;
 
+pub use bounder::{bounder_under_test, Bounder};
 pub use frame_maker::{frame_maker_under_test, FrameMaker, FRAME, WEIGHTS};
 #[cfg(linked)]
 use linked::Linked;

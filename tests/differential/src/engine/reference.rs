@@ -1,6 +1,6 @@
 //! The reference behind the plain interfaces.
 
-use super::{Engine, FrameMaker, Tables, ANSWER, PLAN, STATE};
+use super::{Bounder, Engine, FrameMaker, Tables, ANSWER, PLAN, STATE};
 use pirkvezo_reference::flat::{plan_from_flat, plan_to_flat, state_from_flat, state_to_flat};
 use pirkvezo_reference::{self as reference, Lent, Outcome, Plan, Progress, Refusal};
 
@@ -84,6 +84,23 @@ impl FrameMaker for Reference {
         };
         match outcome {
             Ok(()) => tell([0; ANSWER], answer),
+            Err(refusal) => refuse(refusal, answer),
+        }
+    }
+}
+
+impl Bounder for Reference {
+    fn name(&self) -> &'static str {
+        "reference"
+    }
+
+    fn step_bound(&self, plan: &[u32], scripts: &[u32], answer: &mut [u64]) -> u32 {
+        let outcome = match (plan.try_into(), answer.len()) {
+            (Ok(plan), ANSWER) => reference::step_bound(&taken(plan), scripts),
+            _ => Err(Refusal::TableLength),
+        };
+        match outcome {
+            Ok(bound) => tell([0, 0, bound.steps(), 0], answer),
             Err(refusal) => refuse(refusal, answer),
         }
     }

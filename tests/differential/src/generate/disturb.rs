@@ -15,7 +15,7 @@ pub fn disturb(rng: &mut Rng, world: &mut World) {
             0 | 1 => disturb_cache(rng, world),
             2 => disturb_boxes(rng, world),
             3 | 4 => disturb_state(rng, world),
-            5 => disturb_plan(rng, world),
+            5 => disturb_plan(rng, &mut world.plan),
             6 => disturb_scripts(rng, world),
             _ => disturb_length(rng, world),
         }
@@ -126,13 +126,14 @@ fn disturb_state(rng: &mut Rng, world: &mut World) {
     }
 }
 
-fn disturb_plan(rng: &mut Rng, world: &mut World) {
-    if world.plan.len() < 92 {
+/// Changes a plan, mostly so that the reader could not give it any more.
+pub fn disturb_plan(rng: &mut Rng, plan: &mut [u32]) {
+    if plan.len() < 92 {
         return;
     }
     let any = (rng.any() as u32) >> rng.below(32);
-    let domains = world.plan[2].clamp(1, 8) as usize;
-    let windows = world.plan[3].clamp(1, 32) as usize;
+    let domains = plan[2].clamp(1, 8) as usize;
+    let windows = plan[3].clamp(1, 32) as usize;
     let edges = [
         0,
         1,
@@ -157,30 +158,30 @@ fn disturb_plan(rng: &mut Rng, world: &mut World) {
                 true => Sketch::at_the_limit(rng),
                 false => Sketch::random(rng),
             };
-            world.plan[..92].copy_from_slice(&other.flat());
-            world.plan[52 + rng.place(32)] += rng.pick(&[0, 0, 1]);
+            plan[..92].copy_from_slice(&other.flat());
+            plan[52 + rng.place(32)] += rng.pick(&[0, 0, 1]);
         }
-        1 => world.plan[rng.place(92)] = edge,
-        2 => world.plan[rng.place(92)] = any,
-        3 => world.plan[rng.place(92)] ^= 1 << rng.below(32),
-        4 => world.plan[rng.place(4)] = rng.pick(&[0, 1, 2, 8, 9, 32, 33, 276, 277, any]),
+        1 => plan[rng.place(92)] = edge,
+        2 => plan[rng.place(92)] = any,
+        3 => plan[rng.place(92)] ^= 1 << rng.below(32),
+        4 => plan[rng.place(4)] = rng.pick(&[0, 1, 2, 8, 9, 32, 33, 276, 277, any]),
         5 => {
-            let share = &mut world.plan[4 + rng.place(domains)];
+            let share = &mut plan[4 + rng.place(domains)];
             let near = [share.wrapping_sub(1), share.wrapping_add(1)];
             *share = match rng.one_in(2) {
                 true => rng.within(0..=1_001),
                 false => rng.pick(&near),
             };
         }
-        6 => world.plan[12 + rng.place(domains)] ^= 1 << rng.below(9),
+        6 => plan[12 + rng.place(domains)] ^= 1 << rng.below(9),
         7 => {
             let window = rng.place(windows);
-            world.plan[20 + window] = rng.within(0..=8);
-            world.plan[52 + window] = rng.pick(&[0, 1, 300, 1_000_000, 1_000_001]);
+            plan[20 + window] = rng.within(0..=8);
+            plan[52 + window] = rng.pick(&[0, 1, 300, 1_000_000, 1_000_001]);
         }
         8 => {
             let domain = rng.place(domains);
-            let mask = world.plan[84 + domain];
+            let mask = plan[84 + domain];
             let changed = [
                 mask << 1,
                 mask >> 1,
@@ -188,10 +189,10 @@ fn disturb_plan(rng: &mut Rng, world: &mut World) {
                 mask | 1 << 16,
                 mask.wrapping_add(65_536),
             ];
-            world.plan[84 + domain] = rng.pick(&changed);
+            plan[84 + domain] = rng.pick(&changed);
         }
-        9 | 10 => crowd(rng, &mut world.plan),
-        _ => world.plan.fill(0),
+        9 | 10 => crowd(rng, plan),
+        _ => plan.fill(0),
     }
 }
 

@@ -1,5 +1,6 @@
 //! Calls of a frame maker: document 02, E1.
 
+use super::length_near;
 use crate::engine::{ANSWER, FRAME, WEIGHTS};
 use crate::frame::call::FrameCall;
 use crate::rng::Rng;
@@ -20,14 +21,7 @@ pub fn random_frame_call(rng: &mut Rng) -> FrameCall {
 
 /// Gives some of a call's rows another length, now and then none.
 pub fn disturb_lengths(rng: &mut Rng, call: &mut FrameCall) {
-    let mut other = |right: usize| match rng.below(8) {
-        0 => 0,
-        1 => right - 1,
-        2 => right + 1,
-        3 => rng.place(2 * right + 2),
-        _ => right,
-    };
-    let lengths = [other(WEIGHTS), other(FRAME), other(ANSWER)];
+    let lengths = [WEIGHTS, FRAME, ANSWER].map(|right| length_near(rng, right));
     set_lengths(rng, call, lengths);
 }
 

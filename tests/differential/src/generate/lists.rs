@@ -27,7 +27,7 @@ pub fn random_world(rng: &mut Rng) -> World {
 }
 
 /// Lengths with much room, little room, none, and some bytes left over.
-fn log_length(rng: &mut Rng, sketch: &Sketch) -> usize {
+pub(super) fn log_length(rng: &mut Rng, sketch: &Sketch) -> usize {
     let records = match rng.below(6) {
         0 => 0,
         1 => rng.place(4),

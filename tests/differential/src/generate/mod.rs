@@ -1,5 +1,7 @@
-//! Generators of texts, worlds, lists of calls and calls of a frame maker.
+//! Generators of texts, worlds, lists of calls, and calls of a frame maker and of
+//! a bounder.
 
+pub mod bounds;
 pub mod bytes;
 pub mod disturb;
 pub mod faults;
@@ -14,3 +16,16 @@ pub mod sketch;
 pub mod stores;
 pub mod whole;
 pub mod write;
+
+use crate::rng::Rng;
+
+/// Mostly the right length for a row, and else another: none, one off, or any.
+fn length_near(rng: &mut Rng, right: usize) -> usize {
+    match rng.below(8) {
+        0 => 0,
+        1 => right - 1,
+        2 => right + 1,
+        3 => rng.place(2 * right + 2),
+        _ => right,
+    }
+}

@@ -22,6 +22,10 @@ pub enum Fault {
     KeepsL1,
     /// Refuses a send to a full box.
     MindsFullBoxes,
+    /// Lets ops take no time.
+    StopsTheClock,
+    /// Does each op again and again.
+    StaysInPlace,
     /// Writes clocks that hold a trace of the other domains' L2 sets.
     TellsTheTime,
     /// Drops lines from the sets of a domain that does not run.
@@ -34,7 +38,7 @@ pub enum Fault {
 
 impl Fault {
     /// Those that hold for one run alone.
-    pub const HOLLOW: [Fault; 8] = [
+    pub const HOLLOW: [Fault; 10] = [
         Fault::PretendsLater,
         Fault::InventsSteps,
         Fault::StopsEarly,
@@ -43,6 +47,8 @@ impl Fault {
         Fault::LeavesTables,
         Fault::KeepsL1,
         Fault::MindsFullBoxes,
+        Fault::StopsTheClock,
+        Fault::StaysInPlace,
     ];
     /// Those by which one domain learns of another.
     pub const LEAKS: [Fault; 4] = [
@@ -166,6 +172,10 @@ impl Hollow {
                         *new = *old;
                     }
                 }
+            }
+            Fault::StopsTheClock if !switched => tables.state[1] = before.state[1],
+            Fault::StaysInPlace if !switched => {
+                tables.state[2 + owner] = before.state[2 + owner];
             }
             Fault::TellsTheTime if !switched => {
                 let colours = tables.plan[84 + owner];

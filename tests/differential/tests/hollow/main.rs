@@ -2,6 +2,8 @@
 //! the comparison proves little. Document 01, "Four questions put to each
 //! contract" and "Mistakes that look like savings".
 
+mod bounders;
+mod bounds;
 mod dealers;
 mod deals;
 mod engines;

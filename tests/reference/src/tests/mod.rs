@@ -1,5 +1,6 @@
 //! Tests of the reference against documents 01 and 02.
 
+mod bound;
 mod colour_totals;
 mod colours;
 mod costs;
@@ -13,5 +14,6 @@ mod limits;
 mod order;
 mod readings;
 mod running;
+mod steps;
 mod stored_ops;
 mod worked;

@@ -6,6 +6,30 @@ use crate::op::Op;
 const KIND: u32 = 1_048_576;
 const OTHER: u32 = 65_536;
 
+/// Numbers of every kind that no op gives.
+pub const NO_OPS: [u32; 20] = [
+    0,
+    1,
+    65_535,
+    KIND - 1,
+    KIND + OTHER,
+    KIND + 15 * OTHER + 3,
+    2 * KIND + OTHER,
+    3 * KIND + 8 * OTHER,
+    3 * KIND + 15 * OTHER + 1,
+    4 * KIND + 1,
+    4 * KIND + 8 * OTHER,
+    5 * KIND,
+    5 * KIND + 201,
+    5 * KIND + OTHER + 1,
+    6 * KIND,
+    7 * KIND + 1,
+    16 * KIND + 1,
+    17 * KIND + 3,
+    4_095 * KIND,
+    u32::MAX,
+];
+
 #[test]
 fn a_script_as_it_is_stored() {
     let ops = "(op 0(read 65535))\n(op 0(write 3))\n(op 0(send 7 65535))\n(op 0(send 0 0))\n\
@@ -37,29 +61,7 @@ fn every_op_comes_back() {
 
 #[test]
 fn numbers_that_no_op_gives() {
-    let numbers = [
-        0,
-        1,
-        65_535,
-        KIND - 1,
-        KIND + OTHER,
-        KIND + 15 * OTHER + 3,
-        2 * KIND + OTHER,
-        3 * KIND + 8 * OTHER,
-        3 * KIND + 15 * OTHER + 1,
-        4 * KIND + 1,
-        4 * KIND + 8 * OTHER,
-        5 * KIND,
-        5 * KIND + 201,
-        5 * KIND + OTHER + 1,
-        6 * KIND,
-        7 * KIND + 1,
-        16 * KIND + 1,
-        17 * KIND + 3,
-        4_095 * KIND,
-        u32::MAX,
-    ];
-    for number in numbers {
+    for number in NO_OPS {
         assert_eq!(Op::from_stored(number), None, "{number}");
         let mut desk = Desk::alone(&[Op::Compute(1), Op::Compute(2), Op::Compute(3)]);
         desk.scripts[1] = number;

@@ -1,0 +1,4 @@
+-- The laws of the step bound.
+pub mod Largest
+pub mod Answers
+pub mod Reached
