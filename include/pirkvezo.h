@@ -17,7 +17,7 @@
 extern "C" {
 #endif
 
-/* How many elements the lent arrays have. A text and a log have any length. */
+/* How many elements the lent arrays have. A text, a log and an `out` have any length. */
 #define PIRKVEZO_PLAN 92
 #define PIRKVEZO_STATE 18
 #define PIRKVEZO_ANSWER 4
@@ -26,6 +26,9 @@ extern "C" {
 #define PIRKVEZO_BOXES 64
 #define PIRKVEZO_WEIGHTS 8
 #define PIRKVEZO_FRAME 32
+
+/* The most bytes of a text that is read, and so of one that is written. */
+#define PIRKVEZO_TEXT 32768
 
 /* Reads a plan text. Accepted: the scripts and the plan are written, and 0 is returned. Refused: the scripts stay, and
  * the plan is all zeros; with a plan or an answer of another length the plan stays too. answer: number, companion, 0, 0. */
@@ -83,6 +86,23 @@ uint32_t pirkvezo_frame(uint32_t count,
  * answer: number, companion, the bound (0 where refused), 0. */
 uint32_t pirkvezo_step_bound(const uint32_t *plan, size_t plan_length,
                              const uint32_t *scripts, size_t scripts_length,
+                             uint64_t *answer, size_t answer_length);
+
+/* Writes a plan and its scripts to the start of `out` as their canonical text: lines in a fixed
+ * order, each in one spelling without a needless space or zero, as `(domain 0(share 400)(may 1))`.
+ * docs/PLANS.md has the form. Refused, in this order; `out` stays:
+ *   - 11: plan, scripts or answer of another length;
+ *   - 12: a plan and scripts that no accepted text gives. The plan is impossible, or a number at or
+ *     after a script's end or in the part of an undeclared domain is not 0, or the canonical text
+ *     has over 32,768 bytes;
+ *   - 17, with the length needed as companion: `out` is shorter than that.
+ * Accepted: what stands in `out` past the text stays. The text is read back as the same plan and
+ * scripts; equal plans and scripts give equal texts; no text that gives them is shorter. So an
+ * `out` as long as the text that they were read from always has room, and so has one of 32,768
+ * bytes. answer: number, companion, the bytes written (0 where refused), 0. */
+uint32_t pirkvezo_write_plan(const uint32_t *plan, size_t plan_length,
+                             const uint32_t *scripts, size_t scripts_length,
+                             uint8_t *out, size_t out_length,
                              uint64_t *answer, size_t answer_length);
 
 #ifdef __cplusplus

@@ -1,11 +1,13 @@
 """Pirkvezo from Python: read a plan, run it, look at what each domain saw; say how many steps a run
-can take; make windows by weights.
+can take; write a plan's canonical text; make windows by weights.
 
     >>> import pirkvezo
     >>> plan = pirkvezo.read(b"(pad 276)\\n(domain 0 (share 400) (may))\\n"
     ...                      b"(window 0 (length 300))\\n(run 1)\\n(op 0 (read 3))\\n")
     >>> plan.bound
     2
+    >>> plan.canonical.splitlines()[-1]
+    b'(op 0(read 3))'
     >>> world = pirkvezo.World.fresh(plan)
     >>> world.run()
     Run(steps=2, ended=True)
@@ -14,7 +16,7 @@ can take; make windows by weights.
     >>> pirkvezo.frame(5, [3, 2, 2]).owners
     (0, 1, 2, 0, 1)
 
-Every number that decides anything comes from the proved library through its C interface. This
+Every number and text that decides anything comes from the proved library through its C interface. This
 package lays it out as Python values and puts words to it; the package itself is not proved.
 """
 from .frames import Frame, frame

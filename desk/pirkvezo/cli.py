@@ -8,14 +8,15 @@ import sys
 
 from . import build, commands
 from .library import Fault, LibraryMissing
+from .refusals import Refused
 
-ABOUT = """Check, see, compare and report plans, bound their runs, and make their windows by weights.
+ABOUT = """Check, see, compare, write and report plans, bound their runs, and make their windows by weights.
 
-Every number that decides anything (verdict, masks, clocks, records, bounds, frames)
+All that decides anything (verdict, masks, clocks, records, bounds, frames, canonical texts)
 comes from the proved library. What is around it only words, lays out and draws, and is not proved.
 """
 EXIT = """exit status: 0 done, 1 a plan or a frame was refused, 2 bad arguments, a file that cannot be
-read, or a library that cannot be built or is at fault"""
+read or written, or a library that cannot be built or is at fault"""
 
 
 class Parser(argparse.ArgumentParser):
@@ -84,6 +85,9 @@ def _main(arguments):
         return args.run_command(args)
     except (LibraryMissing, build.CannotBuild, Fault) as why:
         return _fail(str(why))
+    except Refused as why:
+        # a command says itself what it was asked for in vain; this is a call that none of them expects to fail
+        return _fail(f"the library refused a call: {why}")
     except MemoryError:
         return _fail("not enough memory")
     except KeyboardInterrupt:

@@ -5,6 +5,7 @@ import dataclasses
 import json
 import os
 import sys
+from typing import Optional
 
 from .refusals import excerpt, shown
 
@@ -16,9 +17,10 @@ _taken = []
 
 @dataclasses.dataclass(frozen=True)
 class PlanFile:
-    """A file's name as it may be shown, and its bytes."""
+    """A file's name as it may be shown, its bytes, and its path, which standard input has none of."""
     name: str
     text: bytes
+    path: Optional[str] = None
 
 
 def shown_name(name: str) -> str:
@@ -48,7 +50,7 @@ def plan_file(name: str) -> PlanFile:
         raise argparse.ArgumentTypeError(f"{said}: is no file name") from None
     if len(text) > MOST_BYTES:
         raise argparse.ArgumentTypeError(f"{said}: more than {MOST_BYTES} bytes, so it is no plan")
-    return PlanFile(said, text)
+    return PlanFile(said, text, None if name == "-" else name)
 
 
 def number_of(low, high, due=None):
@@ -85,10 +87,13 @@ def refusal_values(refused):
             "fix": refused.fix}
 
 
-def print_refused(args, refused):
-    """Prints why a plan was refused, for people or as JSON; the exit status."""
+def print_refused(args, refused, stream=None):
+    """Prints why a plan was refused, for people or as JSON; the exit status.
+
+    People are told on the stream: standard output, but where that may become a plan.
+    """
     if args.json:
         print(json.dumps(dict(file=args.plan.name, refusal=refusal_values(refused)), indent=2))
     else:
-        print("\n".join(refusal_lines(args.plan.name, refused)))
+        print("\n".join(refusal_lines(args.plan.name, refused)), file=stream)
     return 1

@@ -33,6 +33,7 @@ _ENTRY_POINTS = {
     "pirkvezo_log": [PlanNumbers, _SIZE, StateNumbers, _SIZE, ctypes.c_void_p, _SIZE, ctypes.c_uint32],
     "pirkvezo_frame": [ctypes.c_uint32, WeightNumbers, _SIZE, FrameNumbers, _SIZE],
     "pirkvezo_step_bound": [PlanNumbers, _SIZE, Scripts, _SIZE],
+    "pirkvezo_write_plan": [PlanNumbers, _SIZE, Scripts, _SIZE, ctypes.c_void_p, _SIZE],
 }
 
 
@@ -118,4 +119,11 @@ def step_bound(plan, scripts):
     """How many steps a run of plan and scripts takes at most; the answer's four numbers."""
     answer = Answer()
     load().pirkvezo_step_bound(plan, PLAN, scripts, SCRIPTS, answer, ANSWER)
+    return tuple(answer)
+
+
+def write_plan(plan, scripts, out, out_length):
+    """Writes the canonical text of plan and scripts to the start of out; the answer's four numbers."""
+    answer = Answer()
+    load().pirkvezo_write_plan(plan, PLAN, scripts, SCRIPTS, out, out_length, answer, ANSWER)
     return tuple(answer)

@@ -1,9 +1,10 @@
 """A plan as Python values, read by the proved library."""
+import ctypes
 import dataclasses
 from typing import List, Tuple
 
 from . import library
-from .refusals import Refused
+from .refusals import TEXT_BYTES, Refused
 
 OP_KINDS = ("read", "write", "send", "receive", "compute")
 SCRIPT_LENGTH = 256
@@ -64,7 +65,7 @@ class Plan:
     """An accepted plan. `read` makes it; `numbers` and `scripts` are what the library wrote.
 
     Windows count from 0 over all repeats. Sums that a plan implies are worked out here from the
-    library's numbers; they decide nothing. The bound is the library's own.
+    library's numbers; they decide nothing. The bound and the canonical text are the library's own.
 
         >>> plan = read(open("examples/worked_example.plan", "rb").read())
         >>> plan.pad, plan.run, plan.shares, plan.recipients
@@ -77,6 +78,8 @@ class Plan:
         ['(receive 0)', '(read 100)']
         >>> plan.bound
         7
+        >>> len(plan.canonical), plan.canonical.splitlines()[1]
+        (203, b'(domain 0(share 400)(may 1))')
     """
     text: bytes = dataclasses.field(repr=False)
     numbers: Tuple[int, ...] = dataclasses.field(repr=False)
@@ -123,6 +126,25 @@ class Plan:
             raise Refused(number, companion)
         return steps
 
+    @property
+    def canonical(self) -> bytes:
+        """The canonical text: no text that gives this plan with these scripts is shorter.
+
+        Plans with equal canonical texts are the same and have the same scripts, and no others do.
+        """
+        plan, scripts = library.PlanNumbers(*self.numbers), library.Scripts(*self.scripts)
+        # no text that is accepted is longer
+        out = ctypes.create_string_buffer(TEXT_BYTES)
+        number, companion, length = library.write_plan(plan, scripts, out, TEXT_BYTES)[:3]
+        if number:
+            raise Refused(number, companion)
+        text = out.raw[:length]
+        if _given_by(text) != (0, tuple(plan), tuple(scripts)):
+            # proved not to happen: raised before a text that is wrong can take the place of a plan
+            raise library.Fault("THIS MUST NOT HAPPEN: the canonical text does not give the plan and scripts "
+                                "that it is of. It is proved to, so the desk or its library is at fault.")
+        return text
+
     def window(self, k) -> Window:
         """The window with index k of the run."""
         if not 0 <= k < self.windows_total:
@@ -152,6 +174,13 @@ class Plan:
                 break
             found.append(op)
         return found
+
+
+def _given_by(text):
+    """What the library reads in a text: the refusal's number, the plan and the scripts."""
+    scripts, numbers = library.Scripts(), library.PlanNumbers()
+    number = library.read_plan(text, scripts, numbers)[0]
+    return number, tuple(numbers), tuple(scripts)
 
 
 def read(text) -> Plan:

@@ -15,11 +15,12 @@ TEXT_BYTES, TICKS, WINDOWS, OPS, LEAST_SHARE = 32768, 4294967295, 32, 256, least
 CALLS = {
     4: "the plan does not declare that domain",
     11: "the length of a lent array is wrong",
-    12: "these numbers are no plan that a text gives",
+    12: "these numbers are no plan, or no plan with scripts, that a text gives",
     13: "the cache table or a box is damaged",
     14: "the state is impossible",
     15: "the window count or a weight is outside its limits, or all weights are 0",
     16: f"the shares give more than {COLOURS} colours",
+    17: "the lent buffer is too short for the canonical text",
 }
 
 BYTES = {
@@ -171,10 +172,18 @@ def explain(number: int, companion: int, text: Optional[bytes],
     if number == 15 and asked is not None:
         return Explanation(None, None, None, *_no_frame(*asked))
     if text is None or number not in _READING:
-        return Explanation(None, None, None, CALLS.get(number, "refused"), "")
+        return Explanation(None, None, None, *_lent(number, companion))
     offset, words, fix = _READING[number](companion, text)
     line, column = line_and_column(text, offset)
     return Explanation(offset, line, column, words, fix)
+
+
+def _lent(number, companion):
+    """Cause and fix for a call that was lent tables."""
+    words = CALLS.get(number, "refused")
+    if number == 17:
+        return f"{words}, which has {companion} bytes", f"lend {companion} bytes or more"
+    return words, ""
 
 
 def _before(text, offset):

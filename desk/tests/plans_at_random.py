@@ -1,4 +1,6 @@
 """Plan texts at random, all accepted, for tests that hold the desk to the library."""
+import re
+
 from pirkvezo.shares import COLOURS, SHARES, colours_of, least_share
 
 
@@ -32,3 +34,32 @@ def plan_text(random):
                             f"receive {random.randrange(8)}"])
         lines.append(f"(op {random.randrange(domains)} ({op}))")
     return ("\n".join(lines) + "\n").encode()
+
+
+def respelled(random, text):
+    """Another text of the same plan and scripts: other spaces, zeros, empty lines, orders of lines and recipients."""
+    series = {}
+    for line in filter(None, text.decode().split("\n")):
+        words = re.findall(r"[()]|[a-z0-9]+", line)
+        # ops keep their order in each domain's script; pad and run stand anywhere
+        series.setdefault(" ".join(words[1:3]) if words[1] == "op" else words[1], []).append(words)
+    lines, declared = [], 0
+    while any(series.values()):
+        words = random.choice([waiting for waiting in series.values() if waiting])
+        if words[0][1] in ("window", "op") and int(words[0][2]) >= declared:
+            continue
+        declared += words[0][1] == "domain"
+        lines += [""] * random.choice([0, 0, 0, 1]) + [_spaced(random, words.pop(0))]
+    return ("\n".join(lines) + random.choice(["", "\n", "\n\n", "\n  \n"])).encode()
+
+
+def _spaced(random, words):
+    """A line of these words, with spaces and zeros where a plan may have them."""
+    if words[1] == "domain":
+        words[9:-2] = random.sample(words[9:-2], len(words) - 11)
+    words = [word.zfill(random.randint(1, 10)) if word.isdigit() else word for word in words]
+    line = random.choice(["", " "]) + words[0]
+    for before, word in zip(words, words[1:]):
+        due = before not in "()" and word not in "()"
+        line += " " * max(due, random.choice([0, 1, 1, 3])) + word
+    return line + random.choice(["", "  "])

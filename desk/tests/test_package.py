@@ -7,7 +7,7 @@ import subprocess
 import unittest
 
 import pirkvezo
-from pirkvezo import advice, frames, history, layout, library, plans, refusals, shares, worlds
+from pirkvezo import advice, canonical, frames, history, layout, library, plans, refusals, shares, worlds
 from pirkvezo.commands.table import table
 from plans_at_random import plan_text
 
@@ -55,7 +55,7 @@ class Package(unittest.TestCase):
         here = os.getcwd()
         os.chdir(ROOT)
         try:
-            for module in (pirkvezo, advice, frames, history, layout, plans, refusals, shares, worlds):
+            for module in (pirkvezo, advice, canonical, frames, history, layout, plans, refusals, shares, worlds):
                 names = dict(vars(module), read=pirkvezo.read)
                 said = doctest.testmod(module, extraglobs=names)
                 self.assertEqual(said.failed, 0, module.__name__)

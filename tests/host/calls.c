@@ -1,5 +1,7 @@
-/* A whole list of calls: a plan is read, started, run in parts and to its end, and each domain's log is asked for; then runs limited by
- * the step bound; then calls that are refused, which change nothing; then frames by weights. tests/host/expected.txt is what it prints. */
+/* A whole list of calls: a plan is read, started, run in parts and to its end, and each domain's
+ * log is asked for; then runs limited by the step bound; then calls that are refused, which change
+ * nothing; then frames by weights; then a plan written back. tests/host/expected.txt is what it
+ * prints. */
 #include <inttypes.h>
 #include <stdio.h>
 #include <string.h>
@@ -7,6 +9,7 @@
 #include "pirkvezo.h"
 
 #define LOG 16384
+#define OUT 210
 
 /* All that a host lends. */
 static uint32_t scripts[PIRKVEZO_SCRIPTS];
@@ -17,6 +20,7 @@ static uint32_t boxes[PIRKVEZO_BOXES];
 static uint8_t log_bytes[LOG];
 static uint64_t answer[PIRKVEZO_ANSWER];
 static uint32_t frame[PIRKVEZO_FRAME];
+static uint8_t out[OUT];
 
 static const char *const settled =
     "(pad 276)\n"
@@ -217,6 +221,83 @@ static void frames(void)
     print_call("frame, all weights 0", make(7, none, PIRKVEZO_WEIGHTS, PIRKVEZO_FRAME));
 }
 
+/* The buffer is full of a byte that no text has. */
+static uint32_t write_text(size_t plan_length, size_t scripts_length, size_t out_length,
+                           size_t answer_length)
+{
+    memset(out, '#', sizeof out);
+    return pirkvezo_write_plan(plan, plan_length, scripts, scripts_length, out, out_length,
+                               answer, answer_length);
+}
+
+static uint32_t write_to(size_t out_length)
+{
+    return write_text(PIRKVEZO_PLAN, PIRKVEZO_SCRIPTS, out_length, PIRKVEZO_ANSWER);
+}
+
+/* The call, the text where there is one, and whether the rest of the buffer is as it was. */
+static void print_writing(const char *call, uint32_t number)
+{
+    size_t written = number == 0 ? answer[2] : 0, at = written;
+    print_call(call, number);
+    if (number == 0) {
+        printf("[%.*s]\n", (int)written, (const char *)out);
+    }
+    while (at < OUT && out[at] == '#') {
+        at++;
+    }
+    printf("the other %zu bytes: %s\n", OUT - written, at == OUT ? "untouched" : "changed");
+}
+
+/* What cannot be written leaves the buffer: first what is wrong, then what has no room. */
+static void refused_writings(void)
+{
+    print_writing("write_plan, a plan of 91 numbers",
+                  write_text(PIRKVEZO_PLAN - 1, PIRKVEZO_SCRIPTS, OUT, PIRKVEZO_ANSWER));
+    print_writing("write_plan, scripts of 2,047 numbers",
+                  write_text(PIRKVEZO_PLAN, PIRKVEZO_SCRIPTS - 1, OUT, PIRKVEZO_ANSWER));
+    memset(answer, 255, sizeof answer);
+    print_writing("write_plan, an answer of 3 numbers",
+                  write_text(PIRKVEZO_PLAN, PIRKVEZO_SCRIPTS, OUT, PIRKVEZO_ANSWER - 1));
+
+    plan[84] += 65536;
+    print_writing("write_plan, a colour mask of 17 bits", write_to(OUT));
+    print_writing("write_plan, the same and no room", write_to(0));
+    print_writing("write_plan, the same and scripts of 2,047 numbers",
+                  write_text(PIRKVEZO_PLAN, PIRKVEZO_SCRIPTS - 1, OUT, PIRKVEZO_ANSWER));
+    plan[84] -= 65536;
+
+    scripts[4] = scripts[0];
+    print_writing("write_plan, an op behind a script's end", write_to(OUT));
+    scripts[4] = 0;
+    scripts[512] = scripts[0];
+    print_writing("write_plan, an op of an undeclared domain", write_to(OUT));
+    scripts[512] = 0;
+
+    print_writing("write_plan, a buffer of 0 bytes", write_to(0));
+    print_writing("write_plan, one byte short", write_to(202));
+}
+
+/* A plan written back: the text that is written gives the same plan and scripts. */
+static void writings(void)
+{
+    static uint32_t scripts_before[PIRKVEZO_SCRIPTS], plan_before[PIRKVEZO_PLAN];
+    print_call("read_plan again", read_text(settled));
+    memcpy(scripts_before, scripts, sizeof scripts);
+    memcpy(plan_before, plan, sizeof plan);
+    refused_writings();
+    print_writing("write_plan, as many bytes as it has", write_to(203));
+    print_writing("write_plan, more than it has", write_to(OUT));
+    memset(scripts, 255, sizeof scripts);
+    memset(plan, 255, sizeof plan);
+    print_call("read_plan, the text written",
+               pirkvezo_read_plan(out, answer[2], scripts, PIRKVEZO_SCRIPTS, plan, PIRKVEZO_PLAN,
+                                  answer, PIRKVEZO_ANSWER));
+    int same = memcmp(scripts_before, scripts, sizeof scripts) == 0
+               && memcmp(plan_before, plan, sizeof plan) == 0;
+    printf("plan and scripts: %s\n", same ? "the same" : "others");
+}
+
 int main(void)
 {
     static struct tables before, after;
@@ -228,5 +309,6 @@ int main(void)
     copy_tables(&after);
     printf("tables after the refused calls: %s\n", memcmp(&before, &after, sizeof before) == 0 ? "as before" : "changed");
     frames();
+    writings();
     return 0;
 }

@@ -5,4 +5,5 @@ pub mod Shown
 pub mod Texts
 pub mod Isolation
 pub mod StepBounds
+pub mod WrittenBack
 pub mod Examples

@@ -44,7 +44,7 @@ use Rattle.host.proofs.Calls.{all-fit, fitting, refused-keeps}
 use Rattle.host.proofs.Lists.{asCalls, engine-is, engine-leaves, engine-point, engineList, next-long, plan-long, start-long, start-meant, state-long}
 
 -- an answer array of four numbers is given its four
-third-is : (verdict : Verdict) (third fourth : ℕ) (answer : List ℕ) → length answer ≡ answerLength → thirdOf (answerOf verdict third fourth answer) ≡ third
+pub third-is : (verdict : Verdict) (third fourth : ℕ) (answer : List ℕ) → length answer ≡ answerLength → thirdOf (answerOf verdict third fourth answer) ≡ third
 unfolding answerOf
 third-is verdict third fourth answer four = rw (eq-eqb (length answer) answerLength four) refl
 

@@ -24,34 +24,49 @@ use Rattle.host.specs.Calls.{HostList, IsHostList, IsTextList, ReadArray
 use Rattle.host.specs.Statement.{runOfHost}
 use Rattle.host.proofs.Calls.{all-fit, fitting}
 
-not-refused : (verdict : Verdict) → isRefused verdict ≡ false → verdict ≡ Accepted
+pub not-refused : (verdict : Verdict) → isRefused verdict ≡ false → verdict ≡ Accepted
 not-refused Accepted accepted = refl
 not-refused (Refused refusal) accepted = absurd (false≢true (sym accepted ∙ refused-number refusal))
 
-module _ (arrays : ReadArrays) (list : HostList) (is : IsTextList arrays list) where
-  abbrev reading : ReadOutcome
-  reading = readOf (arrays .text) (arrays .scripts)
+-- the reading behind a call
+abbrev pub readingOf : ReadArrays → ReadOutcome
+readingOf arrays = readOf (arrays .text) (arrays .scripts)
 
-  read-is : readReturn arrays ≡ readDone reading (arrays .answer)
+-- a call that returned 0 read an accepted text, and left what it gives
+module _ (arrays : ReadArrays) (none : readReturn arrays .number ≡ 0) where
+  read-is : readReturn arrays ≡ readDone (readingOf arrays) (arrays .answer)
   unfolding hostRead
   read-is =
       let answer = answerOf wrongLength 0 0 (arrays .answer) in
       fitting (λ (call : ReadCall). call .number) (planFits (arrays .plan) (arrays .answer))
       (hostReadWith (verdictNumber wrongLength) (arrays .scripts) (arrays .plan) answer)
-      (readDone reading (arrays .answer)) refl (ap isRefusal (is .read)) .1
+      (readDone (readingOf arrays) (arrays .answer)) refl (ap isRefusal none) .1
+
+  pub text-accepted : readingOf arrays .verdict ≡ Accepted
+  unfolding readDone
+  text-accepted =
+      not-refused (readingOf arrays .verdict) (ap isRefusal (sym (ap (λ (call : ReadCall). call .number) read-is) ∙ none))
+
+  pub plan-left : readReturn arrays .plan ≡ planNumbers (readingOf arrays .plan)
+  unfolding readDone
+  plan-left = ap (λ (call : ReadCall). call .plan) read-is
+
+  pub scripts-left : readReturn arrays .scripts ≡ readingOf arrays .scripts
+  unfolding readDone
+  scripts-left = ap (λ (call : ReadCall). call .scripts) read-is
+
+module _ (arrays : ReadArrays) (list : HostList) (is : IsTextList arrays list) where
+  abbrev reading : ReadOutcome
+  reading = readingOf arrays
 
   accepted : reading .verdict ≡ Accepted
-  unfolding readDone
-  accepted =
-      not-refused (reading .verdict) (ap isRefusal (sym (ap (λ (call : ReadCall). call .number) read-is) ∙ is .read))
+  accepted = text-accepted arrays (is .read)
 
   plan-is : list .plan ≡ planNumbers (reading .plan)
-  unfolding readDone
-  plan-is = is .plan-written ∙ ap (λ (call : ReadCall). call .plan) read-is
+  plan-is = is .plan-written ∙ plan-left arrays (is .read)
 
   scripts-are : list .scripts ≡ reading .scripts
-  unfolding readDone
-  scripts-are = is .scripts-written ∙ ap (λ (call : ReadCall). call .scripts) read-is
+  scripts-are = is .scripts-written ∙ scripts-left arrays (is .read)
 
   meant-plan : planOf (list .plan) ≡ reading .plan
   meant-plan = ap planOf plan-is ∙ read-back (arrays .text) (arrays .scripts)

@@ -1,3 +1,4 @@
 pub mod Calls
 pub mod Statement
 pub mod StepBounds
+pub mod WrittenBack

@@ -32,7 +32,7 @@ Reached text at (LongNumber start end) = (at ≤ start) × (start < end) × (end
 Reached text at (Other start end) = (at ≤ start) × (start < end) × (end ≤ length text)
 
 -- a run that is no word has a byte
-some-byte : (run : List ℕ) → allBytes isLetter run ≡ false → 0 < length run
+pub some-byte : (run : List ℕ) → allBytes isLetter run ≡ false → 0 < length run
 unfolding allBytes
 some-byte [] e = absurd (true≢false e)
 some-byte (byte ∷ rest) e = omega arith

@@ -1,5 +1,5 @@
--- Document 01, "Settled numbers": the numbers of the printed lines, as decimal digits with no
--- leading zero. Assumes nothing.
+-- Document 01, "Settled numbers", and document 02, E4: the numbers of the printed lines and of a plan
+-- that is written, as decimal digits with no leading zero. Assumes nothing.
 use Prim.Native.Nat.{ℕ, zero, suc, _+_, _/_, _%_}
 use mathlib.Core.Bool.{true, false}
 use mathlib.Core.List.{List, [], _∷_, _++_}

@@ -1,12 +1,13 @@
 // Words and decimal numbers, written into a lent buffer from an offset on. What lies past the
 // buffer's end is left out.
 use crate::limits::WIDEST_DIGITS;
+ghost use mathlib.Core.List.{_++_};
 ghost use mathlib.Core.Path.{_≡_};
 ghost use Prim.Native.Nat.{_+_, _^_, _<_};
 ghost use lib.ListN.{length, set};
-ghost use lib.Seq.{sets};
 ghost use Rattle.lexer.specs.Decimal.{decimalOf};
 ghost use Rattle.lexer.specs.Limits.{widestDigits};
+ghost use Rattle.lists.specs.Writing.{Wrote};
 
 // Stores one byte.
 fn store(out: &mut [u8], at: usize, byte: u8)
@@ -21,8 +22,7 @@ fn store(out: &mut [u8], at: usize, byte: u8)
 pub fn write_bytes(out: &mut [u8], at: usize, bytes: &[u8]) -> usize
     requires { ⌜ at + length (now bytes) < 2 ^ 64 ⌝ }
     ensures { λ r.
-        ⌜ (r ≡ at + length (now (bytes .entry)))
-        × (now (out .exit) ≡ sets (now (out .entry)) at (now (bytes .entry))) ⌝ }
+        ⌜ Wrote (now (out .entry)) at (now (bytes .entry)) (now (out .exit)) r ⌝ }
 {
     let mut i = 0;
     while i < bytes.len() {
@@ -36,8 +36,7 @@ pub fn write_bytes(out: &mut [u8], at: usize, bytes: &[u8]) -> usize
 pub fn write_decimal(out: &mut [u8], at: usize, number: u64) -> usize
     requires { ⌜ at + widestDigits < 2 ^ 64 ⌝ }
     ensures { λ r.
-        ⌜ (r ≡ at + length (decimalOf number))
-        × (now (out .exit) ≡ sets (now (out .entry)) at (decimalOf number)) ⌝ }
+        ⌜ Wrote (now (out .entry)) at (decimalOf number) (now (out .exit)) r ⌝ }
 {
     let mut digits = [b'0'; WIDEST_DIGITS];
     let mut left = number;
@@ -50,4 +49,15 @@ pub fn write_decimal(out: &mut [u8], at: usize, number: u64) -> usize
     first -= 1;
     digits[first] = b'0' + left as u8;
     write_bytes(out, at, &digits[first..])
+}
+
+// Writes a word and a number behind it.
+pub fn write_numbered(out: &mut [u8], at: usize, word: &[u8], number: u64) -> usize
+    requires { ⌜ at + length (now word) + widestDigits < 2 ^ 64 ⌝ }
+    ensures { λ r.
+        ⌜ Wrote (now (out .entry)) at (now (word .entry) ++ decimalOf number)
+        (now (out .exit)) r ⌝ }
+{
+    let next = write_bytes(out, at, word);
+    write_decimal(out, next, number)
 }

@@ -8,6 +8,7 @@ use native.Mathlib.Numerals.{add-one}
 use native.Mathlib.Omega.{arith}
 use lib.ListN.{getD, length, length-append, set, take}
 use lib.Seq.{length-take-le, sets, take-suc}
+use Rattle.lists.specs.Writing.{Wrote}
 
 -- a run of stores and another right behind it are one run
 pub sets-append :
@@ -28,10 +29,6 @@ pub sets-next :
 sets-next buffer at count bytes within =
     let long : length (take count bytes) ≡ count = length-take-le count bytes (omega arith) in
     rw (add-one count, take-suc bytes count 0 within, ← sets-append buffer at (take count bytes), long)
-
--- what a writer does: it answers the index past its bytes, and leaves the buffer with them stored
-abbrev pub Wrote : List ℕ → ℕ → List ℕ → List ℕ → ℕ → Type 0
-Wrote buffer at bytes after next = (next ≡ at + length bytes) × (after ≡ sets buffer at bytes)
 
 -- a writer, then another from where the first ended, write the bytes of both
 pub wrote-both :
@@ -59,3 +56,11 @@ pub wrote-first :
     → Wrote buffer 0 bytes after next
     → (next ≡ length bytes) × (after ≡ sets buffer 0 bytes)
 wrote-first buffer bytes written = (written .0 ∙ zero-add (length bytes), written .1)
+
+-- a writer of some bytes is a writer of any equal bytes
+pub wrote-as :
+    (buffer : List ℕ) (at : ℕ) {bytes same after : List ℕ} {next : ℕ}
+    → bytes ≡ same
+    → Wrote buffer at bytes after next
+    → Wrote buffer at same after next
+wrote-as buffer at is wrote = (wrote .0 ∙ ap (λ (l : List ℕ). at + length l) is, wrote .1 ∙ ap (sets buffer at) is)

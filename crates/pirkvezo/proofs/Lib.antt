@@ -8,6 +8,7 @@ pub mod Judged
 pub mod Calls
 pub mod Bounds
 pub mod Frames
+pub mod Writes
 pub mod Kept
 pub mod ReadBack
 pub mod StateBack

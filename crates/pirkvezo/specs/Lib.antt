@@ -7,4 +7,5 @@ pub mod Starting
 pub mod Running
 pub mod LogQuery
 pub mod Framing
+pub mod Writing
 pub mod Theorems

@@ -1,5 +1,5 @@
--- What the library promises beside the single calls. A refused fresh start, step or run leaves what
--- it was lent (document 01, "The plan text"). What a call leaves is what the next call takes: a host
+-- What the library promises beside the single calls. A refused fresh start, step, run or
+-- writing leaves what it was lent (document 01, "The plan text"). What a call leaves is what the next call takes: a host
 -- that lends on the numbers it got runs one machine (document 01, "Two lists of calls"). A frame is
 -- made exactly when it can be, and keeps its promises (document 02, E1). Assumes nothing.
 use mathlib.Core.Bool.{true}
@@ -23,6 +23,7 @@ use Rattle.pirkvezo.specs.LogQuery.{logAnswerOf}
 use Rattle.pirkvezo.specs.Numbers.{planNumbers, planOf, stateNumbers, stateOf}
 use Rattle.pirkvezo.specs.Running.{RunCall, hostRun}
 use Rattle.pirkvezo.specs.Starting.{FreshCall, hostFreshStart}
+use Rattle.pirkvezo.specs.Writing.{hostWrite}
 
 -- ---- a refused call
 
@@ -50,6 +51,13 @@ RefusedRunKeeps =
     (plan scripts state cache boxes log : List ℕ) (limit : ℕ) (answer : List ℕ)
     → (hostRun plan scripts state cache boxes log limit answer .number ≡ 0 → ⊥)
     → RunKept state cache boxes log (hostRun plan scripts state cache boxes log limit answer)
+
+-- a refused writing leaves the buffer
+abbrev pub RefusedWriteKeeps : Type 0
+RefusedWriteKeeps =
+    (plan scripts out answer : List ℕ)
+    → (hostWrite plan scripts out answer .number ≡ 0 → ⊥)
+    → hostWrite plan scripts out answer .out ≡ out
 
 -- ---- numbers that are lent again
 

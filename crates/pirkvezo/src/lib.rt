@@ -11,6 +11,7 @@ pub mod running;
 pub mod starting;
 pub mod states;
 mod words;
+pub mod writing;
 
 use refusal::Verdict;
 

@@ -72,31 +72,31 @@ sum-under f g (suc count) each =
     let here = each count (omega arith) in
     omega arith
 
--- a sum in which one number is larger by one is larger by one
-pub sum-one-more :
-    (f g : ℕ → ℕ) (index count : ℕ)
+-- a sum in which one number is larger by some is larger by as much
+pub sum-larger :
+    (f g : ℕ → ℕ) (index more count : ℕ)
     → index < count
     → ((other : ℕ) → (other ≡ index → ⊥) → g other ≡ f other)
-    → g index ≡ f index + 1
-    → sumTo g count ≡ sumTo f count + 1
+    → g index ≡ f index + more
+    → sumTo g count ≡ sumTo f count + more
 unfolding sumTo
-sum-one-more f g index zero below others here = absurd (omega arith)
-sum-one-more f g index (suc count) below others here =
-    go (eqb index count) refl (λ earlier. sum-one-more f g index count earlier others here)
+sum-larger f g index more zero below others here = absurd (omega arith)
+sum-larger f g index more (suc count) below others here =
+    go (eqb index count) refl (λ earlier. sum-larger f g index more count earlier others here)
   where
     go :
         (last : Bool)
         → eqb index count ≡ last
-        → (index < count → sumTo g count ≡ sumTo f count + 1)
-        → sumTo g count + g count ≡ sumTo f count + f count + 1
+        → (index < count → sumTo g count ≡ sumTo f count + more)
+        → sumTo g count + g count ≡ sumTo f count + f count + more
     go true test rest =
         let same : index ≡ count = eqb-true index count test in
         let before : sumTo g count ≡ sumTo f count = sum-same g f count (λ other less. others other (λ is. omega arith)) in
-        let grown : g count ≡ f count + 1 = rw (sym same) here in
+        let grown : g count ≡ f count + more = rw (sym same) here in
         omega arith
     go false test rest =
         let differs : (index ≡ count → ⊥) = eqb-false index count test in
-        let before : sumTo g count ≡ sumTo f count + 1 = rest (omega arith) in
+        let before : sumTo g count ≡ sumTo f count + more = rest (omega arith) in
         let kept : g count ≡ f count = others count (λ is. differs (sym is)) in
         omega arith
 

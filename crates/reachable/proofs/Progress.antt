@@ -9,7 +9,7 @@ use lib.Seq.{getD-set-other, getD-set-same}
 use Rattle.plan.specs.declared.Plan.{Plan}
 use Rattle.plan.specs.Limits.{mostDomains}
 use Rattle.plan.specs.Validity.{planValid}
-use Rattle.plan.proofs.Sums.{sum-one-more}
+use Rattle.plan.proofs.Sums.{sum-larger}
 use Rattle.plan.proofs.Windows.{domains-most, owner-declared}
 use Rattle.script.specs.declared.Op.{Op}
 use Rattle.state.specs.World.{World, endedOf, positionAt, runningOf}
@@ -43,7 +43,7 @@ module _ (plan : Plan) (scripts : List ℕ) (quota : ℕ) (possible : planValid 
       let declared = owner-declared plan (world .state .windows) possible in
       let few = domains-most plan possible in
       let grown =
-      sum-one-more (positionAt (world .state)) (λ domain. getD (set positions running next) domain 0) running mostDomains (omega arith)
+      sum-larger (positionAt (world .state)) (λ domain. getD (set positions running next) domain 0) running 1 mostDomains (omega arith)
       (λ other differs. getD-set-other positions running other next 0 differs)
       (getD-set-same positions running next 0 (omega arith)) in
       record { eight = length-set positions running next ∙ eight; far = omega arith }

@@ -11,7 +11,7 @@ use borrow.Author.Tests.{eq-eqb, ltb-false, ltb-true, ne-eqb}
 use Rattle.plan.specs.declared.Plan.{Plan}
 use Rattle.plan.specs.Sums.{sumTo}
 use Rattle.plan.specs.Windows.{windowEnd, windowLength, windowStart, windowsTotal}
-use Rattle.plan.proofs.Sums.{sum-most, sum-one-more, sum-same}
+use Rattle.plan.proofs.Sums.{sum-larger, sum-most, sum-same}
 use Rattle.script.specs.declared.Op.{Op}
 use Rattle.ops.proofs.Ticks.{effect-takes}
 use Rattle.state.specs.World.{World, endedOf, positionAt, runningOf}
@@ -175,7 +175,7 @@ all-windows plan scripts quota (suc limit) world =
     by-end plan scripts quota (λ ran. sumTo now (windowsTotal plan) ≡ ran .done) limit world
     (λ ended. sum-same now (λ window. 0) (windowsTotal plan) (λ window below. steps-ended plan scripts quota window limit world ended) ∙ none-together (windowsTotal plan))
     (λ running.
-    sum-one-more rest now present (windowsTotal plan) (in-window plan (world .state) running)
+    sum-larger rest now present 1 (windowsTotal plan) (in-window plan (world .state) running)
     (λ window differs. omega (arith, steps-more plan scripts quota window limit world running, outside plan scripts quota window world (λ same. differs (sym same))))
     (steps-more plan scripts quota present limit world running ∙ ap (λ one. rest present + one) (inside plan scripts quota present world refl))
     ∙ ap (λ done. done + 1) (all-windows plan scripts quota limit next))

@@ -7,7 +7,7 @@ use Rattle.refusal.specs.declared.Refusal.{Refusal}
 use Rattle.refusal.specs.declared.Refusal.the-variants.{TextTooLong, BrokenShape, NumberOutOfLimits, WrongDomain, RepeatedOrMissing}
 use Rattle.refusal.specs.declared.Refusal.the-variants.{NoColour, SharesOverThousand, BadRecipient, RunTooLong, TooMany}
 use Rattle.refusal.specs.declared.Refusal.the-variants.{WrongLength, ImpossiblePlan, DamagedTable, ImpossibleState}
-use Rattle.refusal.specs.declared.Refusal.the-variants.{FrameOutOfLimits, ColoursOverFifteen}
+use Rattle.refusal.specs.declared.Refusal.the-variants.{FrameOutOfLimits, ColoursOverFifteen, BufferTooShort}
 
 pub number-not-zero : (refusal : Refusal) → eqb (refusalCode refusal .number) 0 ≡ false
 number-not-zero TextTooLong = refl
@@ -26,3 +26,4 @@ number-not-zero DamagedTable = refl
 number-not-zero ImpossibleState = refl
 number-not-zero FrameOutOfLimits = refl
 number-not-zero (ColoursOverFifteen total) = refl
+number-not-zero (BufferTooShort needed) = refl

@@ -2,7 +2,7 @@
 ghost use mathlib.Core.Path.{_≡_};
 ghost use Rattle.refusal.specs.Code.{codeOf, codeWith, refusalCode};
 
-// The rows of document 01's table of refusals, and those that document 02 adds (15 by E1, 16 by E2),
+// The rows of document 01's table of refusals, and those that document 02 adds (15 by E1, 16 by E2, 17 by E4),
 // one case each. What a case holds is its companion.
 pub enum Refusal {
     TextTooLong,
@@ -21,6 +21,7 @@ pub enum Refusal {
     ImpossibleState,
     FrameOutOfLimits,
     ColoursOverFifteen(usize),
+    BufferTooShort(usize),
 }
 
 // What a call answers of itself: that it did its work, or why it did nothing.
@@ -63,6 +64,7 @@ fn refusal_code(refusal: Refusal) -> Code
         Refusal::ImpossibleState => code_with(14, 0),
         Refusal::FrameOutOfLimits => code_with(15, 0),
         Refusal::ColoursOverFifteen(total) => code_with(16, total),
+        Refusal::BufferTooShort(needed) => code_with(17, needed),
     }
 }
 

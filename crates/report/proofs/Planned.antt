@@ -1,9 +1,7 @@
 -- What is printed for a text, by the verdict of its reading. Assumes nothing.
 use mathlib.Core.Path.{_≡_, ap, _∙_}
 use mathlib.Core.List.{List}
-use Prim.Native.Nat.{ℕ, _+_}
-use lib.ListN.{length}
-use lib.Seq.{sets}
+use Prim.Native.Nat.{ℕ}
 use Rattle.plan.specs.declared.Plan.{Plan}
 use Rattle.refusal.specs.declared.Code.{Code}
 use Rattle.refusal.specs.declared.Refusal.{Refusal}
@@ -14,15 +12,6 @@ use Rattle.reader.specs.Draft.{noOps}
 use Rattle.reader.specs.Read.{readOf}
 use Rattle.report.specs.Lines.{refusalLine}
 use Rattle.report.specs.Planrun.{planrunOf, planrunRun, ranLines, readLines}
-use Rattle.report.specs.Writing.{Wrote}
-
--- a writer of some bytes is a writer of any equal bytes
-pub wrote-as :
-    (buffer : List ℕ) (at : ℕ) {bytes same after : List ℕ} {next : ℕ}
-    → bytes ≡ same
-    → Wrote buffer at bytes after next
-    → Wrote buffer at same after next
-wrote-as buffer at is wrote = (wrote .0 ∙ ap (λ (l : List ℕ). at + length l) is, wrote .1 ∙ ap (sets buffer at) is)
 
 module _ (text : List ℕ) where
   pub planned-refused :

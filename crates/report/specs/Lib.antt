@@ -2,4 +2,3 @@ pub mod Limits
 pub mod Lines
 pub mod Planrun
 pub mod Theorems
-pub mod Writing

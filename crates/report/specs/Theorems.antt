@@ -11,7 +11,7 @@ use Rattle.reader.specs.Read.{readOf}
 use Rattle.engine.specs.declared.Ending.the-variants.{Ended}
 use Rattle.report.specs.Limits.{mostPrinted}
 use Rattle.report.specs.Planrun.{planrunOf, planrunRun}
-use Rattle.report.specs.Writing.{Wrote}
+use Rattle.lists.specs.Writing.{Wrote}
 
 -- the program's run of a plan comes to its end: it is not refused, and it answers *ended*
 pub record RunsToTheEnd (plan : Plan) (scripts : List ℕ) : Type 0 where

@@ -22,7 +22,7 @@ ghost use Rattle.records.specs.Records.{partRecords, recordSize};
 ghost use Rattle.state.specs.StateValidity.{stateValid};
 ghost use Rattle.report.specs.Limits.{mostSeenLine};
 ghost use Rattle.report.specs.Lines.{domainLines, refusalLine, runLines, seenLines};
-ghost use Rattle.report.specs.Writing.{Wrote};
+ghost use Rattle.lists.specs.Writing.{Wrote};
 
 // Writes the lines of a domain's log.
 fn write_domain(out: &mut [u8], at: usize, domain: u32, log: &[u8]) -> usize

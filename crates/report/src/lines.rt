@@ -5,28 +5,15 @@ use crate::fields::u32_at;
 use crate::limits::CLOCK_OFFSET;
 use crate::limits::VALUE_OFFSET;
 use lexer::decimal::write_bytes;
-use lexer::decimal::write_decimal;
+use lexer::decimal::write_numbered;
 use state::State;
-ghost use mathlib.Core.List.{_++_};
 ghost use Prim.Native.Nat.{_+_, _*_, _^_, _<_, _≤_};
 ghost use lib.ListN.{length};
 ghost use Rattle.lists.specs.Ascii.{bytesOf};
-ghost use Rattle.lexer.specs.Decimal.{decimalOf};
 ghost use Rattle.records.specs.Records.{recordSize};
 ghost use Rattle.report.specs.Limits.{mostDecimal, mostEndLine, mostKindWord, mostSeenLine};
 ghost use Rattle.report.specs.Lines.{endLine, kindAndValue, kindWord, pairLine, seenLine};
-ghost use Rattle.report.specs.Writing.{Wrote};
-
-// Writes a word and a number behind it.
-fn write_numbered(out: &mut [u8], at: usize, word: &[u8], number: u64) -> usize
-    requires { ⌜ at + length (now word) + mostDecimal < 2 ^ 64 ⌝ }
-    ensures { λ r.
-        ⌜ Wrote (now (out .entry)) at (now (word .entry) ++ decimalOf number)
-        (now (out .exit)) r ⌝ }
-{
-    let next = write_bytes(out, at, word);
-    write_decimal(out, next, number)
-}
+ghost use Rattle.lists.specs.Writing.{Wrote};
 
 // Writes a line of a word and two numbers.
 pub fn write_pair(out: &mut [u8], at: usize, word: &[u8], first: u64, second: u64) -> usize

@@ -18,7 +18,7 @@ ghost use mathlib.Core.Bool.{true};
 ghost use Rattle.plan.specs.Validity.{planValid};
 ghost use Rattle.report.specs.Planrun.{planrunRun, ranLines};
 ghost use Rattle.report.specs.Theorems.{PlanrunWrote};
-ghost use Rattle.report.specs.Writing.{Wrote};
+ghost use Rattle.lists.specs.Writing.{Wrote};
 
 // The lines of an accepted plan, run from a fresh start to its end.
 fn run_lines(plan: Plan, scripts: &[u32], out: &mut [u8]) -> usize

@@ -26,7 +26,8 @@ use Rattle.lexer.specs.Bytes.{endsRun}
 use Rattle.lexer.specs.Decimal.{decimalOf}
 use Rattle.lexer.specs.Scan.{allBytes}
 use Rattle.lexer.proofs.Scanned.{left-next, left-past, stopsAt}
-use Rattle.roundtrip.specs.Lines.{domainLine, followed, recipientsOf, spaced}
+use Rattle.writer.specs.Canonical.{followed}
+use Rattle.writer.specs.Lines.{domainLine, recipientsOf, spaced}
 use Rattle.roundtrip.proofs.Due.{Takes, bracketed-takes, head-goes, number-takes, then-goes, then-takes}
 use Rattle.roundtrip.proofs.Lines.{Reads, closed-reads, line-reads, selected}
 use Rattle.roundtrip.proofs.Recipients.{Quiet, recipients-list, spaced-ends}

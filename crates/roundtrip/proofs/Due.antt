@@ -22,7 +22,7 @@ use Rattle.lexer.specs.Decimal.{decimalOf}
 use Rattle.lexer.specs.Scan.{allBytes}
 use Rattle.lexer.proofs.Scanned.{close-token, end-token, feed-token, left-next, left-past, open-token, stopsAt, token-space}
 use Rattle.lexer.proofs.Spelled.{number-token, word-token}
-use Rattle.roundtrip.specs.Lines.{followed}
+use Rattle.writer.specs.Canonical.{followed}
 
 -- what was due was there, and this is left past it
 pub record Goes (text rest : List ℕ) (passed : TokenParse) : Type 0 where

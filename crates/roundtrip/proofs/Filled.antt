@@ -40,3 +40,22 @@ filled-all zero (number ∷ array) none =
 filled-all (suc count) [] none = refl
 filled-all (suc count) (number ∷ array) none =
     ap (λ (rest : List ℕ). number ∷ rest) (filled-all count array (λ index past within. none (suc index) (omega arith) (omega arith)))
+
+-- a run of zeros fills nothing
+pub filled-through :
+    (count last : ℕ) (array : List ℕ)
+    → count ≤ last
+    → ((index : ℕ) → count ≤ index → index < last → getD array index 0 ≡ 0)
+    → firstEntries count array ≡ firstEntries last array
+unfolding firstEntries
+filled-through zero zero array within none = refl
+filled-through zero (suc last) [] within none = refl
+filled-through zero (suc last) (number ∷ array) within none =
+    let first : number ≡ 0 = none 0 (omega arith) (omega arith) in
+    ap₂ (λ (one : ℕ) (rest : List ℕ). one ∷ rest) (sym first)
+    (filled-through zero last array (omega arith) (λ index past below. none (suc index) (omega arith) (omega arith)))
+filled-through (suc count) zero array within none = absurd (omega arith)
+filled-through (suc count) (suc last) [] within none = refl
+filled-through (suc count) (suc last) (number ∷ array) within none =
+    ap (λ (rest : List ℕ). number ∷ rest)
+    (filled-through count last array (omega arith) (λ index past below. none (suc index) (omega arith) (omega arith)))

@@ -19,6 +19,7 @@ use Rattle.plan.proofs.ValidPlans.{counts, declared, parts, undeclared}
 use Rattle.plan.proofs.Sums.{all-below}
 use Rattle.refusal.specs.declared.Verdict.the-variants.{Accepted}
 use Rattle.plan.specs.Zeros.{noPlan}
+use Rattle.reader.specs.DraftParts.{draftWith}
 use Rattle.reader.specs.Final.{finalVerdict, firstColourless, lacking, mentionsFrom, planWithMasks, sharesVerdict}
 use Rattle.plan.specs.Parts.{domainsOf, planFrom, windowsOf, withMasks}
 use Rattle.plan.specs.Limits.{domainColours, mostDomains, mostRunTicks, mostShares, mostWindows}
@@ -26,7 +27,6 @@ use Rattle.roundtrip.specs.Accepted.{Shaped}
 use Rattle.roundtrip.proofs.Filled.{filled-all, filled-none}
 use Rattle.roundtrip.proofs.Progress.{soFar}
 use Rattle.roundtrip.proofs.Recipients.{Quiet}
-use Rattle.roundtrip.proofs.Walk.{draftBeforeOps}
 
 -- a plan before its masks are worked out
 abbrev pub unmasked : Plan → Plan
@@ -118,12 +118,12 @@ none-lacking plan valid =
     )
 
 pub accepted :
-    (plan : Plan) (named : List ℕ) (textLength : ℕ)
+    (plan : Plan) (counts named : List ℕ) (textLength : ℕ)
     → planValid plan ≡ true
     → Quiet (plan .domains) named
-    → finalVerdict textLength (draftBeforeOps (unmasked plan) named) ≡ Accepted
+    → finalVerdict textLength (draftWith (unmasked plan) counts named) ≡ Accepted
 unfolding finalVerdict sharesVerdict sharesTotal firstColour ticksTotal
-accepted plan named textLength valid quiet =
+accepted plan counts named textLength valid quiet =
     let sound = parts plan valid in
     rw (
       none-lacking plan valid,

@@ -21,7 +21,8 @@ use Rattle.lexer.specs.Bytes.{endsRun}
 use Rattle.lexer.specs.Decimal.{decimalOf}
 use Rattle.lexer.specs.Scan.{allBytes}
 use Rattle.lexer.proofs.Scanned.{stopsAt}
-use Rattle.roundtrip.specs.Lines.{followed, padLine, runLine, windowLine}
+use Rattle.writer.specs.Canonical.{followed}
+use Rattle.writer.specs.Lines.{padLine, runLine, windowLine}
 use Rattle.roundtrip.proofs.Due.{Takes, bracketed-takes, number-takes, then-takes}
 use Rattle.roundtrip.proofs.Lines.{Reads, Within, closed-reads, line-reads, selected}
 
@@ -50,7 +51,7 @@ module _ (text : List ℕ) (at : ℕ) where
       let taken = number-takes text at leastRun mostRun times (41 ∷ rest) left least most (omega arith) refl in
       record { end = taken .end; is = then-takes taken RefusedForm _; left = taken .left }
 
-  declared-takes :
+  pub declared-takes :
       (declared domain : ℕ) (rest : List ℕ)
       → declared ≤ mostDomains
       → domain < declared

@@ -1,16 +1,22 @@
--- What is proved of written plans: their lines are read one after the other, they fit, and they are read back.
+-- What is proved of written plans and scripts: their lines are read one after the other, and they are read back.
 pub mod Due
 pub mod Lines
 pub mod Forms
+pub mod Ops
 pub mod Bits
 pub mod Recipients
 pub mod Domains
 pub mod Filled
+pub mod Alone
 pub mod Walk
 pub mod Progress
+pub mod Scripts
 pub mod Final
 pub mod Fits
 pub mod Bytes
 pub mod ReadBack
 pub mod Meaning
+pub mod Writable
+pub mod WrittenBack
+pub mod TooLong
 pub mod Example

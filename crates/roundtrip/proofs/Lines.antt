@@ -18,7 +18,7 @@ use Rattle.lexer.specs.Bytes.{endsRun, isLetter}
 use Rattle.lexer.specs.Scan.{allBytes}
 use Rattle.lexer.proofs.Scanned.{left-next, left-past, open-token, stopsAt}
 use Rattle.lexer.proofs.Spelled.{word-token}
-use Rattle.roundtrip.specs.Lines.{followed}
+use Rattle.writer.specs.Canonical.{followed}
 use Rattle.roundtrip.proofs.Due.{close-goes, line-end-goes, then-goes, word-compared}
 
 -- a form is parsed, and this is left past it
@@ -82,7 +82,7 @@ module _ {A : Type 0} (text : List ℕ) (at : ℕ) (word rest : List ℕ) (refus
       go true same = refl
       go false same = same
 
-  one-of-selected : (keywords : List (Keyword A))
+  pub one-of-selected : (keywords : List (Keyword A))
       → 0 < length word
       → allBytes isLetter word ≡ true
       → stopsAt endsRun rest ≡ true

@@ -10,19 +10,22 @@ use Rattle.script.specs.Limits.{scriptsLength}
 use Rattle.reader.specs.Draft.{noOps}
 use Rattle.reader.specs.Read.{ReadOutcome}
 use Rattle.reader.proofs.Accepted.{accepted-valid}
+use Rattle.writer.specs.Canonical.{canonicalText}
 use Rattle.roundtrip.specs.Accepted.{Given, OneMeaning, Shaped}
-use Rattle.roundtrip.specs.Lines.{planText}
+use Rattle.roundtrip.proofs.Alone.{none-alone}
 use Rattle.roundtrip.proofs.Bytes.{text-bytes}
+use Rattle.roundtrip.proofs.Fits.{text-fits}
 use Rattle.roundtrip.proofs.ReadBack.{read-back}
 
--- a valid plan is given by its own text
+-- a valid plan is given by its own text, without an op
 valid-given : (plan : Plan) → Shaped plan → planValid plan ≡ true → Given plan
 unfolding noOps
 valid-given plan shaped valid =
-    let read = read-back plan noOps shaped valid (length-replicate {A = ℕ} scriptsLength 0) in
+    let long = length-replicate {A = ℕ} scriptsLength 0 in
+    let read = read-back plan noOps noOps shaped valid (none-alone plan) (text-fits plan valid) long long in
     record {
-      text = planText plan;
-      bytes = text-bytes plan;
+      text = canonicalText plan noOps;
+      bytes = text-bytes plan noOps;
       scripts = noOps;
       accepted = ap (λ (r : ReadOutcome). r .verdict) read;
       gives = ap (λ (r : ReadOutcome). r .plan) read;

@@ -17,11 +17,12 @@ use Rattle.plan.proofs.ValidPlans.{counts, declared, declared-window}
 use Rattle.plan.specs.Parts.{planFrom}
 use Rattle.plan.specs.Limits.{mostDomains, mostWindows}
 use Rattle.reader.specs.Draft.{DraftOutcome, noOps, outcomeOf, takeDomain, takeForm, takePad, takeRun, takeWindow, taken}
-use Rattle.roundtrip.specs.Lines.{domainLine, linesFrom, padLine, planLines, runLine, windowLine}
+use Rattle.writer.specs.Canonical.{linesFrom, planLines}
+use Rattle.writer.specs.Lines.{domainLine, padLine, runLine, windowLine}
 use Rattle.roundtrip.proofs.Domains.{domain-reads}
 use Rattle.roundtrip.proofs.Filled.{filled-more, firstEntries}
 use Rattle.roundtrip.proofs.Forms.{pad-reads, run-reads, window-reads}
-use Rattle.roundtrip.proofs.Walk.{Stands, draftBeforeOps, next-line}
+use Rattle.roundtrip.proofs.Walk.{Stands, beforeOps, draftOf, next-line}
 
 -- a plan of which these things are read
 abbrev pub soFar : Plan → ℕ → ℕ → ℕ → ℕ → Plan
@@ -35,16 +36,16 @@ soFar plan pad run domains windows =
 
 module _ (plan : Plan) (named : List ℕ) (bracket : ℕ) where
   pad-taken :
-      takeForm (Pad (plan .pad)) bracket named (draftBeforeOps (soFar plan 0 0 0 0) named) noOps
-      ≡ outcomeOf (taken (draftBeforeOps (soFar plan (plan .pad) 0 0 0) named)) noOps
+      takeForm (Pad (plan .pad)) bracket named (draftOf (beforeOps (soFar plan 0 0 0 0)) named) noOps
+      ≡ outcomeOf (taken (draftOf (beforeOps (soFar plan (plan .pad) 0 0 0)) named)) noOps
   unfolding takePad
   pad-taken = refl
 
   domain-taken :
       (pad domain : ℕ) (later : List ℕ)
       → takeForm (Domain (record { share = shareOf plan domain; rights = rightsAt plan domain })) bracket later
-      (draftBeforeOps (soFar plan pad 0 domain 0) named) noOps
-      ≡ outcomeOf (taken (draftBeforeOps (soFar plan pad 0 (domain + 1) 0) later)) noOps
+      (draftOf (beforeOps (soFar plan pad 0 domain 0)) named) noOps
+      ≡ outcomeOf (taken (draftOf (beforeOps (soFar plan pad 0 (domain + 1) 0)) later)) noOps
   unfolding takeDomain
   domain-taken pad domain later = rw (filled-more domain (plan .shares), filled-more domain (plan .rights))
 
@@ -52,16 +53,16 @@ module _ (plan : Plan) (named : List ℕ) (bracket : ℕ) where
       (pad domains slot : ℕ)
       → slot < mostWindows
       → takeForm (Window (record { owner = getD (plan .owners) slot 0; length = getD (plan .lengths) slot 0 })) bracket named
-      (draftBeforeOps (soFar plan pad 0 domains slot) named) noOps
-      ≡ outcomeOf (taken (draftBeforeOps (soFar plan pad 0 domains (slot + 1)) named)) noOps
+      (draftOf (beforeOps (soFar plan pad 0 domains slot)) named) noOps
+      ≡ outcomeOf (taken (draftOf (beforeOps (soFar plan pad 0 domains (slot + 1))) named)) noOps
   unfolding takeWindow
   window-taken pad domains slot few = rw (lt-leb mostWindows slot few, filled-more slot (plan .owners), filled-more slot (plan .lengths))
 
   run-taken :
       (pad domains windows : ℕ)
       → takeForm (Run (plan .run)) bracket named
-      (draftBeforeOps (soFar plan pad 0 domains windows) named) noOps
-      ≡ outcomeOf (taken (draftBeforeOps (soFar plan pad (plan .run) domains windows) named)) noOps
+      (draftOf (beforeOps (soFar plan pad 0 domains windows)) named) noOps
+      ≡ outcomeOf (taken (draftOf (beforeOps (soFar plan pad (plan .run) domains windows)) named)) noOps
   unfolding takeRun
   run-taken pad domains windows = refl
 
@@ -70,7 +71,7 @@ module _ (plan : Plan) (named : List ℕ) (bracket : ℕ) where
 module _ (text : List ℕ) (whole : DraftOutcome) (plan : Plan) (valid : planValid plan ≡ true) where
   -- these lines are left, and this much of the plan is read
   abbrev Left : List (List ℕ) → Plan → Type 0
-  Left lines before = Stands text whole (plan .domains) lines before
+  Left lines before = Stands text whole (plan .domains) lines (beforeOps before)
 
   pad-stands : (more : List (List ℕ)) → Left (padLine plan ∷ more) (soFar plan 0 0 0 0) → Left more (soFar plan (plan .pad) 0 0 0)
   unfolding padLine bytesOf

@@ -22,7 +22,7 @@ use Rattle.lexer.specs.Bytes.{endsRun}
 use Rattle.lexer.specs.Decimal.{decimalOf}
 use Rattle.lexer.proofs.Scanned.{close-token, left-next, left-past, stopsAt, token-space}
 use Rattle.lexer.proofs.Spelled.{number-token}
-use Rattle.roundtrip.specs.Lines.{recipientsOf, risingFrom, spaced}
+use Rattle.writer.specs.Lines.{recipientsOf, risingFrom, spaced}
 use Rattle.roundtrip.proofs.Bits.{bit-below, bit-clear, bit-new, bit-set, bits-all}
 
 -- ---- where the text names each domain

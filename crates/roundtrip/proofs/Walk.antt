@@ -16,33 +16,43 @@ use Rattle.reader.specs.DraftParts.{draftWith}
 use Rattle.reader.specs.Read.{draftLine, walkFrom}
 use Rattle.reader.proofs.Walking.{walk-line}
 use Rattle.lexer.proofs.Scanned.{left-next, left-none}
-use Rattle.roundtrip.specs.Lines.{followed, joined}
+use Rattle.writer.specs.Canonical.{followed, joined}
 use Rattle.roundtrip.proofs.Lines.{Reads}
 use Rattle.roundtrip.proofs.Recipients.{Quiet}
 
--- a draft with no op so far
-abbrev pub draftBeforeOps : Plan → List ℕ → Draft
-draftBeforeOps plan named = draftWith plan (replicate mostDomains 0) named
+-- what is read so far, but for the recipients that were named
+pub record Gathered : Type 0 where
+  pub plan : Plan
+  pub counts : List ℕ
+  pub store : List ℕ
 
--- these lines are left, the plan so far is this, and reading on from here gives what the whole walk gives
-pub record Stands (text : List ℕ) (whole : DraftOutcome) (total : ℕ) (lines : List (List ℕ)) (plan : Plan) : Type 0 where
+-- a plan with no op so far
+abbrev pub beforeOps : Plan → Gathered
+beforeOps plan = record { plan = plan; counts = replicate mostDomains 0; store = noOps }
+
+-- the draft of what is read so far, and of the recipients that were named
+abbrev pub draftOf : Gathered → List ℕ → Draft
+draftOf gathered named = draftWith (gathered .plan) (gathered .counts) named
+
+-- these lines are left, this is read so far, and reading on from here gives what the whole walk gives
+pub record Stands (text : List ℕ) (whole : DraftOutcome) (total : ℕ) (lines : List (List ℕ)) (gathered : Gathered) : Type 0 where
   pub turns : ℕ
   pub at : ℕ
   pub named : List ℕ
   pub left : drop at text ≡ joined lines
   pub enough : length (joined lines) ≤ turns
   pub quiet : Quiet total named
-  pub same : walkFrom turns text at (draftBeforeOps plan named) noOps ≡ whole
+  pub same : walkFrom turns text at (draftOf gathered named) (gathered .store) ≡ whole
 
--- the line at an offset is read, and adds to the plan so far
-pub record Adds (text : List ℕ) (total at : ℕ) (named : List ℕ) (more : List (List ℕ)) (before after : Plan) : Type 0 where
+-- the line at an offset is read, and adds to what is read so far
+pub record Adds (text : List ℕ) (total at : ℕ) (named : List ℕ) (more : List (List ℕ)) (before after : Gathered) : Type 0 where
   pub form : Form
   pub later : List ℕ
-  pub reads : Reads text (followed more) form later (lineAt text (before .domains) named at)
+  pub reads : Reads text (followed more) form later (lineAt text (before .plan .domains) named at)
   pub quiet : Quiet total later
   pub adds : (bracket : ℕ)
-      → takeForm form bracket later (draftBeforeOps before named) noOps
-      ≡ outcomeOf (taken (draftBeforeOps after later)) noOps
+      → takeForm form bracket later (draftOf before named) (before .store)
+      ≡ outcomeOf (taken (draftOf after later)) (after .store)
 
 -- ---- one line
 
@@ -69,11 +79,11 @@ joined-shorter (line ∷ more) = omega arith
 
 -- a line that is read and taken leaves the lines after it
 taken-line :
-    (text : List ℕ) (whole : DraftOutcome) (total : ℕ) (line : List ℕ) (more : List (List ℕ)) (before after : Plan) (turns at : ℕ) (named : List ℕ)
+    (text : List ℕ) (whole : DraftOutcome) (total : ℕ) (line : List ℕ) (more : List (List ℕ)) (before after : Gathered) (turns at : ℕ) (named : List ℕ)
     → 0 < length line
     → length (line ++ followed more) ≤ turns
     → drop at text ≡ line ++ followed more
-    → walkFrom turns text at (draftBeforeOps before named) noOps ≡ whole
+    → walkFrom turns text at (draftOf before named) (before .store) ≡ whole
     → Adds text total at named more before after
     → Stands text whole total more after
 taken-line text whole total line more before after zero at named some enough left same taking = absurd (omega (arith, length-append line (followed more)))
@@ -90,14 +100,14 @@ taken-line text whole total line more before after (suc turns) at named some eno
       quiet = taking .quiet;
       same =
           sym
-          (walk-next turns text at (draftBeforeOps before named)
-          (draftBeforeOps after (taking .later)) noOps noOps (taking .form) (reads .bracket)
+          (walk-next turns text at (draftOf before named)
+          (draftOf after (taking .later)) (before .store) (after .store) (taking .form) (reads .bracket)
           (reads .end) (taking .later) within (reads .is) (taking .adds (reads .bracket)))
           ∙ same;
     }
 
 pub next-line :
-    (text : List ℕ) (whole : DraftOutcome) (total : ℕ) (line : List ℕ) (more : List (List ℕ)) (before after : Plan)
+    (text : List ℕ) (whole : DraftOutcome) (total : ℕ) (line : List ℕ) (more : List (List ℕ)) (before after : Gathered)
     → 0 < length line
     → ((at : ℕ) (named : List ℕ) → Quiet total named → drop at text ≡ line ++ followed more → Adds text total at named more before after)
     → Stands text whole total (line ∷ more) before
@@ -115,17 +125,17 @@ unfolding walkFrom
 walk-ends zero text at draft store past = refl
 walk-ends (suc turns) text at draft store past = rw (le-ltb at (length text) past, walkFrom)
 
--- where no line is left the whole walk has given this plan, and named no undeclared recipient
-pub record Ended (whole : DraftOutcome) (total : ℕ) (plan : Plan) : Type 0 where
+-- where no line is left the whole walk has given this, and named no undeclared recipient
+pub record Ended (whole : DraftOutcome) (total : ℕ) (gathered : Gathered) : Type 0 where
   pub named : List ℕ
   pub quiet : Quiet total named
-  pub gave : whole ≡ outcomeOf (taken (draftBeforeOps plan named)) noOps
+  pub gave : whole ≡ outcomeOf (taken (draftOf gathered named)) (gathered .store)
 
-pub no-line : (text : List ℕ) (whole : DraftOutcome) (total : ℕ) (plan : Plan) → Stands text whole total [] plan → Ended whole total plan
+pub no-line : (text : List ℕ) (whole : DraftOutcome) (total : ℕ) (gathered : Gathered) → Stands text whole total [] gathered → Ended whole total gathered
 unfolding joined
-no-line text whole total plan stands =
+no-line text whole total gathered stands =
     record {
       named = stands .named;
       quiet = stands .quiet;
-      gave = sym (stands .same) ∙ walk-ends (stands .turns) text (stands .at) _ noOps (left-none text (stands .at) (stands .left));
+      gave = sym (stands .same) ∙ walk-ends (stands .turns) text (stands .at) _ (gathered .store) (left-none text (stands .at) (stands .left));
     }

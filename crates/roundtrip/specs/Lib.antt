@@ -1,4 +1,4 @@
--- The written text of a plan, what it is for a text to give a plan, and an example.
-pub mod Lines
+-- What it is for a text to give a plan, what writing and reading are to each other, and an example.
 pub mod Accepted
+pub mod Theorems
 pub mod Example

@@ -1,1 +1,1 @@
-// A plan's text in its single form, and the theorem that reading it gives that plan back. No code.
+// That writing and reading undo each other, and when a writing is refused with 12 or with 17. No code.

@@ -119,6 +119,14 @@ module _ (scripts : List ℕ) (domain : ℕ) where
           let same : storedOps scripts domain ≡ position = omega arith in
           absurd (end-is-none op (sym (ends-at .there) ∙ ap (fetchOf scripts domain) same ∙ here))
 
+  -- a position at which none stands is no earlier than the end
+  pub end-reached : (position : ℕ) → fetchOf scripts domain position ≡ End → storedOps scripts domain ≤ position
+  end-reached position there = go (ltb position (storedOps scripts domain)) refl
+    where
+      go : (before : Bool) → ltb position (storedOps scripts domain) ≡ before → storedOps scripts domain ≤ position
+      go true test = absurd (ends-at .before position (ltb-true position (storedOps scripts domain) test) there)
+      go false test = ltb-false position (storedOps scripts domain) test
+
   -- there is one end
   one-end : (end end′ : ℕ) → EndsAt scripts domain end → EndsAt scripts domain end′ → end ≤ end′
   one-end end end′ ends ends′ = go (ltb end′ end) refl

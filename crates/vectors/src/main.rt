@@ -39,6 +39,7 @@ use pirkvezo::running::pirkvezo_run;
 use pirkvezo::starting::pirkvezo_fresh_start;
 use pirkvezo::states::load_state;
 use pirkvezo::states::store_state;
+use pirkvezo::writing::pirkvezo_write_plan;
 use plan::limits::DOMAIN_ENTRIES;
 ghost use mathlib.Core.Path.{_≡_};
 ghost use Prim.Native.Nat.{_+_, _^_, _<_, _≤_, min};
@@ -56,6 +57,11 @@ const BOXES_ROOM: usize = 65;
 const LOG_ROOM: usize = 4_096;
 
 const FRAME_ROOM: usize = 33;
+
+const OUT_ROOM: usize = 32_769;
+
+// A byte that no text has: a buffer is full of it before a text is written there.
+const FILLER: u8 = b'#';
 
 // The example at hand: its tables, and how much of each a call is lent.
 struct Example {
@@ -672,6 +678,49 @@ fn ask_bound(example: Example, fields: &[u8]) {
     print(b"\n");
 }
 
+// How many bytes are filler, up to the first that is not.
+fn untouched(bytes: &[u8]) -> usize {
+    let mut count: usize = 0;
+    while count < bytes.len() {
+        if bytes[count] != FILLER {
+            return count;
+        }
+        count += 1;
+    }
+    count
+}
+
+// write LABEL ROOM: the canonical text, in a buffer of ROOM bytes. Prints the answer's four numbers
+// and how many bytes past the text are untouched; where it is accepted, then the text in [ ].
+fn write_plan(example: Example, fields: &[u8]) {
+    let plan = example.plan;
+    let scripts_room = example.scripts;
+    let scripts: &[u32] = &scripts_room;
+    let mut out_room = [FILLER; OUT_ROOM];
+    let out: &mut [u8] = &mut out_room;
+    let first: usize = 0;
+    let mut answer = [0u64; ANSWER_LENGTH];
+    let lent_scripts = at_most(example.scripts_length, scripts.len());
+    let lent_out = at_most(number(rest(fields)) as usize, out.len());
+    pirkvezo_write_plan(
+        &plan,
+        &scripts[first..lent_scripts],
+        &mut out[first..lent_out],
+        &mut answer,
+    );
+    let written = at_most(answer[2] as usize, lent_out);
+    print_answer(word(fields), answer);
+    print_number(answer[2]);
+    print_number(answer[3]);
+    print_number(untouched(part(&out_room, written, lent_out - written)) as u64);
+    print(b"\n");
+    if answer[0] == 0 {
+        print(b"[");
+        print(part(&out_room, first, written));
+        print(b"]\n");
+    }
+}
+
 // ---- commands
 
 // Does what one line says.
@@ -713,6 +762,10 @@ fn obey(example: Example, line: &[u8]) -> Example {
     }
     if same(command, b"bound") {
         ask_bound(example, fields);
+        return example;
+    }
+    if same(command, b"write") {
+        write_plan(example, fields);
         return example;
     }
     write(example, line)

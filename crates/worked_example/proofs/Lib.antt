@@ -2,3 +2,4 @@ pub mod Reading
 pub mod WorkedExample
 pub mod ShareExamples
 pub mod BoundExamples
+pub mod WriteExamples

@@ -2,3 +2,4 @@ pub mod Example
 pub mod WorkedExample
 pub mod ShareExamples
 pub mod BoundExamples
+pub mod WriteExamples

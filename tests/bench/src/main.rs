@@ -1,5 +1,6 @@
 //! Times the library beside the reference and the C peer in one process: runs,
-//! readings, and single steps.
+//! readings, and single steps. Plans written back are timed beside the library's
+//! own readings; the peer writes none.
 //!
 //! Each figure is the median over several rounds, in which the engines take
 //! short turns. The first three go through the plain interface; the fourth is
@@ -17,6 +18,7 @@ mod subjects;
 mod table;
 mod timing;
 mod workloads;
+mod writing;
 
 use pirkvezo_differential::engine::{linked, Engine};
 use std::process::ExitCode;
@@ -80,6 +82,7 @@ fn tables(settings: &Settings, library: Box<dyn Engine>) -> Vec<Table> {
         runs(settings, subjects, "growth", workloads::growth()),
         readings(settings, subjects),
         stack::table(settings, subjects),
+        writing::table(settings),
         steps(settings, subjects),
     ]
 }
@@ -127,7 +130,7 @@ fn readings(settings: &Settings, subjects: &mut [Box<dyn Subject>]) -> Table {
     let mut table = times_and_ratios("reading: nanoseconds a byte", "bytes", subjects);
     for text in workloads::texts() {
         let length = text.bytes.len() as u64;
-        let read = |subject: &mut dyn Subject| {
+        let read = |subject: &mut Box<dyn Subject>| {
             assert_eq!(subject.read(&text.bytes), 0, "a good text");
             length
         };
@@ -142,7 +145,7 @@ fn steps(settings: &Settings, subjects: &mut [Box<dyn Subject>]) -> Table {
     let mut table = times_and_ratios("single steps: nanoseconds a step", "steps", subjects);
     for workload in workloads::steps() {
         load(subjects, &workload);
-        let pass_over = |subject: &mut dyn Subject| {
+        let pass_over = |subject: &mut Box<dyn Subject>| {
             subject.fresh_start();
             let passed = subject.run(workload.skip);
             assert_eq!(passed, workload.skip, "a run this long");

@@ -61,7 +61,7 @@ fn at_all_positions(
     subjects: &mut [Box<dyn Subject>],
     text: &[u8],
 ) -> Vec<Vec<Round>> {
-    let mut read = |subject: &mut dyn Subject| {
+    let mut read = |subject: &mut Box<dyn Subject>| {
         assert_eq!(subject.read(text), 0, "a good text");
         text.len() as u64
     };

@@ -1,6 +1,5 @@
 //! Rounds in which the engines take turns.
 
-use crate::subjects::Subject;
 use std::fmt;
 use std::hint::black_box;
 use std::ops::Range;
@@ -43,26 +42,27 @@ pub struct Spread {
 pub struct Times(Vec<Vec<f64>>);
 
 /// Times a piece of work with every engine, each time after something that is
-/// not timed. The work gives how many units it came to.
-pub fn measure(
+/// not timed. The work gives how many units it came to. An engine is whatever
+/// takes turns with others.
+pub fn measure<S>(
     settings: &Settings,
-    subjects: &mut [Box<dyn Subject>],
-    prepare: impl FnMut(&mut dyn Subject),
-    work: impl FnMut(&mut dyn Subject) -> u64,
+    subjects: &mut [S],
+    prepare: impl FnMut(&mut S),
+    work: impl FnMut(&mut S) -> u64,
 ) -> Times {
     measure_rounds(0..settings.rounds, settings.turn, subjects, prepare, work)
 }
 
 /// The same for the rounds of these numbers. A round's number says which engine
 /// begins it.
-pub fn measure_rounds(
+pub fn measure_rounds<S>(
     rounds: Range<usize>,
     turn: Duration,
-    subjects: &mut [Box<dyn Subject>],
-    mut prepare: impl FnMut(&mut dyn Subject),
-    mut work: impl FnMut(&mut dyn Subject) -> u64,
+    subjects: &mut [S],
+    mut prepare: impl FnMut(&mut S),
+    mut work: impl FnMut(&mut S) -> u64,
 ) -> Times {
-    let mut once = |subject: &mut dyn Subject| {
+    let mut once = |subject: &mut S| {
         prepare(subject);
         let begin = Instant::now();
         let units = black_box(work(subject));
@@ -71,8 +71,8 @@ pub fn measure_rounds(
     let repeats: Vec<u32> = subjects
         .iter_mut()
         .map(|subject| {
-            once(&mut **subject);
-            let (time, _) = once(&mut **subject);
+            once(subject);
+            let (time, _) = once(subject);
             let nanoseconds = time.as_nanos().max(50);
             (turn.as_nanos() / nanoseconds).clamp(1, 100_000) as u32
         })
@@ -85,7 +85,7 @@ pub fn measure_rounds(
             let engine = (round + turn) % subjects.len();
             let (mut time, mut units) = (Duration::ZERO, 0);
             for _ in 0..repeats[engine] {
-                let (more, count) = once(&mut *subjects[engine]);
+                let (more, count) = once(&mut subjects[engine]);
                 time += more;
                 units += count;
             }

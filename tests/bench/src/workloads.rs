@@ -81,38 +81,85 @@ pub fn growth() -> Vec<Workload> {
 
 /// Texts from about 200 bytes to the longest.
 pub fn texts() -> Vec<Text> {
-    let text = |name, ops: u32, style| {
-        let mut sketch = eight(2, 300, 1, &|domain, place| match place % 5 {
-            0 => Act::Read(4 * domain),
-            1 => Act::Write(4 * domain + 64),
-            2 => Act::Send((domain + 1) % 8, place),
-            3 => Act::Receive((domain + 7) % 8),
-            _ => Act::Compute(1 + place % 200),
-        });
-        let count = if ops < 9 { 1 } else { 8 };
-        sketch.members.truncate(count as usize);
-        for member in &mut sketch.members {
-            member.may.retain(|other| *other < count);
-            member.script.truncate((ops / count) as usize);
-        }
-        sketch.windows = vec![(0, 300), (0, 300)];
-        Text {
-            name,
-            bytes: sketch.fitting_text(&mut Rng::new(0), style),
-        }
-    };
-    let mut spaces = text("32 KB, mostly spaces", 8, Style::Plain);
+    let mut spaces = text("32 KB, mostly spaces", 8, Style::Plain, &all_ops);
     spaces.bytes.resize(32_768, b' ');
+    let mut texts = lined_texts();
+    texts.push(spaces);
+    texts
+}
+
+/// Texts to be written back. The one of spaces is not among them, since it would
+/// be a short text without them. There are a few more, of lines as short and as
+/// long as op lines can be, and of ops in any order.
+pub fn texts_to_write() -> Vec<Text> {
+    let short = |_, place| Act::Read(place % 10);
+    let long = |domain, place| Act::Send((domain + 1) % 8, 65_535 - 199 * place);
+    let mut texts = lined_texts();
+    texts.extend([
+        text("1 KB, short lines", 40, Style::Tight, &short),
+        text("8 KB, short lines", 512, Style::Tight, &short),
+        text("32 KB, short lines", 2_048, Style::Tight, &short),
+        text("1 KB, long lines", 24, Style::Tight, &long),
+        text("8 KB, long lines", 368, Style::Tight, &long),
+        text("32 KB, long lines", 1_536, Style::Tight, &long),
+        text("32 KB, any order", 1_712, Style::Tight, &any_op),
+    ]);
+    texts
+}
+
+/// Texts in which lines take nearly all of the room.
+fn lined_texts() -> Vec<Text> {
     vec![
-        text("200 bytes", 5, Style::Plain),
-        text("1 KB", 24, Style::Plain),
-        text("4 KB", 184, Style::Plain),
-        text("8 KB", 384, Style::Plain),
-        text("16 KB", 784, Style::Plain),
-        text("32 KB", 1_600, Style::Plain),
-        text("32 KB, tight", 1_808, Style::Tight),
-        spaces,
+        text("200 bytes", 5, Style::Plain, &all_ops),
+        text("1 KB", 24, Style::Plain, &all_ops),
+        text("4 KB", 184, Style::Plain, &all_ops),
+        text("8 KB", 384, Style::Plain, &all_ops),
+        text("16 KB", 784, Style::Plain, &all_ops),
+        text("32 KB", 1_600, Style::Plain, &all_ops),
+        text("32 KB, tight", 1_808, Style::Tight, &all_ops),
     ]
+}
+
+/// A text of so many ops, by one domain or by eight.
+fn text(name: &'static str, ops: u32, style: Style, act: &dyn Fn(u32, u32) -> Act) -> Text {
+    let mut sketch = eight(2, 300, 1, act);
+    let count = if ops < 9 { 1 } else { 8 };
+    sketch.members.truncate(count as usize);
+    for member in &mut sketch.members {
+        member.may.retain(|other| *other < count);
+        member.script.truncate((ops / count) as usize);
+    }
+    sketch.windows = vec![(0, 300), (0, 300)];
+    Text {
+        name,
+        bytes: sketch.fitting_text(&mut Rng::new(0), style),
+    }
+}
+
+/// All five ops by turns.
+fn all_ops(domain: u32, place: u32) -> Act {
+    match place % 5 {
+        0 => Act::Read(4 * domain),
+        1 => Act::Write(4 * domain + 64),
+        2 => Act::Send((domain + 1) % 8, place),
+        3 => Act::Receive((domain + 7) % 8),
+        _ => Act::Compute(1 + place % 200),
+    }
+}
+
+/// Ops in no order, with numbers of one digit to five: a processor foretells these
+/// worse than ops by turns.
+fn any_op(domain: u32, place: u32) -> Act {
+    let mut rng = Rng::new(u64::from(256 * domain + place));
+    let value = rng.pick(&[10, 100, 1_000, 10_000, 65_536]);
+    let value = rng.below(value) as u32;
+    match rng.below(5) {
+        0 => Act::Read(value),
+        1 => Act::Write(value),
+        2 => Act::Send((domain + 1) % 8, value),
+        3 => Act::Receive((domain + 7) % 8),
+        _ => Act::Compute(1 + value % 200),
+    }
 }
 
 /// Single steps in plans of 1 to 32 windows, early and late in short and long

@@ -11,10 +11,30 @@ pub struct Pair<'e> {
     world: World,
 }
 
-/// Two engines, frame makers or bounders that do not agree, or one that breaks a
-/// law.
+/// Two engines, frame makers, bounders or writers that do not agree, or one that
+/// breaks a law.
 #[derive(Clone, Debug)]
 pub struct Difference(pub(crate) String);
+
+/// What two of them returned and left, given where it is the same; where not, each
+/// by its name and as the scene shows it.
+pub(crate) fn agreed<Left: PartialEq>(
+    names: [&str; 2],
+    made: [(u32, Left); 2],
+    scene: impl Fn(u32, &Left) -> String,
+) -> Result<(u32, Left), Difference> {
+    let [(first, here), (second, there)] = made;
+    if first == second && here == there {
+        return Ok((first, here));
+    }
+    Err(Difference(format!(
+        "{} and {} differ\nfirst: {}\nsecond: {}",
+        names[0],
+        names[1],
+        scene(first, &here),
+        scene(second, &there),
+    )))
+}
 
 impl<'e> Pair<'e> {
     pub fn new(first: &'e dyn Engine, second: &'e dyn Engine, world: World) -> Self {

@@ -6,9 +6,11 @@
 //! lists of calls from a seed, and each call's answer and everything that it
 //! was lent are held against each other byte by byte. An
 //! [`engine::FrameMaker`] has document 02's frame maker, an [`engine::Bounder`] its
-//! bound of a run's steps, and both are treated alike.
+//! bound of a run's steps, an [`engine::Writer`] its plan written back, and all three
+//! are treated alike.
 
 pub mod bound;
+pub mod canonical;
 pub mod compare;
 pub mod engine;
 pub mod frame;

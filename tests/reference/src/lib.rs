@@ -1,6 +1,6 @@
 //! The reader and the machine of document 01 and, of document 02, the frame maker
-//! (E1), the shares to the nearest colour (E2) and the bound of a run's steps (E3),
-//! in plain Rust.
+//! (E1), the shares to the nearest colour (E2), the bound of a run's steps (E3) and
+//! the plan written back (E4), in plain Rust.
 //!
 //! This is a second reading of the papers. It is written from them alone and
 //! shares no code with the proved implementation, so that the two can be held
@@ -11,12 +11,13 @@
 //! the order that document 01 gives under "The plan text", and a refused call
 //! leaves everything as it was. [`make_frame`] takes nothing but numbers;
 //! [`write_frame`] is the same over rows that are lent. [`step_bound`] judges as the
-//! entry points do and changes nothing at all.
+//! entry points do and changes nothing at all; [`write_plan`] writes text to a buffer.
 
 #![forbid(unsafe_code)]
 
 pub mod bound;
 pub mod cache;
+pub mod canonical;
 pub mod colours;
 pub mod flat;
 pub mod frame;
@@ -37,6 +38,7 @@ pub mod state;
 mod token;
 
 pub use bound::{step_bound, StepBound};
+pub use canonical::write_plan;
 pub use frame::{make_frame, write_frame, Frame};
 pub use journal::{log_of, Part};
 pub use machine::{fresh_start, run, step, Lent, Outcome, Progress};

@@ -1,5 +1,5 @@
 //! The refusals: the table in document 01, "The plan text", and from document 02
-//! 15 (E1) and 16 (E2).
+//! 15 (E1), 16 (E2) and 17 (E4).
 
 /// Why a call was refused. Offsets are in bytes from the text's start.
 #[derive(Clone, Copy, Debug, PartialEq, Eq)]
@@ -36,6 +36,8 @@ pub enum Refusal {
     Frame,
     /// 16: shares that give more colours together than there are.
     Colours { total: u32 },
+    /// 17: a buffer shorter than the text to be written.
+    Room { needed: usize },
 }
 
 impl Refusal {
@@ -58,10 +60,12 @@ impl Refusal {
             Refusal::State => 14,
             Refusal::Frame => 15,
             Refusal::Colours { .. } => 16,
+            Refusal::Room { .. } => 17,
         }
     }
 
-    /// The number returned beside it: an offset, a domain, a sum, a total or 0.
+    /// The number returned beside it: an offset, a domain, a sum, a total, a length
+    /// or 0.
     pub fn companion(self) -> u64 {
         match self {
             Refusal::Shape { at }
@@ -73,6 +77,7 @@ impl Refusal {
             Refusal::NoColour { domain } => domain as u64,
             Refusal::Shares { sum } => u64::from(sum),
             Refusal::Colours { total } => u64::from(total),
+            Refusal::Room { needed } => needed as u64,
             Refusal::TooLong
             | Refusal::Ticks
             | Refusal::TableLength

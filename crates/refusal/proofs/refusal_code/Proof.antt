@@ -51,6 +51,9 @@ returns-15 c = simp (← (c .code-with15 .ensures), c .before .enum-told7 .given
 returns-16 : tie.Need-returns-16
 returns-16 c = simp (← (c .code-with16 .ensures), c .before .before .refusal9 .given .1)
 
+returns-17 : tie.Need-returns-17
+returns-17 c = simp (← (c .code-with17 .ensures), c .before .before .refusal10 .given .1)
+
 pub refusal-code-spec : {M : Type 1} → statement M
 refusal-code-spec =
     tie.close
@@ -61,5 +64,5 @@ refusal-code-spec =
     (λ c κs. search needs) (λ c. search needs) (λ c κs. search needs) (λ c. search needs) (λ c κs. search needs)
     (λ c. search needs) (λ c κs. search needs) (λ c. search needs) (λ c κs. search needs) (λ c. search needs)
     (λ c κs. search needs) (λ c. search needs) (λ c κs. search needs) (λ c. search needs) (λ c κs. search needs)
-    (λ c. search needs) (λ c κs. search needs) returns returns-2 returns-3 returns-4 returns-5 returns-6 returns-7 returns-8 returns-9 returns-10 returns-11
-    returns-12 returns-13 returns-14 returns-15 returns-16)
+    (λ c. search needs) (λ c κs. search needs) (λ c. search needs) (λ c κs. search needs) returns returns-2 returns-3 returns-4 returns-5 returns-6 returns-7 returns-8 returns-9 returns-10 returns-11
+    returns-12 returns-13 returns-14 returns-15 returns-16 returns-17)

@@ -9,7 +9,7 @@ use lib.Seq.{length-sets}
 use Rattle.lists.proofs.Stores.{wrote-both}
 use Rattle.records.specs.Records.{recordSize}
 use Rattle.report.specs.Lines.{domainLines, recordLines, seenLine}
-use Rattle.report.specs.Writing.{Wrote}
+use Rattle.lists.specs.Writing.{Wrote}
 use Rattle.report.proofs.LineLengths.{records-limit}
 use Rattle.report.proofs.write_domain.Statement.{statement}
 use Rattle.report.proofs.write_domain.Tie as tie

@@ -13,7 +13,7 @@ use Rattle.records.specs.Records.{partRecords}
 use Rattle.records.proofs.Parts.{parts-fit}
 use Rattle.engine.specs.LogQuery.{logQueryOf}
 use Rattle.report.specs.Lines.{domainLines, seenLines}
-use Rattle.report.specs.Writing.{Wrote}
+use Rattle.lists.specs.Writing.{Wrote}
 use Rattle.report.proofs.LineLengths.{domains-limit, part-ends, query-limit}
 use Rattle.report.proofs.write_domains.Statement.{statement}
 use Rattle.report.proofs.write_domains.Tie as tie

@@ -3,7 +3,7 @@
 use super::call::BoundCall;
 use super::laws;
 use super::subject::Subject;
-use crate::compare::Difference;
+use crate::compare::{agreed, Difference};
 
 /// Makes a call with both bounders, and judges each by its own engine. Gives the
 /// number that both returned and what both left if they agree in everything.
@@ -17,17 +17,8 @@ pub fn compare(subjects: [Subject; 2], before: &BoundCall) -> Result<(u32, Bound
             Difference(format!("{name}: {what}\n{}", scene(before, *number, after)))
         })?;
     }
-    let [(first, here), (second, there)] = made;
-    if first == second && here == there {
-        return Ok((first, here));
-    }
-    Err(Difference(format!(
-        "{} and {} differ\nfirst: {}\nsecond: {}",
-        subjects[0].bounder.name(),
-        subjects[1].bounder.name(),
-        scene(before, first, &here),
-        scene(before, second, &there),
-    )))
+    let names = subjects.map(|subject| subject.bounder.name());
+    agreed(names, made, |number, after| scene(before, number, after))
 }
 
 /// A call and what it left, for the message.

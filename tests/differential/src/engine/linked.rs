@@ -1,14 +1,14 @@
 //! The linked library behind the plain interfaces.
 
-use super::{Bounder, FrameMaker};
+use super::{Bounder, FrameMaker, Writer};
 
 crate::c_engine! {
     /// The library that PIRKVEZO_LIB names.
     pub struct Linked, "library", "pirkvezo_"
 }
 
-// The peer makes no frames and tells no bounds, so these functions are not among
-// those of the macro.
+// The peer makes no frames, tells no bounds and writes no plans, so these functions
+// are not among those of the macro.
 extern "C" {
     fn pirkvezo_frame(
         count: u32,
@@ -25,6 +25,17 @@ extern "C" {
         plan_len: usize,
         scripts: *const u32,
         scripts_len: usize,
+        answer: *mut u64,
+        answer_len: usize,
+    ) -> u32;
+
+    fn pirkvezo_write_plan(
+        plan: *const u32,
+        plan_len: usize,
+        scripts: *const u32,
+        scripts_len: usize,
+        out: *mut u8,
+        out_len: usize,
         answer: *mut u64,
         answer_len: usize,
     ) -> u32;
@@ -64,6 +75,28 @@ impl Bounder for Linked {
                 plan.len(),
                 scripts.as_ptr(),
                 scripts.len(),
+                answer.as_mut_ptr(),
+                answer.len(),
+            )
+        }
+    }
+}
+
+impl Writer for Linked {
+    fn name(&self) -> &'static str {
+        "library"
+    }
+
+    fn write_plan(&self, plan: &[u32], scripts: &[u32], out: &mut [u8], answer: &mut [u64]) -> u32 {
+        // As above.
+        unsafe {
+            pirkvezo_write_plan(
+                plan.as_ptr(),
+                plan.len(),
+                scripts.as_ptr(),
+                scripts.len(),
+                out.as_mut_ptr(),
+                out.len(),
                 answer.as_mut_ptr(),
                 answer.len(),
             )

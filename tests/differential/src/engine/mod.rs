@@ -1,5 +1,6 @@
 //! Document 01's entry points over plain numbers, whoever implements them, and
-//! beside them document 02's frame maker and its bound of a run's steps.
+//! beside them document 02's frame maker, its bound of a run's steps and its plan
+//! written back.
 
 mod bounder;
 mod c_engine;
@@ -7,12 +8,14 @@ mod frame_maker;
 #[cfg(linked)]
 mod linked;
 mod reference;
+mod writer;
 
 pub use bounder::{bounder_under_test, Bounder};
 pub use frame_maker::{frame_maker_under_test, FrameMaker, FRAME, WEIGHTS};
 #[cfg(linked)]
 use linked::Linked;
 pub use reference::Reference;
+pub use writer::{writer_under_test, Writer};
 
 /// Numbers in a script store, a cache table and a table of boxes.
 pub const SCRIPTS: usize = 2_048;

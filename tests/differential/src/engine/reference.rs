@@ -1,6 +1,6 @@
 //! The reference behind the plain interfaces.
 
-use super::{Bounder, Engine, FrameMaker, Tables, ANSWER, PLAN, STATE};
+use super::{Bounder, Engine, FrameMaker, Tables, Writer, ANSWER, PLAN, STATE};
 use pirkvezo_reference::flat::{plan_from_flat, plan_to_flat, state_from_flat, state_to_flat};
 use pirkvezo_reference::{self as reference, Lent, Outcome, Plan, Progress, Refusal};
 
@@ -101,6 +101,23 @@ impl Bounder for Reference {
         };
         match outcome {
             Ok(bound) => tell([0, 0, bound.steps(), 0], answer),
+            Err(refusal) => refuse(refusal, answer),
+        }
+    }
+}
+
+impl Writer for Reference {
+    fn name(&self) -> &'static str {
+        "reference"
+    }
+
+    fn write_plan(&self, plan: &[u32], scripts: &[u32], out: &mut [u8], answer: &mut [u64]) -> u32 {
+        let outcome = match (plan.try_into(), answer.len()) {
+            (Ok(plan), ANSWER) => reference::write_plan(&taken(plan), scripts, out),
+            _ => Err(Refusal::TableLength),
+        };
+        match outcome {
+            Ok(written) => tell([0, 0, written as u64, 0], answer),
             Err(refusal) => refuse(refusal, answer),
         }
     }

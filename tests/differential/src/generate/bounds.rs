@@ -133,7 +133,7 @@ fn fill_script(rng: &mut Rng, script: &mut [u32], length: usize) {
 }
 
 /// An op, often at a limit of its numbers.
-fn edge_op(rng: &mut Rng) -> u32 {
+pub(super) fn edge_op(rng: &mut Rng) -> u32 {
     let any = rng.within(0..=65_535);
     let word = rng.pick(&[0, 1, 4_095, 4_096, 32_768, 65_535, any, any]);
     let other = rng.within(0..=7);
@@ -149,7 +149,7 @@ fn edge_op(rng: &mut Rng) -> u32 {
 }
 
 /// A number that no op gives, mostly close to one that some op gives.
-fn no_op(rng: &mut Rng) -> u32 {
+pub(super) fn no_op(rng: &mut Rng) -> u32 {
     let any = rng.within(0..=65_535);
     let word = rng.pick(&[0, 1, 200, 65_535, any]);
     let value = rng.pick(&[1, 2, 256, 65_535, any.max(1)]);

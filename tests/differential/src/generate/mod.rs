@@ -1,8 +1,9 @@
-//! Generators of texts, worlds, lists of calls, and calls of a frame maker and of
-//! a bounder.
+//! Generators of texts, worlds, lists of calls, and calls of a frame maker, of a
+//! bounder and of a writer.
 
 pub mod bounds;
 pub mod bytes;
+pub mod canonical;
 pub mod disturb;
 pub mod faults;
 pub mod frames;
@@ -12,10 +13,12 @@ pub mod mutate;
 pub mod pairs;
 pub mod scatter;
 pub mod shares;
+pub mod sized;
 pub mod sketch;
 pub mod stores;
 pub mod whole;
 pub mod write;
+pub mod write_calls;
 
 use crate::rng::Rng;
 

@@ -4,11 +4,15 @@
 
 mod bounders;
 mod bounds;
+mod canonical;
 mod dealers;
 mod deals;
 mod engines;
 mod frame_makers;
 mod frames;
+mod write_faults;
+mod writer_texts;
+mod writers;
 
 use engines::{Fault, Hollow};
 use pirkvezo_differential::compare::{Difference, Pair};

@@ -1,6 +1,7 @@
 //! Tests of the reference against documents 01 and 02.
 
 mod bound;
+mod canonical;
 mod colour_totals;
 mod colours;
 mod costs;

@@ -8,7 +8,7 @@ use Rattle.lists.proofs.Stores.{wrote-both, wrote-three}
 use Rattle.lists.specs.Ascii.{bytesOf}
 use Rattle.lexer.specs.Decimal.{decimalOf}
 use Rattle.report.specs.Lines.{clockAt, kindAndValue, kindAt, seenLine, valueAt}
-use Rattle.report.specs.Writing.{Wrote}
+use Rattle.lists.specs.Writing.{Wrote}
 use Rattle.report.proofs.LineLengths.{numbered-limit}
 use Rattle.report.proofs.lines.write_seen.Statement.{statement}
 use Rattle.report.proofs.lines.write_seen.Tie as tie

@@ -3,7 +3,8 @@ use mathlib.Core.Path.{_∙_, sym}
 use borrow.Author.Needs.{needs}
 use Rattle.reader.proofs.Accepted.{accepted-valid}
 use Rattle.reader.specs.Draft.{noOps}
-use Rattle.report.proofs.Planned.{planned-ran, planned-refused, wrote-as}
+use Rattle.lists.proofs.Stores.{wrote-as}
+use Rattle.report.proofs.Planned.{planned-ran, planned-refused}
 use Rattle.report.proofs.program.plan_lines.Statement.{statement}
 use Rattle.report.proofs.program.plan_lines.Tie as tie
 

@@ -17,7 +17,7 @@ use Rattle.state.specs.World.{World}
 use Rattle.machine.specs.View.{worldWith}
 use Rattle.report.specs.Limits.{largestLimit}
 use Rattle.report.specs.Planrun.{lentLog, planrunRun, ranLines}
-use Rattle.report.proofs.Planned.{wrote-as}
+use Rattle.lists.proofs.Stores.{wrote-as}
 use Rattle.report.proofs.program.run_lines.Statement.{statement}
 use Rattle.report.proofs.program.run_lines.Tie as tie
 

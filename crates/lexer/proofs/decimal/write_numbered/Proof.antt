@@ -1,9 +1,9 @@
--- `report::lines::write_numbered` meets its contract. Assumes nothing.
+-- `lexer::decimal::write_numbered` meets its contract. Assumes nothing.
 use borrow.Author.Needs.{needs}
 use Rattle.lists.proofs.Stores.{wrote-both}
 use Rattle.lexer.specs.Decimal.{decimalOf}
-use Rattle.report.proofs.lines.write_numbered.Statement.{statement}
-use Rattle.report.proofs.lines.write_numbered.Tie as tie
+use Rattle.lexer.proofs.decimal.write_numbered.Statement.{statement}
+use Rattle.lexer.proofs.decimal.write_numbered.Tie as tie
 
 returns : tie.Need-returns
 returns c =

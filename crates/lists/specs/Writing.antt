@@ -1,5 +1,4 @@
--- Document 01, "Settled numbers": what a function does that writes some of the printed bytes.
--- Assumes nothing.
+-- What a function does that writes bytes into a lent buffer. Assumes nothing.
 use Prim.Native.Nat.{ℕ, _+_}
 use mathlib.Core.List.{List}
 use mathlib.Core.Path.{_≡_}

@@ -1,0 +1,1 @@
+// No accepted text is shorter than the canonical one. No code.
