@@ -1,45 +1,46 @@
--- Counting the numbers of a part that pass a test, from its front, the number left falling. Assumes nothing.
-use Prim.Native.Nat.{ℕ, _+_, _-_, _≤_, _<_}
-use mathlib.Core.Path.{_≡_, refl}
+-- Counting the numbers of a part that pass a test, one after the other from its front. Assumes nothing.
+use Prim.Native.Nat.{ℕ, suc, _+_, _<_}
+use mathlib.Core.Path.{_≡_, refl, ap, _∙_}
 use mathlib.Core.Bool.{Bool, cond}
-use mathlib.Core.List.{List}
+use mathlib.Core.List.{List, [], _∷_, _++_}
+use native.Mathlib.Numerals.{add-one}
 use native.Mathlib.Omega.{arith}
-use lib.ListN.{getD, length}
+use lib.ListN.{drop, getD, length, take, length-drop}
+use lib.Seq.{getD-drop, take-suc}
 use Rattle.lists.specs.Part.{part}
-use Rattle.lists.proofs.Parts.{part-next}
 use Rattle.cache.specs.Flush.{countWhere}
-use Rattle.cache.proofs.Ticks.{choice-limit, count-part-limit}
 
--- a number that is not 0 is above it
-pub above-zero : {left : ℕ} → (left ≡ 0 → ⊥) → 0 < left
-above-zero {left} some = omega (arith, some)
+-- a part that is one number longer has that number last
+part-last :
+    (first count : ℕ) (table : List ℕ)
+    → first + count < length table
+    → part first (suc count) table ≡ part first count table ++ (getD table (first + count) 0 ∷ [])
+unfolding part
+part-last first count table within =
+    let below : count < length (drop first table) = simp length-drop (omega arith) in
+    take-suc (drop first table) count 0 below
+    ∙ ap (λ (last : ℕ). take count (drop first table) ++ (last ∷ [])) (getD-drop first table count 0)
 
-module _ (test : ℕ → Bool) (at : ℕ) (table : List ℕ) where
-  -- none left
-  pub count-none : countWhere test (part at 0 table) ≡ 0
-  unfolding countWhere part
-  count-none = refl
-
-  -- the first number, then the rest
-  pub count-next :
-      (left : ℕ)
-      → 0 < left
-      → at + left ≤ length table
-      → cond (test (getD table at 0)) 1 0 + countWhere test (part (at + 1) (left - 1) table)
-      ≡ countWhere test (part at left table)
+module _ (test : ℕ → Bool) where
+  -- a number behind others is counted after them
+  count-last :
+      (entries : List ℕ) (entry : ℕ)
+      → countWhere test (entries ++ (entry ∷ [])) ≡ countWhere test entries + cond (test entry) 1 0
   unfolding countWhere
-  count-next left some within = rw (part-next at left table (omega arith) some)
+  count-last [] entry = omega arith
+  count-last (first ∷ rest) entry = omega (arith, count-last rest entry)
 
-  -- what a turn adds up is at most the number that was left
-  pub count-turn-limit :
-      (left one rest : ℕ)
-      → 0 < left
-      → one ≡ cond (test (getD table at 0)) 1 0
-      → rest ≡ countWhere test (part (at + 1) (left - 1) table)
-      → one + rest ≤ left
-  count-turn-limit left one rest some is counted =
-      omega (
-        arith,
-        choice-limit (test (getD table at 0)) 1 0 1 (omega arith) (omega arith),
-        count-part-limit test (at + 1) (left - 1) table,
-      )
+  -- before the first number
+  pub count-none : (at : ℕ) (table : List ℕ) → 0 ≡ countWhere test (part at 0 table)
+  unfolding countWhere part
+  count-none at table = refl
+
+  -- one number more
+  pub count-more :
+      (at walked count one : ℕ) (table : List ℕ)
+      → at + walked < length table
+      → count ≡ countWhere test (part at walked table)
+      → one ≡ cond (test (getD table (at + walked) 0)) 1 0
+      → count + one ≡ countWhere test (part at (walked + 1) table)
+  count-more at walked count one table within so-far is =
+      rw (add-one walked, part-last at walked table within, count-last, so-far, is)

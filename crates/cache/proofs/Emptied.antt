@@ -24,17 +24,15 @@ emptied-all entries = rw (drop-length entries) (append-nil (replicate (length en
 
 -- what either flush does: `count` numbers from the index `first` on are counted, then emptied
 pub flush-outcome :
-    (test : ℕ → Bool) (first count answer : ℕ) (taken fresh table : List ℕ)
+    (test : ℕ → Bool) (first count answer : ℕ) (fresh table : List ℕ)
     → first + count ≤ length table
-    → taken ≡ part first count table
-    → answer ≡ countWhere test (part 0 count taken)
+    → answer ≡ countWhere test (part 0 count (take count (drop first table)))
     → fresh ≡ replicate (length (take count (drop first table))) 0
     → (answer ≡ countWhere test (part first count table))
     × (take first table ++ (fresh ++ drop count (drop first table)) ≡ splice first count (replicate count 0) table)
 unfolding part splice
-flush-outcome test first count answer taken fresh table within is counted emptied =
+flush-outcome test first count answer fresh table within counted emptied =
     let whole : length (take count (drop first table)) ≡ count = simp (length-take, length-drop) (omega arith) in (
-      counted
-          ∙ ap (countWhere test) (ap (take count) is ∙ take-all count (take count (drop first table)) (omega arith)),
+      counted ∙ ap (countWhere test) (take-all count (take count (drop first table)) (omega arith)),
       rw (emptied, whole),
     )

@@ -15,7 +15,7 @@ use Rattle.cache.specs.Flush.{countWhere, dirtyLines, dirtyLineTicks, fl
 use Rattle.cache.specs.Flush.{l1FlushTicks, validLines}
 
 -- a choice between two numbers is within a limit that both keep
-pub choice-limit : (test : Bool) (first second limit : ℕ) → first ≤ limit → second ≤ limit
+choice-limit : (test : Bool) (first second limit : ℕ) → first ≤ limit → second ≤ limit
     → cond test first second ≤ limit
 choice-limit true first second limit low high = low
 choice-limit false first second limit low high = high

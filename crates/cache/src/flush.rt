@@ -4,10 +4,8 @@ use crate::choose_number;
 use crate::limits::DIRTY_LINE_TICKS;
 use crate::limits::DIRTY_MARK;
 use crate::limits::FLUSH_TICKS;
-use crate::limits::KERNEL_ENTRIES;
 use crate::limits::KERNEL_INDEX;
 use crate::limits::L1_LENGTH;
-use crate::limits::TABLE_LENGTH;
 ghost use mathlib.Core.Path.{_≡_};
 ghost use Prim.Native.Nat.{_+_, _≤_};
 ghost use lib.ListN.{length, replicate};
@@ -16,44 +14,32 @@ ghost use Rattle.cache.specs.Lines.{isDirty, isValid, kernelEntries, l1L
 ghost use Rattle.cache.specs.Flush.{countWhere, kernelFlushed, kernelFlushTicks, l1Flushed};
 ghost use Rattle.cache.specs.Flush.{l1FlushTicks};
 
-// Sixteen numbers of the table from an index on: L1 has as many, and so have the kernel's sets. The
-// counts below take them as an array: it is lent by its address alone, so that their recursion
-// costs no more than a loop.
-fn sixteen(table: &[u16], first: usize) -> [u16; 16]
-    requires { ⌜ first + l1Length ≤ length (now table) ⌝ }
-    ensures { λ r. ⌜ r ≡ part first l1Length (now (table .entry)) ⌝ }
-{
-    let mut taken = [0u16; 16];
-    let mut i: usize = 0;
-    while i < L1_LENGTH {
-        taken[i] = table[first + i];
-        i += 1;
-    }
-    taken
-}
-
-// The dirty lines among the numbers from an index on, of which `left` are left.
-fn count_dirty(numbers: &[u16; 16], at: usize, left: usize) -> u64
+// The dirty lines among `left` numbers from an index on.
+fn count_dirty(numbers: &[u16], at: usize, left: usize) -> u64
     requires { ⌜ (length (now numbers) ≡ l1Length) × (at + left ≤ l1Length) ⌝ }
     ensures { λ r. ⌜ r ≡ countWhere isDirty (part at left (now (numbers .entry))) ⌝ }
 {
-    if left == 0 {
-        0
-    } else {
-        choose_number(DIRTY_MARK < numbers[at], 1, 0) + count_dirty(numbers, at + 1, left - 1)
+    let mut dirty = 0;
+    let mut i = 0;
+    while i < left {
+        dirty += choose_number(DIRTY_MARK < numbers[at + i], 1, 0);
+        i += 1;
     }
+    dirty
 }
 
-// The valid lines among the numbers from an index on, of which `left` are left.
-fn count_valid(numbers: &[u16; 16], at: usize, left: usize) -> u64
+// The valid lines among `left` numbers from an index on.
+fn count_valid(numbers: &[u16], at: usize, left: usize) -> u64
     requires { ⌜ (length (now numbers) ≡ kernelEntries) × (at + left ≤ kernelEntries) ⌝ }
     ensures { λ r. ⌜ r ≡ countWhere isValid (part at left (now (numbers .entry))) ⌝ }
 {
-    if left == 0 {
-        0
-    } else {
-        choose_number(0 < numbers[at], 1, 0) + count_valid(numbers, at + 1, left - 1)
+    let mut valid = 0;
+    let mut i = 0;
+    while i < left {
+        valid += choose_number(0 < numbers[at + i], 1, 0);
+        i += 1;
     }
+    valid
 }
 
 // Empties every number of a part.
@@ -67,21 +53,23 @@ pub fn empty(entries: &mut [u16])
     }
 }
 
-// Empties the kernel's sets, and answers the ticks that it takes.
+// Empties the kernel's sets, the last of the table, and answers the ticks that it takes. They end
+// where the table does: with a constant for their number the compiler would join the flush's own
+// ticks with the count of the first, and count the others piece by piece, which takes longer.
 pub fn flush_kernel(table: &mut [u16]) -> u64
     requires { ⌜ length (now table) ≡ tableLength ⌝ }
     ensures { λ r. ⌜ (r ≡ kernelFlushTicks (now (table .entry)))
         × (now (table .exit) ≡ kernelFlushed (now (table .entry))) ⌝ }
 {
     let from = KERNEL_INDEX;
-    let to = TABLE_LENGTH;
-    let held = sixteen(table, KERNEL_INDEX);
-    let valid = count_valid(&held, 0, KERNEL_ENTRIES);
+    let to = table.len();
+    let valid = count_valid(&table[from..to], 0, to - from);
     empty(&mut table[from..to]);
     FLUSH_TICKS + valid
 }
 
-// Empties L1, and answers the ticks that it takes.
+// Empties L1, and answers the ticks that it takes. Its count is multiplied before ticks are added,
+// so a constant does no harm here.
 pub fn flush_l1(table: &mut [u16]) -> u64
     requires { ⌜ length (now table) ≡ tableLength ⌝ }
     ensures { λ r. ⌜ (r ≡ l1FlushTicks (now (table .entry)))
@@ -89,8 +77,7 @@ pub fn flush_l1(table: &mut [u16]) -> u64
 {
     let from = 0;
     let to = L1_LENGTH;
-    let held = sixteen(table, 0);
-    let dirty = count_dirty(&held, 0, L1_LENGTH);
+    let dirty = count_dirty(&table[from..to], 0, L1_LENGTH);
     empty(&mut table[from..to]);
     FLUSH_TICKS + DIRTY_LINE_TICKS * dirty
 }

@@ -16,8 +16,6 @@ pub const KERNEL_COLOUR: usize = 15;
 
 pub const KERNEL_INDEX: usize = 256;
 
-pub const KERNEL_ENTRIES: usize = 16;
-
 pub const DIRTY_MARK: u16 = 32_768;
 
 pub const HIT1_TICKS: u64 = 1;

@@ -3,6 +3,9 @@
 // is printed, so the functions here carry what their safety needs, and no more.
 use bytes::copy;
 use bytes::scan::find;
+use cache::flush::flush_kernel;
+use cache::flush::flush_l1;
+use cache::limits::TABLE_LENGTH;
 use check::same;
 use engine::Progress;
 use engine::lending::step;
@@ -598,6 +601,30 @@ fn run(example: Example, single: bool, fields: &[u8]) -> Example {
     next
 }
 
+// The two flushes of a switch, and the ticks of each. A table of another length is not flushed.
+fn print_flushes(cache: &mut [u16]) {
+    if cache.len() != TABLE_LENGTH {
+        return;
+    }
+    print_number(flush_kernel(cache));
+    print_number(flush_l1(cache));
+}
+
+// flush LABEL: the two flushes of a switch. Prints their ticks, which no run shows: they are within
+// every pad.
+fn flush(example: Example, fields: &[u8]) -> Example {
+    let mut next = example;
+    let mut cache_room = example.cache;
+    let cache: &mut [u16] = &mut cache_room;
+    let first: usize = 0;
+    let lent_cache = at_most(example.cache_length, cache.len());
+    print(word(fields));
+    print_flushes(&mut cache[first..lent_cache]);
+    print(b"\n");
+    next.cache = cache_room;
+    next
+}
+
 // Some bytes from an offset on, or as many as there are.
 fn part(bytes: &[u8], offset: usize, count: usize) -> &[u8] {
     let start = at_most(offset, bytes.len());
@@ -752,6 +779,9 @@ fn obey(example: Example, line: &[u8]) -> Example {
     }
     if same(command, b"step") {
         return run(example, true, fields);
+    }
+    if same(command, b"flush") {
+        return flush(example, fields);
     }
     if same(command, b"log") {
         query_log(example, fields);
