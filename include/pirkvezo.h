@@ -26,6 +26,7 @@ extern "C" {
 #define PIRKVEZO_BOXES 64
 #define PIRKVEZO_WEIGHTS 8
 #define PIRKVEZO_FRAME 32
+#define PIRKVEZO_SCRIPT 256
 
 /* The most bytes of a text that is read, and so of one that is written. */
 #define PIRKVEZO_TEXT 32768
@@ -104,6 +105,21 @@ uint32_t pirkvezo_write_plan(const uint32_t *plan, size_t plan_length,
                              const uint32_t *scripts, size_t scripts_length,
                              uint8_t *out, size_t out_length,
                              uint64_t *answer, size_t answer_length);
+
+/* The latest that a domain can finish a window: the most ticks from the window's end until the
+ * switch has emptied L1, in any run from a fresh start and whatever any script holds. It comes from
+ * the plan alone. Accepted: `script` holds 256 stored ops for the domain, 0 behind the last. Its
+ * first window finishes exactly then, whatever the other scripts hold, where its part of the log
+ * has room for 256 records. Refused, in this order; `script` stays:
+ *   - 11: plan, script or answer of another length;
+ *   - 12: an impossible plan;
+ *   - 18, with the domain as companion: it is not declared, has no window, or has a window of fewer
+ *     than 4,000 or more than 20,000 ticks.
+ * answer: number, companion, the ticks (0 where refused; 260 at most), 0. */
+uint32_t pirkvezo_latest(const uint32_t *plan, size_t plan_length,
+                         uint32_t domain,
+                         uint32_t *script, size_t script_length,
+                         uint64_t *answer, size_t answer_length);
 
 #ifdef __cplusplus
 }

@@ -1,5 +1,5 @@
 """Pirkvezo from Python: read a plan, run it, look at what each domain saw; say how many steps a run
-can take; write a plan's canonical text; make windows by weights.
+can take, and how late a domain can finish; write a plan's canonical text; make windows by weights.
 
     >>> import pirkvezo
     >>> plan = pirkvezo.read(b"(pad 276)\\n(domain 0 (share 400) (may))\\n"
@@ -21,9 +21,9 @@ package lays it out as Python values and puts words to it; the package itself is
 """
 from .frames import Frame, frame
 from .library import Fault, LibraryMissing
-from .plans import Op, Plan, Window, read
+from .plans import Latest, Op, Plan, Window, read
 from .refusals import Refused
 from .worlds import Record, Run, World
 
-__all__ = ["read", "Plan", "Op", "Window", "Refused", "World", "Record", "Run", "frame", "Frame",
+__all__ = ["read", "Plan", "Op", "Window", "Latest", "Refused", "World", "Record", "Run", "frame", "Frame",
            "Fault", "LibraryMissing"]

@@ -10,10 +10,12 @@ from . import build, commands
 from .library import Fault, LibraryMissing
 from .refusals import Refused
 
-ABOUT = """Check, see, compare, write and report plans, bound their runs, and make their windows by weights.
+ABOUT = """Check, see, compare, write and report plans, bound their runs and how late a domain can finish,
+and make their windows by weights.
 
-All that decides anything (verdict, masks, clocks, records, bounds, frames, canonical texts)
-comes from the proved library. What is around it only words, lays out and draws, and is not proved.
+All that decides anything (verdict, masks, clocks, records, bounds, latest finishes, frames,
+canonical texts) comes from the proved library. What is around it only words, lays out and draws,
+and is not proved.
 """
 EXIT = """exit status: 0 done, 1 a plan or a frame was refused, 2 bad arguments, a file that cannot be
 read or written, or a library that cannot be built or is at fault"""

@@ -9,7 +9,7 @@ import os
 import pathlib
 
 PLAN, STATE, ANSWER, SCRIPTS, CACHE, BOXES = 92, 18, 4, 2048, 272, 64
-WEIGHTS, FRAME = 8, 32
+WEIGHTS, FRAME, SCRIPT = 8, 32, 256
 
 ROOT = pathlib.Path(__file__).resolve().parents[2]
 
@@ -21,6 +21,7 @@ CacheTable = ctypes.c_uint16 * CACHE
 Boxes = ctypes.c_uint32 * BOXES
 WeightNumbers = ctypes.c_uint32 * WEIGHTS
 FrameNumbers = ctypes.c_uint32 * FRAME
+ScriptNumbers = ctypes.c_uint32 * SCRIPT
 
 _SIZE = ctypes.c_size_t
 _ENTRY_POINTS = {
@@ -34,6 +35,7 @@ _ENTRY_POINTS = {
     "pirkvezo_frame": [ctypes.c_uint32, WeightNumbers, _SIZE, FrameNumbers, _SIZE],
     "pirkvezo_step_bound": [PlanNumbers, _SIZE, Scripts, _SIZE],
     "pirkvezo_write_plan": [PlanNumbers, _SIZE, Scripts, _SIZE, ctypes.c_void_p, _SIZE],
+    "pirkvezo_latest": [PlanNumbers, _SIZE, ctypes.c_uint32, ScriptNumbers, _SIZE],
 }
 
 
@@ -126,4 +128,11 @@ def write_plan(plan, scripts, out, out_length):
     """Writes the canonical text of plan and scripts to the start of out; the answer's four numbers."""
     answer = Answer()
     load().pirkvezo_write_plan(plan, PLAN, scripts, SCRIPTS, out, out_length, answer, ANSWER)
+    return tuple(answer)
+
+
+def latest(plan, domain, script):
+    """How late a domain can finish a window, and a script that does so; the answer's four numbers."""
+    answer = Answer()
+    load().pirkvezo_latest(plan, PLAN, domain, script, SCRIPT, answer, ANSWER)
     return tuple(answer)

@@ -1,13 +1,14 @@
 """A plan as Python values, read by the proved library."""
 import ctypes
 import dataclasses
-from typing import List, Tuple
+from typing import List, Tuple, Union
 
 from . import library
 from .refusals import TEXT_BYTES, Refused
 
 OP_KINDS = ("read", "write", "send", "receive", "compute")
-SCRIPT_LENGTH = 256
+SCRIPT_LENGTH = library.SCRIPT
+NO_LATEST = 18
 
 
 @dataclasses.dataclass(frozen=True)
@@ -60,12 +61,57 @@ def decode(number):
     return Op(word, other, value) if known else None
 
 
+def decode_script(numbers) -> List[Op]:
+    """The ops of a script's numbers, up to its end.
+
+    >>> decode_script([1048579, 0, 1048579])
+    [Op(kind='read', other=0, value=3)]
+    """
+    found = []
+    for number in numbers:
+        op = decode(number)
+        if op is None:
+            break
+        found.append(op)
+    return found
+
+
+@dataclasses.dataclass(frozen=True)
+class Latest:
+    """The latest finish of a domain's windows: the ticks from a window's end until the switch has emptied L1.
+
+    `Plan.latest` makes it; the ticks and `script`, 256 stored numbers, are the library's. In no run from a
+    fresh start does a window of the domain take more ticks, whatever any script holds. With this script its
+    first window takes exactly these, where its part of the log has room for 256 records.
+
+        >>> latest = read(open("examples/late_finish.plan", "rb").read()).latest(0)
+        >>> latest
+        Latest(domain=0, ticks=260)
+        >>> len(latest.ops), latest.lines[0], latest.lines[-1]
+        (29, '(op 0 (write 0))', '(op 0 (send 1 0))')
+    """
+    domain: int
+    ticks: int
+    script: Tuple[int, ...] = dataclasses.field(repr=False)
+
+    @property
+    def ops(self) -> List[Op]:
+        """The script's ops."""
+        return decode_script(self.script)
+
+    @property
+    def lines(self) -> List[str]:
+        """The script as op lines of a plan."""
+        return [f"(op {self.domain} {op})" for op in self.ops]
+
+
 @dataclasses.dataclass(frozen=True)
 class Plan:
     """An accepted plan. `read` makes it; `numbers` and `scripts` are what the library wrote.
 
     Windows count from 0 over all repeats. Sums that a plan implies are worked out here from the
-    library's numbers; they decide nothing. The bound and the canonical text are the library's own.
+    library's numbers; they decide nothing. The bound, the canonical text and the latest finishes are
+    the library's own.
 
         >>> plan = read(open("examples/worked_example.plan", "rb").read())
         >>> plan.pad, plan.run, plan.shares, plan.recipients
@@ -145,6 +191,39 @@ class Plan:
                                 "that it is of. It is proved to, so the desk or its library is at fault.")
         return text
 
+    def latest(self, domain) -> Latest:
+        """How late the domain can finish a window, with a script that does so; or raises Refused.
+
+        It is refused (18) where the domain is not declared, has no window, or has one that is not of
+        4000 to 20000 ticks. No script of the plan is looked at.
+        """
+        if not isinstance(domain, int) or not 0 <= domain < 2**32:
+            raise ValueError("a domain is a number from 0 on")
+        script = library.ScriptNumbers()
+        number, companion, ticks = library.latest(library.PlanNumbers(*self.numbers), domain, script)[:3]
+        if number:
+            # the text has the cause, unless the numbers were changed by hand
+            raise Refused(number, companion, self.text if _given_by(self.text)[1] == self.numbers else None)
+        found = Latest(domain, ticks, tuple(script))
+        if ticks > self.numbers[0]:
+            raise _broken(f"domain {domain} finishes {ticks} ticks late, and the pad has {self.numbers[0]}")
+        if any(script[len(found.ops):]):
+            raise _broken(f"the script for domain {domain} has a number behind its ops")
+        return found
+
+    @property
+    def latest_of_each(self) -> List[Union[Latest, Refused]]:
+        """The latest finish of each declared domain; in its place, why it is refused (18)."""
+        found = []
+        for domain in range(self.domains):
+            try:
+                found.append(self.latest(domain))
+            except Refused as refused:
+                if refused.number != NO_LATEST:
+                    raise
+                found.append(refused)
+        return found
+
     def window(self, k) -> Window:
         """The window with index k of the run."""
         if not 0 <= k < self.windows_total:
@@ -167,13 +246,13 @@ class Plan:
         """The domain's ops, up to the end of its script."""
         if not 0 <= domain < self.domains:
             raise IndexError(f"domain {domain} of {self.domains}")
-        found = []
-        for number in self.scripts[SCRIPT_LENGTH * domain:SCRIPT_LENGTH * (domain + 1)]:
-            op = decode(number)
-            if op is None:
-                break
-            found.append(op)
-        return found
+        return decode_script(self.scripts[SCRIPT_LENGTH * domain:SCRIPT_LENGTH * (domain + 1)])
+
+
+def _broken(words):
+    # proved not to happen: raised so that a fault of the desk itself cannot pass unseen
+    return library.Fault(f"THIS MUST NOT HAPPEN: {words}. It is proved not to, so the desk or its library "
+                         "is at fault.")
 
 
 def _given_by(text):

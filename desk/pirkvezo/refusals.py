@@ -1,13 +1,14 @@
 """Words for a refusal: where in the text it is, what is wrong there, and what would fix it.
 
-The library says the number and its companion. What is here looks at the text beside them, or at the
-numbers that a frame was asked for with, and only puts them into words; it never judges by itself.
+The library says the number and its companion. What is here looks at the plan's text beside them, or at
+the numbers that a frame was asked for with, and only puts them into words; it never judges by itself.
 """
 import dataclasses
 import difflib
 import re
 from typing import List, Optional, Tuple
 
+from .layout import count
 from .shares import COLOURS, SHARES, colours_of, least_share, mended
 
 TEXT_BYTES, TICKS, WINDOWS, OPS, LEAST_SHARE = 32768, 4294967295, 32, 256, least_share(1)
@@ -21,6 +22,7 @@ CALLS = {
     15: "the window count or a weight is outside its limits, or all weights are 0",
     16: f"the shares give more than {COLOURS} colours",
     17: "the lent buffer is too short for the canonical text",
+    18: "the domain is not declared, has no window, or has one that is too short or too long",
 }
 
 BYTES = {
@@ -62,6 +64,8 @@ DOMAIN = Number("domain", 0, 7)
 LINE, WORD = Number("line", 0, 65535), Number("word", 0, 65535)
 LENGTH = Number("length", 1, 1000000)
 COUNT, WEIGHT = Number("window count", 1, 32), Number("weight", 0, 1000)
+# of every window of a domain whose latest finish is asked for
+LATEST_LENGTH = Number("length", 4000, 20000)
 OP_NUMBERS = {
     "read": [LINE], "write": [LINE], "send": [Number("recipient", 0, 7), WORD],
     "receive": [Number("sender", 0, 7)], "compute": [Number("number of ticks", 1, 200)],
@@ -87,7 +91,7 @@ RECIPIENTS_AT = 9
 
 @dataclasses.dataclass(frozen=True)
 class Explanation:
-    """Line and column count from 1, the column in characters; both None where no text was read."""
+    """Line and column count from 1, the column in characters; both None where no line is at fault."""
     offset: Optional[int]
     line: Optional[int]
     column: Optional[int]
@@ -96,8 +100,8 @@ class Explanation:
 
 
 class Refused(Exception):
-    """A call that the library refused: its number and companion, with words for a reading's text,
-    or for what a frame was asked for with: the window count and the weights.
+    """A call that the library refused: its number and companion, with words for the plan's text, or for
+    what a frame was asked for with: the window count and the weights.
 
         >>> refused = Refused(7, 1100, b"(domain 0 (share 600) (may))\\n(domain 1 (share 500) (may))")
         >>> refused.line, refused.column, refused.words
@@ -171,10 +175,10 @@ def explain(number: int, companion: int, text: Optional[bytes],
     """Words for a refusal; without a text, for a frame or for a call that was lent tables."""
     if number == 15 and asked is not None:
         return Explanation(None, None, None, *_no_frame(*asked))
-    if text is None or number not in _READING:
+    if text is None or number not in _BY_TEXT:
         return Explanation(None, None, None, *_lent(number, companion))
-    offset, words, fix = _READING[number](companion, text)
-    line, column = line_and_column(text, offset)
+    offset, words, fix = _BY_TEXT[number](companion, text)
+    line, column = (None, None) if offset is None else line_and_column(text, offset)
     return Explanation(offset, line, column, words, fix)
 
 
@@ -440,7 +444,25 @@ def _no_frame(count, weights):
     return CALLS[15], ""
 
 
-_READING = {
+def _no_latest(domain, text):
+    """Offset, cause and fix where a domain's latest finish is not told; no offset where no line is at fault."""
+    declared, limits = forms(text, "domain"), f"{LATEST_LENGTH.low} to {LATEST_LENGTH.high}"
+    if domain >= len(declared):
+        others = "domain 0" if len(declared) == 1 else f"one of the domains 0 to {len(declared) - 1}"
+        return None, f"the plan does not declare domain {domain}", f"ask for {others}"
+    lengths = [line[5] for line in forms(text, "window") if int(line[2].text) == domain]
+    if not lengths:
+        return declared[domain][0].offset, f"domain {domain} has no window", f"give it one of {limits} ticks"
+    for length in lengths:
+        if not LATEST_LENGTH.low <= int(length.text) <= LATEST_LENGTH.high:
+            ticks = count(int(length.text), "tick")
+            return length.offset, f"domain {domain} has a window of {ticks}, outside {limits}", \
+                f"give each of its windows {limits} ticks"
+    return None, CALLS[18], ""
+
+
+# those of a reading, and 18, whose cause stands in the text too
+_BY_TEXT = {
     1: _too_long, 2: _shape, 3: _range, 4: _undeclared, 5: _missing, 6: _no_colour, 7: _oversold,
-    8: _listed_twice, 9: _too_many_ticks, 10: _too_many, 16: _too_many_colours,
+    8: _listed_twice, 9: _too_many_ticks, 10: _too_many, 16: _too_many_colours, 18: _no_latest,
 }

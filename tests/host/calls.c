@@ -1,7 +1,7 @@
 /* A whole list of calls: a plan is read, started, run in parts and to its end, and each domain's
  * log is asked for; then runs limited by the step bound; then calls that are refused, which change
- * nothing; then frames by weights; then a plan written back. tests/host/expected.txt is what it
- * prints. */
+ * nothing; then frames by weights; then a plan written back; then how late a domain can finish, with
+ * a run that does so. tests/host/expected.txt is what it prints. */
 #include <inttypes.h>
 #include <stdio.h>
 #include <string.h>
@@ -21,6 +21,7 @@ static uint8_t log_bytes[LOG];
 static uint64_t answer[PIRKVEZO_ANSWER];
 static uint32_t frame[PIRKVEZO_FRAME];
 static uint8_t out[OUT];
+static uint32_t script[PIRKVEZO_SCRIPT];
 
 static const char *const settled =
     "(pad 276)\n"
@@ -34,6 +35,15 @@ static const char *const settled =
     "(op 0 (send 1 77))\n"
     "(op 1 (receive 0))\n"
     "(op 1 (read 100))\n";
+
+/* Fourteen colours and one right to send; the other domain has the fifteenth colour. */
+static const char *const long_windows =
+    "(pad 276)\n"
+    "(domain 0 (share 934) (may 1))\n"
+    "(domain 1 (share 66) (may))\n"
+    "(window 0 (length 4000))\n"
+    "(window 1 (length 20000))\n"
+    "(run 1)\n";
 
 /* What was called, what it returned, and its answer. */
 static void print_call(const char *call, uint32_t number)
@@ -298,6 +308,101 @@ static void writings(void)
     printf("plan and scripts: %s\n", same ? "the same" : "others");
 }
 
+/* The buffer is full of a number that no op has. */
+static uint32_t latest(uint32_t domain, size_t plan_length, size_t script_length, size_t answer_length)
+{
+    memset(script, 255, sizeof script);
+    return pirkvezo_latest(plan, plan_length, domain, script, script_length, answer, answer_length);
+}
+
+static uint32_t latest_of(uint32_t domain)
+{
+    return latest(domain, PIRKVEZO_PLAN, PIRKVEZO_SCRIPT, PIRKVEZO_ANSWER);
+}
+
+/* The call, and all of the buffer after it: each number, and how often it stands there in a row. */
+static void print_latest(const char *call, uint32_t number)
+{
+    print_call(call, number);
+    printf("the script:");
+    for (size_t at = 0, next; at < PIRKVEZO_SCRIPT; at = next) {
+        for (next = at + 1; next < PIRKVEZO_SCRIPT && script[next] == script[at];) {
+            next++;
+        }
+        printf(" %" PRIu32, script[at]);
+        if (next - at > 1) {
+            printf(" x %zu", next - at);
+        }
+    }
+    printf("\n");
+}
+
+/* First a wrong length, then an impossible plan, then what is wrong with the domain. Windows of others
+ * are not looked at. */
+static void refused_latest(void)
+{
+    print_latest("latest, a plan of 91 numbers", latest(0, PIRKVEZO_PLAN - 1, PIRKVEZO_SCRIPT, PIRKVEZO_ANSWER));
+    print_latest("latest, a script of 255 numbers", latest(0, PIRKVEZO_PLAN, PIRKVEZO_SCRIPT - 1, PIRKVEZO_ANSWER));
+    memset(answer, 255, sizeof answer);
+    print_latest("latest, an answer of 3 numbers", latest(0, PIRKVEZO_PLAN, PIRKVEZO_SCRIPT, PIRKVEZO_ANSWER - 1));
+
+    plan[84] += 65536;
+    print_latest("latest, a colour mask of 17 bits", latest_of(0));
+    print_latest("latest, the same and a domain that is not declared", latest_of(2));
+    print_latest("latest, the same and a script of 255 numbers",
+                 latest(2, PIRKVEZO_PLAN, PIRKVEZO_SCRIPT - 1, PIRKVEZO_ANSWER));
+    plan[84] -= 65536;
+
+    print_latest("latest, a domain that is not declared", latest_of(2));
+    print_latest("latest, the largest number of a domain", latest_of(UINT32_MAX));
+    plan[21] = 0;
+    print_latest("latest, a domain without a window", latest_of(1));
+    plan[21] = 1;
+    plan[52] = 3999;
+    print_latest("latest, a window of 3,999 ticks", latest_of(0));
+    plan[52] = 4000;
+    plan[53] = 20001;
+    print_latest("latest, a window of 20,001 ticks", latest_of(1));
+    print_latest("latest, the domain beside it", latest_of(0));
+    plan[53] = 20000;
+}
+
+/* The script's ops run in the first window, up to its switch. What that will wait for is in the clock
+ * and the cache table: each flush takes 8 ticks, and the kernel's sets one more for each line, L1 two
+ * more for each dirty line. */
+static void late_run(void)
+{
+    uint64_t late = 16;
+    memcpy(scripts, script, sizeof script);
+    print_call("fresh_start, with this script", start());
+    for (size_t op = 0; op < PIRKVEZO_SCRIPT && script[op] != 0; op++) {
+        step();
+    }
+    for (size_t at = 0; at < 16; at++) {
+        late += cache[at] >= 32768 ? 2 : 0;
+    }
+    for (size_t at = 256; at < PIRKVEZO_CACHE; at++) {
+        late += cache[at] != 0 ? 1 : 0;
+    }
+    printf("clock %" PRIu64 " in window %" PRIu64 ", which finishes %" PRIu64 " ticks after its end\n",
+           state[1], state[0], state[1] - 4000 + late);
+    print_call("step, the switch", step());
+    printf("clock %" PRIu64 " in window %" PRIu64 "\n", state[1], state[0]);
+}
+
+/* How late a domain can finish, and a script that does so. */
+static void latest_finishes(void)
+{
+    print_call("read_plan, long windows", read_text(long_windows));
+    refused_latest();
+    print_latest("latest, domain 1", latest_of(1));
+    plan[12] = 0;
+    print_latest("latest, domain 0 without its right to send", latest_of(0));
+    plan[12] = 2;
+    print_latest("latest, domain 0", latest_of(0));
+    late_run();
+}
+
 int main(void)
 {
     static struct tables before, after;
@@ -310,5 +415,6 @@ int main(void)
     printf("tables after the refused calls: %s\n", memcmp(&before, &after, sizeof before) == 0 ? "as before" : "changed");
     frames();
     writings();
+    latest_finishes();
     return 0;
 }

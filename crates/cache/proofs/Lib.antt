@@ -1,5 +1,5 @@
 -- The laws of the cache that other crates cite.
-mod Counts
+pub mod Counts
 pub mod Emptied
 pub mod Laws
 pub mod Outcome

@@ -6,4 +6,5 @@ pub mod Texts
 pub mod Isolation
 pub mod StepBounds
 pub mod WrittenBack
+pub mod Latest
 pub mod Examples

@@ -2,3 +2,4 @@ pub mod Calls
 pub mod Statement
 pub mod StepBounds
 pub mod WrittenBack
+pub mod Latest

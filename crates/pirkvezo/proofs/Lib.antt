@@ -9,6 +9,7 @@ pub mod Calls
 pub mod Bounds
 pub mod Frames
 pub mod Writes
+pub mod Finishes
 pub mod Kept
 pub mod ReadBack
 pub mod StateBack

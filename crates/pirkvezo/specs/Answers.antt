@@ -40,7 +40,8 @@ answerOf verdict third fourth answer =
 abbrev pub wrongLength : Verdict
 wrongLength = Refused WrongLength
 
--- the lengths that reading, asking for a step bound and writing ask for, before all else
+-- the lengths that reading, writing and asking for a step bound or a latest finish ask for, before
+-- all else
 abbrev pub planFits : List ℕ → List ℕ → Bool
 planFits plan answer = eqb (length plan) planLength && eqb (length answer) answerLength
 

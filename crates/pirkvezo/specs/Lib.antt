@@ -8,4 +8,5 @@ pub mod Running
 pub mod LogQuery
 pub mod Framing
 pub mod Writing
+pub mod Finishing
 pub mod Theorems

@@ -1,7 +1,8 @@
--- What the library promises beside the single calls. A refused fresh start, step, run or
--- writing leaves what it was lent (document 01, "The plan text"). What a call leaves is what the next call takes: a host
--- that lends on the numbers it got runs one machine (document 01, "Two lists of calls"). A frame is
--- made exactly when it can be, and keeps its promises (document 02, E1). Assumes nothing.
+-- What the library promises beside the single calls. A refused fresh start, step, run, writing or
+-- asking for a latest finish leaves what it was lent (document 01, "The plan text"). What a call
+-- leaves is what the next call takes: a host that lends on the numbers it got runs one machine
+-- (document 01, "Two lists of calls"). A frame is made exactly when it can be, and keeps its promises
+-- (document 02, E1). Assumes nothing.
 use mathlib.Core.Bool.{true}
 use mathlib.Core.Logic.{_↔_, _⊎_}
 use mathlib.Core.Path.{_≡_}
@@ -18,6 +19,7 @@ use Rattle.engine.specs.FreshStart.{freshStartOf}
 use Rattle.engine.specs.LogQuery.{logQueryOf}
 use Rattle.engine.specs.Running.{runCallOf}
 use Rattle.frame.specs.Theorems.{FrameByWeights, WithinLimits}
+use Rattle.pirkvezo.specs.Finishing.{hostLatest}
 use Rattle.pirkvezo.specs.Framing.{frameFits, hostFrame}
 use Rattle.pirkvezo.specs.LogQuery.{logAnswerOf}
 use Rattle.pirkvezo.specs.Numbers.{planNumbers, planOf, stateNumbers, stateOf}
@@ -58,6 +60,13 @@ RefusedWriteKeeps =
     (plan scripts out answer : List ℕ)
     → (hostWrite plan scripts out answer .number ≡ 0 → ⊥)
     → hostWrite plan scripts out answer .out ≡ out
+
+-- a refused asking for a latest finish leaves the buffer for its script
+abbrev pub RefusedLatestKeeps : Type 0
+RefusedLatestKeeps =
+    (plan : List ℕ) (domain : ℕ) (script answer : List ℕ)
+    → (hostLatest plan domain script answer .number ≡ 0 → ⊥)
+    → hostLatest plan domain script answer .script ≡ script
 
 -- ---- numbers that are lent again
 

@@ -2,6 +2,7 @@
 // takes any input, and returns the refusal's number.
 pub mod answers;
 pub mod bounding;
+pub mod finishing;
 pub mod framing;
 pub mod log_query;
 pub mod offsets;

@@ -36,8 +36,7 @@ fn mask_from(first: u32, count: u32) -> u16
     mask as u16
 }
 
-// How many colours a domain's mask holds: document 01's holding. No crate here asks for it; a program
-// over these crates may.
+// How many colours a domain's mask holds: document 01's holding.
 pub fn holding(plan: Plan, domain: usize) -> u32
     ensures { λ r. ⌜ r ≡ holdingOf plan domain ⌝ }
 {

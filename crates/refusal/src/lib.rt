@@ -2,8 +2,8 @@
 ghost use mathlib.Core.Path.{_≡_};
 ghost use Rattle.refusal.specs.Code.{codeOf, codeWith, refusalCode};
 
-// The rows of document 01's table of refusals, and those that document 02 adds (15 by E1, 16 by E2, 17 by E4),
-// one case each. What a case holds is its companion.
+// The rows of document 01's table of refusals, and those that document 02 adds (15 by E1, 16 by E2,
+// 17 by E4, 18 by E6), one case each. What a case holds is its companion.
 pub enum Refusal {
     TextTooLong,
     BrokenShape(usize),
@@ -22,6 +22,7 @@ pub enum Refusal {
     FrameOutOfLimits,
     ColoursOverFifteen(usize),
     BufferTooShort(usize),
+    LatestOutOfLimits(usize),
 }
 
 // What a call answers of itself: that it did its work, or why it did nothing.
@@ -65,6 +66,7 @@ fn refusal_code(refusal: Refusal) -> Code
         Refusal::FrameOutOfLimits => code_with(15, 0),
         Refusal::ColoursOverFifteen(total) => code_with(16, total),
         Refusal::BufferTooShort(needed) => code_with(17, needed),
+        Refusal::LatestOutOfLimits(domain) => code_with(18, domain),
     }
 }
 

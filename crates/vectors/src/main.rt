@@ -19,6 +19,7 @@ use libc::STDOUT_FILENO;
 use pirkvezo::answers::ending_number;
 use pirkvezo::answers::put_answer;
 use pirkvezo::bounding::pirkvezo_step_bound;
+use pirkvezo::finishing::pirkvezo_latest;
 use pirkvezo::framing::pirkvezo_frame;
 use pirkvezo::log_query::pirkvezo_log;
 use pirkvezo::offsets::ANSWER_LENGTH;
@@ -705,6 +706,31 @@ fn ask_bound(example: Example, fields: &[u8]) {
     print(b"\n");
 }
 
+// latest LABEL D FIRST COUNT: the latest that domain D can finish, with COUNT numbers of the
+// scripts, from index FIRST on, as the buffer for its script. Prints the answer's four numbers.
+fn ask_latest(example: Example, fields: &[u8]) -> Example {
+    let mut next = example;
+    let plan = example.plan;
+    let mut scripts_room = example.scripts;
+    let scripts: &mut [u32] = &mut scripts_room;
+    let mut answer = [0u64; ANSWER_LENGTH];
+    let lent = rest(rest(fields));
+    let first = at_most(small(lent), scripts.len());
+    let end = first + at_most(small(rest(lent)), scripts.len() - first);
+    pirkvezo_latest(
+        &plan,
+        word32(rest(fields)),
+        &mut scripts[first..end],
+        &mut answer,
+    );
+    print_answer(word(fields), answer);
+    print_number(answer[2]);
+    print_number(answer[3]);
+    print(b"\n");
+    next.scripts = scripts_room;
+    next
+}
+
 // How many bytes are filler, up to the first that is not.
 fn untouched(bytes: &[u8]) -> usize {
     let mut count: usize = 0;
@@ -793,6 +819,9 @@ fn obey(example: Example, line: &[u8]) -> Example {
     if same(command, b"bound") {
         ask_bound(example, fields);
         return example;
+    }
+    if same(command, b"latest") {
+        return ask_latest(example, fields);
     }
     if same(command, b"write") {
         write_plan(example, fields);

@@ -2,4 +2,5 @@ pub mod Reading
 pub mod WorkedExample
 pub mod ShareExamples
 pub mod BoundExamples
+pub mod LatestExamples
 pub mod WriteExamples

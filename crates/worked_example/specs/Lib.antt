@@ -3,3 +3,4 @@ pub mod WorkedExample
 pub mod ShareExamples
 pub mod BoundExamples
 pub mod WriteExamples
+pub mod LatestExamples

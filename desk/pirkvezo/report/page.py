@@ -3,6 +3,7 @@ from collections import Counter
 
 from ..history import history
 from ..layout import count, ranges, signed
+from ..plans import Latest
 from ..refusals import excerpt, shown
 from ..shares import COLOURS, SHARES, rounded
 from .markup import escape, table
@@ -144,7 +145,17 @@ def _time(plan, run):
     pads_all = plan.ticks_total - sold_all
     rows.append(["in all", plan.windows_total, sold_all, pads_all, f"{_percent(sold_all, plan)} %"])
     return ("<h2>Windows of time</h2>\n<p>One round, to scale:</p>\n" + round_picture(plan)
-            + table(("Domain", "Windows", "Ticks sold", "Ticks for pads", "Sold of the run"), rows))
+            + table(("Domain", "Windows", "Ticks sold", "Ticks for pads", "Sold of the run"), rows)
+            + _latest(plan))
+
+
+def _latest(plan):
+    """How much of the pad each domain can use; nothing where the library tells it of none."""
+    told = [f"{one.ticks} for domain {one.domain}" for one in plan.latest_of_each if isinstance(one, Latest)]
+    if not told:
+        return ""
+    return (f"<p>The library says how many of the pad's {plan.pad} ticks a domain can use at most: "
+            f"{', '.join(told)}. They count from a window's end until the switch has emptied L1.</p>\n")
 
 
 def _percent(part, plan):

@@ -11,8 +11,8 @@ pub struct Pair<'e> {
     world: World,
 }
 
-/// Two engines, frame makers, bounders or writers that do not agree, or one that
-/// breaks a law.
+/// Two engines, frame makers, bounders, writers or lateness finders that do not agree,
+/// or one that breaks a law.
 #[derive(Clone, Debug)]
 pub struct Difference(pub(crate) String);
 

@@ -6,8 +6,9 @@
 //! lists of calls from a seed, and each call's answer and everything that it
 //! was lent are held against each other byte by byte. An
 //! [`engine::FrameMaker`] has document 02's frame maker, an [`engine::Bounder`] its
-//! bound of a run's steps, an [`engine::Writer`] its plan written back, and all three
-//! are treated alike.
+//! bound of a run's steps, an [`engine::Writer`] its plan written back, an
+//! [`engine::LatenessFinder`] its latest end of a domain, and all four are treated
+//! alike.
 
 pub mod bound;
 pub mod canonical;
@@ -17,6 +18,7 @@ pub mod frame;
 pub mod generate;
 pub mod guarded;
 pub mod isolation;
+pub mod latest;
 pub mod laws;
 pub mod rng;
 pub mod seed;

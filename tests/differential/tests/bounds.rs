@@ -15,7 +15,7 @@ use pirkvezo_differential::generate::bounds::{
 use pirkvezo_differential::generate::disturb::disturb;
 use pirkvezo_differential::generate::lists::{random_call, random_world};
 use pirkvezo_differential::generate::scatter::scatter;
-use pirkvezo_differential::generate::sketch::Sketch;
+use pirkvezo_differential::generate::sketch::{Act, Sketch};
 use pirkvezo_differential::generate::write::Style;
 use pirkvezo_differential::guarded::Guarded;
 use pirkvezo_differential::rng::Rng;
@@ -224,19 +224,12 @@ fn numbers_at_their_limits() {
     for kind in (0..=17).chain([4_095]) {
         for other in 0..16 {
             for value in values {
-                let is_op = match kind {
-                    1 | 2 => other == 0,
-                    3 => other < 8,
-                    4 => other < 8 && value == 0,
-                    5 => other == 0 && (1..=200).contains(&value),
-                    _ => false,
-                };
                 let number = kind << 20 | other << 16 | value;
                 let script = 256 * (other as usize % 8);
                 let mut store = [0; SCRIPTS];
                 store[script..script + 256].fill(RUNS);
                 store[script + 2] = number;
-                let ops = if is_op { 256 } else { 2 };
+                let ops = if Act::is_stored(number) { 256 } else { 2 };
                 trial.tell(&BoundCall::new(&plan, &store), ops + 6, &number);
             }
         }

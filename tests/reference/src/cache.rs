@@ -7,7 +7,8 @@ use crate::geometry::Line;
 /// How many numbers the cache table has.
 pub const TABLE: usize = L1 + SETS * WAYS;
 
-const L1: usize = 16;
+/// How many indexes L1 has.
+pub const L1: usize = 16;
 const SETS: usize = 64;
 const WAYS: usize = 4;
 const DIRTY: u16 = 32_768;
@@ -78,6 +79,17 @@ impl<'a> Cache<'a> {
         let dirty = self.l1.iter().filter(|held| **held & DIRTY != 0).count();
         self.l1.fill(0);
         8 + 2 * dirty as u64
+    }
+
+    /// The line that L1 holds at this index, if any, and whether it is dirty.
+    pub fn near(&self, index: usize) -> (Option<Line>, bool) {
+        let held = self.l1[index];
+        (Line::from_tag(held & !DIRTY), held & DIRTY != 0)
+    }
+
+    /// How many lines this L2 set holds.
+    pub fn count(&self, set: usize) -> usize {
+        self.l2[set].iter().filter(|held| **held != 0).count()
     }
 
     pub fn clear(&mut self) {

@@ -1,5 +1,6 @@
 //! The limits of the numbers in a plan: document 01, "The plan text". Those of a
-//! frame: document 02, E1. The limit of all colours together: document 02, E2.
+//! frame: document 02, E1. The limit of all colours together: document 02, E2. The
+//! windows of a domain whose latest end is told: document 02, E6.
 
 use std::ops::RangeInclusive;
 
@@ -33,3 +34,5 @@ pub const COMPUTE: RangeInclusive<u32> = 1..=200;
 pub const FRAME: RangeInclusive<u32> = 1..=WINDOWS as u32;
 /// What each domain weighs in a frame.
 pub const WEIGHT: RangeInclusive<u32> = 0..=1_000;
+/// Each window of a domain whose latest end is told.
+pub const LATEST: RangeInclusive<u32> = 4_000..=20_000;

@@ -68,12 +68,25 @@ pub fn run(
     lent: Lent,
     limit: u64,
 ) -> Result<Progress, Refusal> {
+    run_watched(plan, scripts, state, lent, limit, |_, _| ())
+}
+
+/// Does the same, and shows each window that it completes, with the tick at which
+/// the window's switch has emptied L1.
+pub fn run_watched(
+    plan: &Plan,
+    scripts: &[u32],
+    state: &mut State,
+    lent: Lent,
+    limit: u64,
+    mut completed: impl FnMut(Turn, u64),
+) -> Result<Progress, Refusal> {
     let mut machine = Machine::admit(plan, scripts, state, lent)?;
     let mut left = limit;
     while let Some(turn) = machine.turn.filter(|_| left > 0) {
         left -= machine.work(turn, left);
         if left > 0 {
-            machine.switch(turn);
+            completed(turn, machine.switch(turn));
             left -= 1;
         }
     }
@@ -155,13 +168,16 @@ impl<'a> Machine<'a> {
         done
     }
 
-    fn switch(&mut self, turn: Turn) {
+    /// Gives the tick at which L1 is empty, before the pad.
+    fn switch(&mut self, turn: Turn) -> u64 {
         let state = &mut *self.state;
         state.clock = state.clock.max(turn.end);
         state.clock += self.cache.flush_kernel_sets();
         state.clock += self.cache.flush_l1();
+        let emptied = state.clock;
         state.completed += 1;
-        state.clock = state.clock.max(turn.end + u64::from(self.plan.pad));
+        state.clock = emptied.max(turn.end + u64::from(self.plan.pad));
         self.turn = self.schedule.following(turn, state.completed);
+        emptied
     }
 }

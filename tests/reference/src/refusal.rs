@@ -1,5 +1,5 @@
 //! The refusals: the table in document 01, "The plan text", and from document 02
-//! 15 (E1), 16 (E2) and 17 (E4).
+//! 15 (E1), 16 (E2), 17 (E4) and 18 (E6).
 
 /// Why a call was refused. Offsets are in bytes from the text's start.
 #[derive(Clone, Copy, Debug, PartialEq, Eq)]
@@ -38,6 +38,8 @@ pub enum Refusal {
     Colours { total: u32 },
     /// 17: a buffer shorter than the text to be written.
     Room { needed: usize },
+    /// 18: a domain that no latest end is told of.
+    Latest { domain: u32 },
 }
 
 impl Refusal {
@@ -61,6 +63,7 @@ impl Refusal {
             Refusal::Frame => 15,
             Refusal::Colours { .. } => 16,
             Refusal::Room { .. } => 17,
+            Refusal::Latest { .. } => 18,
         }
     }
 
@@ -78,6 +81,7 @@ impl Refusal {
             Refusal::Shares { sum } => u64::from(sum),
             Refusal::Colours { total } => u64::from(total),
             Refusal::Room { needed } => needed as u64,
+            Refusal::Latest { domain } => u64::from(domain),
             Refusal::TooLong
             | Refusal::Ticks
             | Refusal::TableLength

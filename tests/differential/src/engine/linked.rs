@@ -1,14 +1,14 @@
 //! The linked library behind the plain interfaces.
 
-use super::{Bounder, FrameMaker, Writer};
+use super::{Bounder, FrameMaker, LatenessFinder, Writer};
 
 crate::c_engine! {
     /// The library that PIRKVEZO_LIB names.
     pub struct Linked, "library", "pirkvezo_"
 }
 
-// The peer makes no frames, tells no bounds and writes no plans, so these functions
-// are not among those of the macro.
+// The peer makes no frames, tells no bounds, writes no plans and finds no latest ends,
+// so these functions are not among those of the macro.
 extern "C" {
     fn pirkvezo_frame(
         count: u32,
@@ -36,6 +36,16 @@ extern "C" {
         scripts_len: usize,
         out: *mut u8,
         out_len: usize,
+        answer: *mut u64,
+        answer_len: usize,
+    ) -> u32;
+
+    fn pirkvezo_latest(
+        plan: *const u32,
+        plan_len: usize,
+        domain: u32,
+        script: *mut u32,
+        script_len: usize,
         answer: *mut u64,
         answer_len: usize,
     ) -> u32;
@@ -97,6 +107,27 @@ impl Writer for Linked {
                 scripts.len(),
                 out.as_mut_ptr(),
                 out.len(),
+                answer.as_mut_ptr(),
+                answer.len(),
+            )
+        }
+    }
+}
+
+impl LatenessFinder for Linked {
+    fn name(&self) -> &'static str {
+        "library"
+    }
+
+    fn latest(&self, plan: &[u32], domain: u32, script: &mut [u32], answer: &mut [u64]) -> u32 {
+        // As above.
+        unsafe {
+            pirkvezo_latest(
+                plan.as_ptr(),
+                plan.len(),
+                domain,
+                script.as_mut_ptr(),
+                script.len(),
                 answer.as_mut_ptr(),
                 answer.len(),
             )

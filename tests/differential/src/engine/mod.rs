@@ -1,10 +1,11 @@
 //! Document 01's entry points over plain numbers, whoever implements them, and
-//! beside them document 02's frame maker, its bound of a run's steps and its plan
-//! written back.
+//! beside them document 02's frame maker, its bound of a run's steps, its plan
+//! written back and its latest end of a domain.
 
 mod bounder;
 mod c_engine;
 mod frame_maker;
+mod lateness_finder;
 #[cfg(linked)]
 mod linked;
 mod reference;
@@ -12,6 +13,7 @@ mod writer;
 
 pub use bounder::{bounder_under_test, Bounder};
 pub use frame_maker::{frame_maker_under_test, FrameMaker, FRAME, WEIGHTS};
+pub use lateness_finder::{lateness_finder_under_test, LatenessFinder, SCRIPT};
 #[cfg(linked)]
 use linked::Linked;
 pub use reference::Reference;

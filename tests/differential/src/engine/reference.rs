@@ -1,6 +1,6 @@
 //! The reference behind the plain interfaces.
 
-use super::{Bounder, Engine, FrameMaker, Tables, Writer, ANSWER, PLAN, STATE};
+use super::{Bounder, Engine, FrameMaker, LatenessFinder, Tables, Writer, ANSWER, PLAN, STATE};
 use pirkvezo_reference::flat::{plan_from_flat, plan_to_flat, state_from_flat, state_to_flat};
 use pirkvezo_reference::{self as reference, Lent, Outcome, Plan, Progress, Refusal};
 
@@ -118,6 +118,23 @@ impl Writer for Reference {
         };
         match outcome {
             Ok(written) => tell([0, 0, written as u64, 0], answer),
+            Err(refusal) => refuse(refusal, answer),
+        }
+    }
+}
+
+impl LatenessFinder for Reference {
+    fn name(&self) -> &'static str {
+        "reference"
+    }
+
+    fn latest(&self, plan: &[u32], domain: u32, script: &mut [u32], answer: &mut [u64]) -> u32 {
+        let outcome = match (plan.try_into(), answer.len()) {
+            (Ok(plan), ANSWER) => reference::write_latest(&taken(plan), domain, script),
+            _ => Err(Refusal::TableLength),
+        };
+        match outcome {
+            Ok(ticks) => tell([0, 0, ticks, 0], answer),
             Err(refusal) => refuse(refusal, answer),
         }
     }

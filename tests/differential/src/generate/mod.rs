@@ -1,5 +1,5 @@
 //! Generators of texts, worlds, lists of calls, and calls of a frame maker, of a
-//! bounder and of a writer.
+//! bounder, of a writer and of a lateness finder.
 
 pub mod bounds;
 pub mod bytes;
@@ -8,6 +8,8 @@ pub mod disturb;
 pub mod faults;
 pub mod frames;
 pub mod habits;
+pub mod late_scripts;
+pub mod latest;
 pub mod lists;
 pub mod mutate;
 pub mod pairs;

@@ -180,6 +180,18 @@ impl Act {
             Act::Compute(ticks) => 0x50_0000 | ticks,
         }
     }
+
+    /// Whether the store can hold this number for an op.
+    pub fn is_stored(number: u32) -> bool {
+        let (other, value) = (number >> 16 & 15, number & 0xffff);
+        match number >> 20 {
+            1 | 2 => other == 0,
+            3 => other < 8,
+            4 => other < 8 && value == 0,
+            5 => other == 0 && (1..=200).contains(&value),
+            _ => false,
+        }
+    }
 }
 
 fn recipients(rng: &mut Rng, own: u32, count: u32) -> Vec<u32> {

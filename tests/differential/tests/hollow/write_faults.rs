@@ -1,22 +1,6 @@
 //! What can be wrong with a writer.
 
-/// Defines the faults once, as cases and as a list of all that are one.
-macro_rules! faults {
-    ($($(#[$about:meta])* $fault:ident,)*) => {
-        #[derive(Clone, Copy, Debug, PartialEq, Eq)]
-        pub enum WriteFault {
-            None,
-            $($(#[$about])* $fault,)*
-        }
-
-        impl WriteFault {
-            /// All that are one.
-            pub const HOLLOW: &[WriteFault] = &[$(WriteFault::$fault,)*];
-        }
-    };
-}
-
-faults! {
+crate::faults::faults! { WriteFault:
     /// Puts a space before each inner bracket.
     SpaceBeforeOpening,
     /// Puts a space behind each opening bracket.

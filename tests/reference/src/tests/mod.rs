@@ -11,6 +11,7 @@ mod flat;
 mod frame;
 mod impossible_plans;
 mod impossible_states;
+mod latest;
 mod limits;
 mod order;
 mod readings;

@@ -1,0 +1,141 @@
+-- What an op leaves in a window of its domain, and that it ends, with the flushes after it, no later than the domain's figure
+-- where it begins in the window. Assumes nothing.
+use Prim.Native.Nat.{ℕ, _+_, _≤_, _<_}
+use mathlib.Core.Bool.{Bool, true, false, false≢true, cond, _||_}
+use mathlib.Core.List.{List}
+use mathlib.Core.Path.{_≡_, refl, sym, ap, subst, _∙_}
+use native.Mathlib.Omega.{arith}
+use lib.Dec.{ltb}
+use lib.ListN.{getD}
+use borrow.Author.Tests.{lt-ltb}
+use Rattle.lists.proofs.Tests.{first-passes, second-passes}
+use Rattle.plan.specs.declared.Plan.{Plan}
+use Rattle.plan.specs.Colours.{holdingOf}
+use Rattle.plan.specs.Limits.{domainColours, mostDomains}
+use Rattle.plan.specs.Rights.{maySend}
+use Rattle.plan.specs.Validity.{planValid}
+use Rattle.script.specs.declared.Op.{Op}
+use Rattle.script.specs.declared.Op.the-variants.{Read, Write, Send, Receive, Compute}
+use Rattle.script.specs.Limits.{OpWithinLimits, mostTicks}
+use Rattle.cache.specs.Access.{accessOf}
+use Rattle.cache.proofs.Ticks.{access-ticks}
+use Rattle.records.specs.declared.Observation.{Observation}
+use Rattle.ops.specs.Ops.{Effect, boxLine, computeOf, effectOf, kernelEntryLine, messageOf, messageTicks, ownsLine, receiveOf, touchOf}
+use Rattle.ops.proofs.Operations.{owned}
+use Rattle.latest.specs.Latest.{latestTicks}
+use Rattle.latest.specs.Reach.{hasBox, lowestColour, lowestRecipient, lowestSender, meetsKernel, ownIndices}
+use Rattle.lateness.proofs.Boxes.{box-enters}
+use Rattle.lateness.proofs.Colours.{Row, row}
+use Rattle.lateness.proofs.Entries.{entryAfter, later-enters, later-ticks, quiet-enters}
+use Rattle.lateness.proofs.Figures.{common-late, figureOf, flushesTicks, message-late}
+use Rattle.latest.proofs.Lowest.{lowest-found}
+use Rattle.lateness.proofs.Windows.{Entered, InWindow, Quiet, entered, own-in-window, quiet}
+
+-- what the tables hold in a window of a domain
+abbrev pub Inside : Plan → ℕ → List ℕ → Type 0
+Inside plan domain table = InWindow (lowestColour plan domain) (holdingOf plan domain) (hasBox plan domain) table
+
+-- what an op of a domain leaves, and how late
+pub record OpLate (plan : Plan) (domain : ℕ) (effect : Effect) : Type 0 where
+  pub in-window : Inside plan domain (effect .cache)
+  pub late : effect .ticks + flushesTicks (effect .cache) ≤ latestTicks plan domain + 1
+
+-- a domain that may exchange a message has a box
+sends-box : (plan : Plan) (domain recipient : ℕ) → recipient < mostDomains → maySend plan domain recipient ≡ true → hasBox plan domain ≡ true
+unfolding hasBox lowestRecipient
+sends-box plan domain recipient below may =
+    first-passes _ (ltb (lowestSender plan domain) mostDomains) (lt-ltb _ _ (lowest-found (maySend plan domain) mostDomains recipient below may))
+
+receives-box : (plan : Plan) (domain sender : ℕ) → sender < mostDomains → maySend plan sender domain ≡ true → hasBox plan domain ≡ true
+unfolding hasBox lowestSender
+receives-box plan domain sender below may =
+    second-passes (ltb (lowestRecipient plan domain) mostDomains) _
+    (lt-ltb _ _ (lowest-found (λ other. maySend plan other domain) mostDomains sender below may))
+
+module _ (plan : Plan) (domain : ℕ) (valid : planValid plan ≡ true) (declared : domain < plan .domains) where
+  abbrev lowest : ℕ
+  lowest = lowestColour plan domain
+
+  abbrev held : ℕ
+  held = holdingOf plan domain
+
+  colours : Row plan domain
+  colours = row plan domain valid declared
+
+  pub figure-is : latestTicks plan domain ≡ figureOf lowest held (hasBox plan domain)
+  unfolding latestTicks ownIndices meetsKernel
+  figure-is = refl
+
+  -- an op of no more ticks than the longest compute
+  common : (effect : Effect) → Inside plan domain (effect .cache) → effect .ticks ≤ mostTicks → OpLate plan domain effect
+  common effect inside few =
+      record {
+        in-window = inside;
+        late = rw figure-is (common-late lowest held (colours .within) (colours .some) (hasBox plan domain) (effect .cache) (effect .ticks) inside few);
+      }
+
+  -- no op at all
+  pub flushes-late : (table : List ℕ) → Inside plan domain table → flushesTicks table ≤ latestTicks plan domain
+  flushes-late table inside =
+      omega (arith, figure-is, common-late lowest held (colours .within) (colours .some) (hasBox plan domain) table 1 inside (omega arith))
+
+  touch-late : (writes : Bool) (line : ℕ) (table boxes : List ℕ) → Inside plan domain table → OpLate plan domain (touchOf plan domain writes line table boxes)
+  unfolding touchOf
+  touch-late writes line table boxes inside = go (ownsLine plan domain line) refl
+    where
+      go : (owns : Bool) → ownsLine plan domain line ≡ owns → OpLate plan domain (touchOf plan domain writes line table boxes)
+      go true test =
+          let own = owned plan domain line test in
+          let kept = own-in-window lowest held (hasBox plan domain) (colours .within) writes line (own .0)
+          (colours .from _ (own .1)) (colours .below _ (own .1)) table inside in
+          rw test (common _ kept (omega (arith, access-ticks writes line table)))
+      go false test = rw test (common _ inside (omega arith))
+
+  -- a message that the rights refuse, or allow, from a quiet or an entered window
+  module _ (sender recipient : ℕ) (denied passed : Observation) (number : ℕ) (table boxes : List ℕ)
+      (boxed : maySend plan sender recipient ≡ true → hasBox plan domain ≡ true) where
+    abbrev message : Effect
+    message = messageOf plan sender recipient denied passed number table boxes
+
+    enters : Inside plan domain table → Entered lowest held (hasBox plan domain) (entryAfter table)
+    enters (quiet q) = quiet-enters lowest held (hasBox plan domain) table q
+    enters (entered e) = later-enters lowest held (hasBox plan domain) table e
+
+    passes-on : (box : Bool) → box ≡ true → Entered lowest held box (entryAfter table)
+        → Entered lowest held box (accessOf true (boxLine sender recipient) (entryAfter table) .table)
+    passes-on true is e = box-enters lowest held sender recipient (entryAfter table) e
+    passes-on false is e = absurd (false≢true is)
+
+    first-passes-on : (box : Bool) → box ≡ true → Quiet lowest held box table
+        → messageTicks + accessOf false kernelEntryLine table .ticks + accessOf true (boxLine sender recipient) (entryAfter table) .ticks
+        + flushesTicks (accessOf true (boxLine sender recipient) (entryAfter table) .table)
+        ≤ figureOf lowest held box + 1
+    first-passes-on true is q = message-late lowest held (colours .within) (colours .some) sender recipient table q
+    first-passes-on false is q = absurd (false≢true is)
+
+    message-inside : Inside plan domain table → OpLate plan domain message
+    unfolding messageOf
+    message-inside inside = go (maySend plan sender recipient) refl inside
+      where
+        go : (may : Bool) → maySend plan sender recipient ≡ may → Inside plan domain table → OpLate plan domain message
+        go false test inside = rw test (common _ (entered (enters inside)) (omega (arith, access-ticks false kernelEntryLine table)))
+        go true test (quiet q) =
+            rw test
+            (record {
+              in-window = entered (passes-on (hasBox plan domain) (boxed test) (enters (quiet q)));
+              late = rw figure-is (first-passes-on (hasBox plan domain) (boxed test) q);
+            })
+        go true test (entered e) =
+            rw test
+            (common _ (entered (passes-on (hasBox plan domain) (boxed test) (enters (entered e))))
+            (omega (arith, later-ticks lowest held (hasBox plan domain) table e, access-ticks true (boxLine sender recipient) (entryAfter table))))
+
+  pub op-late : (op : Op) (table boxes : List ℕ) → OpWithinLimits op → Inside plan domain table → OpLate plan domain (effectOf plan domain op table boxes)
+  unfolding effectOf receiveOf computeOf OpWithinLimits
+  op-late (Read line) table boxes good inside = touch-late false line table boxes inside
+  op-late (Write line) table boxes good inside = touch-late true line table boxes inside
+  op-late (Send recipient word) table boxes good inside =
+      message-inside domain recipient _ _ _ table boxes (sends-box plan domain recipient (omega arith)) inside
+  op-late (Receive sender) table boxes good inside =
+      message-inside sender domain _ _ _ table boxes (receives-box plan domain sender (omega arith)) inside
+  op-late (Compute ticks) table boxes good inside = common _ inside (omega arith)

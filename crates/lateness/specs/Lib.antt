@@ -1,0 +1,2 @@
+pub mod Lateness
+pub mod Theorems

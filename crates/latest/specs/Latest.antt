@@ -1,0 +1,40 @@
+-- Document 02, E6: the largest number of ticks from a window's end until the L1 flush is done. That
+-- it is the largest is proved, of every script and every run: lateness/specs/Theorems.antt. Assumes
+-- nothing.
+use Prim.Native.Nat.{ℕ, _+_, _*_, _-_}
+use mathlib.Core.Bool.{cond}
+use Rattle.plan.specs.declared.Plan.{Plan}
+use Rattle.plan.specs.Limits.{dearestOp}
+use Rattle.script.specs.Limits.{mostTicks}
+use Rattle.cache.specs.Access.{dirtyTicks}
+use Rattle.cache.specs.Flush.{dirtyLineTicks, flushTicks}
+use Rattle.latest.specs.Reach.{hasBox, meetsKernel, ownIndices}
+
+-- the ticks past a window's end of an op that runs over it, and of both flushes, which find so many
+-- valid lines in the kernel's sets and so many dirty lines in L1
+unfoldable pub lateBy : ℕ → ℕ → ℕ → ℕ
+lateBy overrun valid dirty = overrun + (flushTicks + valid) + (flushTicks + dirtyLineTicks * dirty)
+
+-- Without a box, the dearest that can begin in a window's last tick is the longest compute. The
+-- flushes then find the kernel's entry line, which a denied op brings in, and every index of the
+-- domain's own lines dirty.
+unfoldable pub latestAlone : ℕ → ℕ
+latestAlone own = lateBy (mostTicks - 1) 1 own
+
+-- With a box, it is the window's first message: the entry line and the box's line both miss. Where
+-- own lines have the kernel's indices, each of the two replaces a dirty own line: the entry line,
+-- clean, one, and the box's line, dirty, another. So there is one dirty line fewer.
+unfoldable pub latestMeeting : ℕ → ℕ
+latestMeeting own = lateBy (dearestOp - 1) 2 (own - 1)
+
+-- Where they have not, nothing dirty is replaced, and the box's line is one dirty line more.
+unfoldable pub latestApart : ℕ → ℕ
+latestApart own = lateBy (dearestOp - 2 * dirtyTicks - 1) 2 (own + 1)
+
+-- the latest finish of a domain's windows
+unfoldable pub latestTicks : Plan → ℕ → ℕ
+latestTicks plan domain =
+    let own = ownIndices plan domain in
+    cond (hasBox plan domain)
+    (cond (meetsKernel plan domain) (latestMeeting own) (latestApart own))
+    (latestAlone own)

@@ -1,0 +1,79 @@
+-- Document 02, E6: a script that finishes its domain's first window as late as can be. In its
+-- order: without a box, a message to itself, denied, which brings the kernel's entry line in; a
+-- write of one line for each L1 index of the domain's own lines; computes up to the window's last
+-- tick; and the dearest op. Assumes nothing.
+use Prim.Native.Nat.{ℕ, zero, suc, _+_, _*_, _-_, _/_, _%_}
+use mathlib.Core.Bool.{cond}
+use mathlib.Core.List.{List, [], _∷_}
+use lib.Dec.{eqb, ltb}
+use lib.ListN.{getD}
+use Rattle.plan.specs.declared.Plan.{Plan}
+use Rattle.plan.specs.Limits.{mostDomains}
+use Rattle.script.specs.declared.Op.{Op}
+use Rattle.script.specs.declared.Op.the-variants.{Write, Send, Receive, Compute}
+use Rattle.script.specs.Limits.{mostOps, mostTicks}
+use Rattle.script.specs.Stored.{storedOf}
+use Rattle.cache.specs.Access.{missTicks}
+use Rattle.cache.specs.Lines.{setsPerColour}
+use Rattle.ops.specs.Ops.{messageTicks}
+use Rattle.latest.specs.declared.LateScript.{LateScript}
+use Rattle.latest.specs.Reach.{firstWindow, hasBox, lowestColour, lowestRecipient}
+use Rattle.latest.specs.Reach.{lowestSender, ownIndices}
+
+-- how many ops there are before the writes
+unfoldable pub openingOps : Plan → ℕ → ℕ
+openingOps plan domain = cond (hasBox plan domain) 0 1
+
+-- the ticks from the window's start until the writes are done, each of them a miss
+unfoldable pub writtenTicks : Plan → ℕ → ℕ
+writtenTicks plan domain =
+    (messageTicks + missTicks) * openingOps plan domain + missTicks * ownIndices plan domain
+
+-- the ticks from there to the first window's last tick
+unfoldable pub waitingTicks : Plan → ℕ → ℕ
+waitingTicks plan domain =
+    getD (plan .lengths) (firstWindow plan domain) 0 - 1 - writtenTicks plan domain
+
+-- the op that begins in the last tick: a message to the lowest domain that it may send to; where
+-- there is none, one from the lowest that may send to it; without a box the longest compute
+unfoldable pub lastOp : Plan → ℕ → Op
+lastOp plan domain =
+    cond (ltb (lowestRecipient plan domain) mostDomains) (Send (lowestRecipient plan domain) 0)
+    (cond (ltb (lowestSender plan domain) mostDomains) (Receive (lowestSender plan domain))
+    (Compute mostTicks))
+
+-- the script by its parts: how many ops come before the writes, and the number of such an op; how
+-- many writes, and the first one's line, the others being of the lines that follow it; how many of
+-- the longest computes, and the ticks of the one after them; the number of the last op
+unfoldable pub lateScriptOf : Plan → ℕ → LateScript
+lateScriptOf plan domain =
+    record {
+      opening = openingOps plan domain;
+      entry = storedOf (Send domain 0);
+      writes = ownIndices plan domain;
+      line = setsPerColour * lowestColour plan domain;
+      waits = (waitingTicks plan domain - 1) / mostTicks;
+      rest = (waitingTicks plan domain - 1) % mostTicks + 1;
+      last = storedOf (lastOp plan domain);
+    }
+
+-- the stored number at a position; past the last op it is 0
+unfoldable pub lateNumber : LateScript → ℕ → ℕ
+lateNumber script position =
+    let written = script .opening + script .writes in
+    let waited = written + script .waits in
+    cond (ltb position (script .opening)) (script .entry)
+    (cond (ltb position written) (storedOf (Write (script .line + (position - script .opening))))
+    (cond (ltb position waited) (storedOf (Compute mostTicks))
+    (cond (eqb position waited) (storedOf (Compute (script .rest)))
+    (cond (eqb position (waited + 1)) (script .last) 0))))
+
+-- the numbers at the `left` positions from `position` on
+unfoldable pub lateNumbers : LateScript → ℕ → ℕ → List ℕ
+lateNumbers script zero position = []
+lateNumbers script (suc left) position =
+    lateNumber script position ∷ lateNumbers script left (position + 1)
+
+-- the whole script
+unfoldable pub latestScript : Plan → ℕ → List ℕ
+latestScript plan domain = lateNumbers (lateScriptOf plan domain) mostOps 0
