@@ -75,6 +75,42 @@ def ran(*arguments, **options):
     return subprocess.run([sys.executable, "-m", "pirkvezo", *arguments], cwd=ROOT, timeout=60, env=kept, **options)
 
 
+def told_without_the_library(test, part, *arguments):
+    """Bad arguments are told in one line, before the library is looked for."""
+    with test.subTest(arguments):
+        with mock.patch.dict(os.environ, PIRKVEZO_SHARED="/nowhere.so"), \
+                mock.patch("sys.stdin", io.TextIOWrapper(io.BytesIO(b""))), \
+                mock.patch("pirkvezo.inputs._taken", []):
+            status, out, errors = said(*arguments)
+        test.assertEqual((status, out), (2, ""))
+        test.assertEqual(errors.count("\n"), 1, errors)
+        test.assertIn(part, errors)
+
+
+def told_to_be_missing(test, command, plan):
+    """A library that is not there, or is another file, is told in one line."""
+    for shared, part in [("/nowhere.so", "is not there"), (plan, "is not Pirkvezo's shared library")]:
+        with mock.patch.dict(os.environ, PIRKVEZO_SHARED=shared):
+            status, out, errors = said(command, plan)
+        test.assertEqual((status, out, errors.count("\n")), (2, "", 1))
+        test.assertIn(part, errors)
+
+
+def told_as_by_table(test, command):
+    """A plan that is refused is told with line and column, just as `table` tells it."""
+    for text, number, line, column, *_ in CASES:
+        with test.subTest(text[:60]):
+            told = with_file(text, command)
+            test.assertEqual(told, with_file(text, "table"))
+            test.assertEqual((told[0], told[2]), (1, ""))
+            test.assertTrue(told[1].startswith(f"plan:{line}:{column}: ") and f" [{number}]\n" in told[1], told[1])
+            status, out, errors = with_file(text, command, "--json")
+            test.assertEqual((status, errors), (1, ""))
+            values = json.loads(out)
+            test.assertEqual(set(values), {"file", "refusal"})
+            test.assertEqual((values["refusal"]["number"], values["refusal"]["line"]), (number, line))
+
+
 class BadInput(unittest.TestCase):
     def test_arguments(self):
         for arguments, part in [
@@ -84,35 +120,13 @@ class BadInput(unittest.TestCase):
                 (["nowhere.plan"], "nowhere.plan: no such file"), ([""], "no such file"),
                 ([os.path.join(ROOT, "examples")], "is a directory"), (["a\0b"], "is no file name"),
                 (["/dev/zero"], "more than 1048576 bytes"), (["a\nb\x1b[1m"], "a␊b␛[1m")]:
-            with self.subTest(arguments):
-                # said before the library is looked for
-                with mock.patch.dict(os.environ, PIRKVEZO_SHARED="/nowhere.so"), \
-                        mock.patch("sys.stdin", io.TextIOWrapper(io.BytesIO(b""))), \
-                        mock.patch("pirkvezo.inputs._taken", []):
-                    status, out, errors = said("bound", *arguments)
-                self.assertEqual((status, out), (2, ""))
-                self.assertEqual(errors.count("\n"), 1, errors)
-                self.assertIn(part, errors)
+            told_without_the_library(self, part, "bound", *arguments)
 
     def test_the_library_is_missing(self):
-        for shared, part in [("/nowhere.so", "is not there"), (WORKED, "is not Pirkvezo's shared library")]:
-            with mock.patch.dict(os.environ, PIRKVEZO_SHARED=shared):
-                status, out, errors = said("bound", WORKED)
-            self.assertEqual((status, out, errors.count("\n")), (2, "", 1))
-            self.assertIn(part, errors)
+        told_to_be_missing(self, "bound", WORKED)
 
     def test_every_refusal_is_told_as_by_table(self):
-        for text, number, line, column, *_ in CASES:
-            with self.subTest(text[:60]):
-                told = with_file(text, "bound")
-                self.assertEqual(told, with_file(text, "table"))
-                self.assertEqual((told[0], told[2]), (1, ""))
-                self.assertTrue(told[1].startswith(f"plan:{line}:{column}: ") and f" [{number}]\n" in told[1], told[1])
-                status, out, errors = with_file(text, "bound", "--json")
-                self.assertEqual((status, errors), (1, ""))
-                values = json.loads(out)
-                self.assertEqual(set(values), {"file", "refusal"})
-                self.assertEqual((values["refusal"]["number"], values["refusal"]["line"]), (number, line))
+        told_as_by_table(self, "bound")
 
     def test_what_is_no_plan(self):
         readme = contents(os.path.join(ROOT, "README.md"))

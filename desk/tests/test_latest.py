@@ -15,7 +15,8 @@ import pirkvezo
 from pirkvezo import library
 from pirkvezo.report import page
 from plans_at_random import plan_text, shares_at_random
-from test_bound import ACCEPTED, WORKED, contents, ran, with_file
+from test_bound import ACCEPTED, WORKED, contents, ran, told_as_by_table, told_to_be_missing
+from test_bound import told_without_the_library, with_file
 from test_commands import FULL, ROOT, call
 from test_frame import said
 from test_refusals import CASES
@@ -139,37 +140,17 @@ class BadInput(unittest.TestCase):
                 (["nowhere.plan", "0", "--script"], "nowhere.plan: no such file"), ([""], "no such file"),
                 ([os.path.join(ROOT, "examples")], "is a directory"), (["a\0b"], "is no file name"),
                 (["/dev/zero"], "more than 1048576 bytes"), (["a\nb\x1b[1m"], "a␊b␛[1m")]:
-            with self.subTest(arguments):
-                # said before the library is looked for
-                with mock.patch.dict(os.environ, PIRKVEZO_SHARED="/nowhere.so"), \
-                        mock.patch("sys.stdin", io.TextIOWrapper(io.BytesIO(b""))), \
-                        mock.patch("pirkvezo.inputs._taken", []):
-                    status, out, errors = said("latest", *arguments)
-                self.assertEqual((status, out), (2, ""))
-                self.assertEqual(errors.count("\n"), 1, errors)
-                self.assertIn(part, errors)
+            told_without_the_library(self, part, "latest", *arguments)
 
     def test_the_library_is_missing(self):
-        for shared, part in [("/nowhere.so", "is not there"), (LATE, "is not Pirkvezo's shared library")]:
-            with mock.patch.dict(os.environ, PIRKVEZO_SHARED=shared):
-                status, out, errors = said("latest", LATE)
-            self.assertEqual((status, out, errors.count("\n")), (2, "", 1))
-            self.assertIn(part, errors)
+        told_to_be_missing(self, "latest", LATE)
 
     def test_every_refused_plan_is_told_as_by_table(self):
-        for text, number, line, column, *_ in CASES:
+        told_as_by_table(self, "latest")
+        for text, *_ in CASES:
             with self.subTest(text[:60]):
-                told = asked(text)
-                self.assertEqual(told, with_file(text, "table"))
-                self.assertEqual((told[0], told[2]), (1, ""))
-                self.assertTrue(told[1].startswith(f"plan:{line}:{column}: ") and f" [{number}]\n" in told[1], told[1])
                 # nothing that could come into a plan
-                self.assertEqual(asked(text, "--script"), (1, "", told[1]))
-                status, out, errors = asked(text, "--json")
-                self.assertEqual((status, errors), (1, ""))
-                values = json.loads(out)
-                self.assertEqual(set(values), {"file", "refusal"})
-                self.assertEqual((values["refusal"]["number"], values["refusal"]["line"]), (number, line))
+                self.assertEqual(asked(text, "--script"), (1, "", asked(text)[1]))
 
     def test_what_is_no_plan(self):
         readme = contents(os.path.join(ROOT, "README.md"))

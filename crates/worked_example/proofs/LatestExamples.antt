@@ -1,7 +1,6 @@
 -- The examples of the latest finish, proved together, each by computing. Assumes nothing.
-use mathlib.Core.Path.{_≡_, refl}
-use lib.Count.{ones}
-use Rattle.plan.specs.Colours.{holdingOf, maskFrom}
+use mathlib.Core.Path.{refl}
+use Rattle.plan.specs.Colours.{holdingOf}
 use Rattle.plan.proofs.Bits.{mask-ones}
 use Rattle.latest.specs.Answer.{domainFits, latestOf, latestVerdict, windowFits}
 use Rattle.latest.specs.Latest.{lateBy, latestAlone, latestApart, latestMeeting, latestTicks}
@@ -13,27 +12,7 @@ use Rattle.worked_example.specs.Example.{textOf}
 use Rattle.worked_example.specs.LatestExamples.{LatestExamples, storedScript, writesFrom}
 use Rattle.worked_example.proofs.Reading.{reading}
 
--- the masks of these plans, by their first colour and their number of colours
-colours-0-to-13 : ones 16_383 ≡ 14
-unfolding maskFrom
-colours-0-to-13 = mask-ones 0 14
-
-colour-14 : ones 16_384 ≡ 1
-unfolding maskFrom
-colour-14 = mask-ones 14 1
-
-colour-0 : ones 1 ≡ 1
-unfolding maskFrom
-colour-0 = mask-ones 0 1
-
-colours-1-to-4 : ones 30 ≡ 4
-unfolding maskFrom
-colours-1-to-4 = mask-ones 1 4
-
-colour-3 : ones 8 ≡ 1
-unfolding maskFrom
-colour-3 = mask-ones 3 1
-
+-- a domain's holding is rewritten by the law that counts a mask's ones, since to count them one by one takes long
 pub latest-examples : LatestExamples
 unfolding
     computing reading textOf storedScript writesFrom holdingOf
@@ -43,19 +22,19 @@ unfolding
     windowFits domainFits latestVerdict latestOf
 latest-examples =
     record {
-      wide = (refl, rw colours-0-to-13 refl);
-      other = (refl, rw colour-14 refl);
-      script = rw colours-0-to-13 refl;
+      wide = (refl, rw (mask-ones 0 14) refl);
+      other = (refl, rw (mask-ones 14 1) refl);
+      script = rw (mask-ones 0 14) refl;
       clock = refl;
       reached = refl;
-      alone = (refl, rw colour-0 refl);
-      boxed = (refl, rw colour-0 refl);
-      four = (refl, rw colours-1-to-4 refl);
-      third = (refl, rw colour-3 refl);
-      longest = (refl, rw colours-0-to-13 refl);
+      alone = (refl, rw (mask-ones 0 1) refl);
+      boxed = (refl, rw (mask-ones 0 1) refl);
+      four = (refl, rw (mask-ones 1 4) refl);
+      third = (refl, rw (mask-ones 3 1) refl);
+      longest = (refl, rw (mask-ones 0 14) refl);
       tooShort = refl;
       tooLong = refl;
-      otherJudged = (refl, rw colour-14 refl);
+      otherJudged = (refl, rw (mask-ones 14 1) refl);
       windowless = refl;
       undeclared = refl;
       shortBuffer = refl;
