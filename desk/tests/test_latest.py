@@ -1,6 +1,5 @@
 """latest: bad input first; then figures by hand, and the scripts run, with their lateness counted in the tables."""
 import dataclasses
-import io
 import json
 import os
 import pathlib

@@ -1,16 +1,15 @@
 -- What a call for a latest finish tells a host is the maximum. Assumes nothing.
 use Prim.Native.Nat.{ℕ, _≤_}
-use mathlib.Core.Bool.{Bool, true}
+use mathlib.Core.Bool.{true}
 use mathlib.Core.List.{List}
 use mathlib.Core.Path.{_≡_, refl, sym, ap, subst, _∙_}
 use lib.ListN.{length}
 use borrow.Author.Tests.{eq-eqb}
-use Rattle.plan.specs.declared.Plan.{Plan}
 use Rattle.plan.specs.Windows.{windowOwner}
 use Rattle.script.specs.Limits.{mostOps}
 use Rattle.state.specs.World.{World}
 use Rattle.refusal.specs.declared.Verdict.{Verdict}
-use Rattle.refusal.specs.declared.Verdict.the-variants.{Accepted, Refused}
+use Rattle.refusal.specs.declared.Verdict.the-variants.{Accepted}
 use Rattle.latest.specs.Answer.{LatestOutcome, latestFrom, latestOf, latestVerdict}
 use Rattle.latest.specs.Bounds.{Fitting}
 use Rattle.latest.specs.Latest.{latestTicks}
@@ -19,7 +18,6 @@ use Rattle.lateness.specs.Lateness.{latenessOf}
 use Rattle.lateness.specs.Theorems.{IsLatest, IsScript}
 use Rattle.lateness.proofs.Latest.{latest-finish}
 use Rattle.lateness.proofs.NoneLater.{late-anywhere}
-use Rattle.isolation.specs.Points.{worldAfter}
 use Rattle.isolation.proofs.OneRun.Leaves.{leaves, list-valid}
 use Rattle.pirkvezo.specs.Answers.{answerLength, answerOf, planFits, thirdOf, verdictNumber, wrongLength}
 use Rattle.pirkvezo.specs.Finishing.{LatestCall, hostLatest, hostLatestWith, latestDone}
@@ -28,7 +26,7 @@ use Rattle.pirkvezo.proofs.Calls.{read-lengths}
 use Rattle.host.specs.Calls.{HostList, IsHostList, isRefusal}
 use Rattle.host.specs.Latest.{HostLatest, ticksTold, worldLeft}
 use Rattle.host.proofs.Calls.{fitting}
-use Rattle.host.proofs.Lists.{engine-is, engine-leaves, engine-point, engineList}
+use Rattle.host.proofs.Lists.{engine-is, engine-leaves, engineList}
 use Rattle.host.proofs.StepBounds.{third-is}
 use Rattle.host.proofs.Texts.{not-refused}
 

@@ -1,8 +1,8 @@
 -- A write of a box's line in a window of a domain that may use the box. Assumes nothing.
-use Prim.Native.Nat.{ℕ, suc, _+_, _*_, _≤_, _<_}
-use mathlib.Core.Bool.{Bool, true, false, false≢true, cond, _||_, _&&_}
+use Prim.Native.Nat.{ℕ, _+_, _≤_, _<_}
+use mathlib.Core.Bool.{Bool, true, false, false≢true, _&&_}
 use mathlib.Core.List.{List, [], _∷_}
-use mathlib.Core.Path.{_≡_, refl, sym, ap, subst, _∙_}
+use mathlib.Core.Path.{_≡_, refl, sym, ap, _∙_}
 use native.Mathlib.Decide.{ℕ-discrete}
 use native.Mathlib.Omega.{arith}
 use lib.Dec.{eqb, leb, ltb}
@@ -10,7 +10,7 @@ use lib.ListN.{getD, length}
 use borrow.Author.Tests.{eq-eqb, le-leb, lt-ltb, ne-eqb}
 use Rattle.lists.specs.Part.{part}
 use Rattle.lists.proofs.Tests.{both-pass, second-passes}
-use Rattle.cache.specs.Access.{accessOf, dirtyTicks, hit1Ticks, hit2Ticks, lookupAt, lookupL1, lookupL2, missTicks, replaceTicks}
+use Rattle.cache.specs.Access.{accessOf, lookupAt, lookupL1, lookupL2, missTicks, replaceTicks}
 use Rattle.cache.specs.Lines.{cleanEntry, dirtyEntry, holdsLine, isDirty, isValid, kernelEntries, kernelIndex, l1Index, l1Length, setIndex, setOf}
 use Rattle.cache.specs.Lines.{tableLength, waysPerSet}
 use Rattle.cache.specs.Sets.{has, moveToFront}

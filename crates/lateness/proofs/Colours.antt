@@ -1,11 +1,11 @@
 -- A domain's colours follow each other: from the lowest on, as many as it holds. Assumes nothing.
 use Prim.Native.Nat.{ℕ, suc, _+_, _≤_, _<_}
 use mathlib.Core.Bool.{Bool, true, cond, _&&_}
-use mathlib.Core.Path.{_≡_, refl, sym, ap, subst, _∙_}
+use mathlib.Core.Path.{_≡_, refl, ap, _∙_}
 use native.Mathlib.Omega.{arith}
 use lib.Dec.{eqb, leb, ltb}
 use borrow.Author.Tests.{eqb-true, le-leb, lt-ltb}
-use Rattle.lists.proofs.Tests.{both, both-pass}
+use Rattle.lists.proofs.Tests.{both}
 use Rattle.plan.specs.declared.Plan.{Plan}
 use Rattle.plan.specs.Colours.{coloursAt, firstColour, hasBit, holdingOf, maskAt, maskFrom, maskOf, ownsColour}
 use Rattle.plan.specs.Limits.{domainColours}

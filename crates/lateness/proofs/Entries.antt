@@ -1,18 +1,18 @@
 -- A read of the kernel's entry line in a window of a domain, which every message begins with: the first of a window misses, and from then on
 -- the line is in its set at least. Assumes nothing.
-use Prim.Native.Nat.{ℕ, suc, _+_, _≤_, _<_}
+use Prim.Native.Nat.{ℕ, _+_, _≤_, _<_}
 use mathlib.Core.Bool.{Bool, true, false, false≢true, cond, _&&_}
 use mathlib.Core.List.{List, [], _∷_}
 use mathlib.Core.Path.{_≡_, refl, sym, ap, subst, _∙_}
 use native.Mathlib.Decide.{ℕ-discrete}
 use native.Mathlib.Omega.{arith}
-use lib.Dec.{eqb, leb, ltb}
+use lib.Dec.{eqb, ltb}
 use lib.ListN.{getD, length}
 use borrow.Author.Tests.{eq-eqb, lt-leb, ltb-false, ltb-true, ne-eqb}
 use Rattle.lists.proofs.Agree.{InRange}
 use Rattle.lists.proofs.Parts.{part-at}
 use Rattle.lists.proofs.Tests.{first-passes}
-use Rattle.cache.specs.Access.{accessOf, dirtyTicks, hit1Ticks, hit2Ticks, lookupAt, lookupL1, lookupL2, missTicks, replaceTicks}
+use Rattle.cache.specs.Access.{accessOf, dirtyTicks, hit2Ticks, lookupAt, lookupL1, lookupL2, missTicks, replaceTicks}
 use Rattle.cache.specs.Lines.{holdsLine, isDirty, isValid, kernelEntries, kernelIndex, l1Length, tableLength, waysPerSet}
 use Rattle.cache.specs.Sets.{has, moveToFront, without}
 use Rattle.cache.proofs.Laws.{access-length}
@@ -20,7 +20,7 @@ use Rattle.cache.proofs.Outcome.{inL1, look-held, look-lacked, waysOf}
 use Rattle.ops.specs.Ops.{kernelEntryLine}
 use Rattle.lateness.proofs.Accesses.{access-entry, access-other, access-way, four-ways, none-behind}
 use Rattle.lateness.proofs.Indices.{boxesIndex, entryIndex}
-use Rattle.lateness.proofs.Windows.{Entered, Quiet, entryNumber, mayDirty, mayHold}
+use Rattle.lateness.proofs.Windows.{Entered, Quiet, entryNumber, mayHold}
 
 abbrev pub entryAfter : List ℕ → List ℕ
 entryAfter table = accessOf false kernelEntryLine table .table

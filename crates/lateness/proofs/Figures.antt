@@ -2,15 +2,15 @@
 use Prim.Native.Nat.{ℕ, _+_, _*_, _-_, _≤_, _<_}
 use mathlib.Core.Bool.{Bool, true, false, false≢true, cond, not, _&&_, _||_}
 use mathlib.Core.List.{List}
-use mathlib.Core.Path.{_≡_, refl, sym, ap, subst, _∙_}
+use mathlib.Core.Path.{_≡_, refl, ap, subst, _∙_}
 use native.Mathlib.Nat.{zero-add}
 use native.Mathlib.Decide.{ℕ-discrete}
 use native.Mathlib.Omega.{arith}
-use lib.Dec.{eqb, ltb}
+use lib.Dec.{eqb}
 use lib.ListN.{getD, length}
 use borrow.Author.Tests.{eq-eqb, leb-true, ltb-true, ne-eqb}
 use Rattle.lists.proofs.Tests.{both, both-pass, first-passes, second-passes}
-use Rattle.plan.specs.Limits.{dearestOp, domainColours}
+use Rattle.plan.specs.Limits.{domainColours}
 use Rattle.plan.specs.Sums.{sumTo}
 use Rattle.script.specs.Limits.{mostTicks}
 use Rattle.cache.specs.Access.{accessOf, dirtyTicks, missTicks, replaceTicks}
@@ -24,7 +24,7 @@ use Rattle.lateness.proofs.Counting.{count-over, count-under, one}
 use Rattle.lateness.proofs.Entries.{entry-l1, entryAfter, quiet-dirty, quiet-enters, quiet-entry}
 use Rattle.lateness.proofs.Indices.{afterMessage, apart-kernel, boxes-count, boxesIndex, entryIndex, indexCount, indicesOf}
 use Rattle.lateness.proofs.Indices.{meets, message-count, own-count, ownIndex, withBoxes}
-use Rattle.lateness.proofs.Windows.{Entered, InWindow, Quiet, entered, mayDirty, mayHold, quiet}
+use Rattle.lateness.proofs.Windows.{Entered, InWindow, Quiet, entered, mayHold, quiet}
 
 -- both flushes
 abbrev pub flushesTicks : List ℕ → ℕ

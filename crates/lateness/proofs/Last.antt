@@ -1,23 +1,23 @@
 -- The last op of the script that is handed back, on tables in which every own index of L1 is dirty: with the flushes after it, it takes as
 -- long as the domain's figure says. Assumes nothing.
 use Prim.Native.Nat.{ℕ, _+_, _*_, _-_, _≤_, _<_}
-use mathlib.Core.Bool.{Bool, true, false, false≢true, cond, not, _&&_, _||_}
+use mathlib.Core.Bool.{Bool, true, false, false≢true, cond, not, _||_}
 use mathlib.Core.List.{List}
 use mathlib.Core.Logic.{_⊎_, inl, inr}
 use mathlib.Core.Path.{_≡_, refl, sym, ap, subst, _∙_}
 use native.Mathlib.Decide.{ℕ-discrete}
 use native.Mathlib.Omega.{arith}
-use lib.Dec.{eqb, ltb}
+use lib.Dec.{eqb}
 use lib.ListN.{getD, length}
 use borrow.Author.Tests.{eq-eqb, eqb-true, lt-ltb, ne-eqb}
 use Rattle.lists.proofs.Tests.{both}
-use Rattle.plan.specs.Limits.{dearestOp, domainColours}
+use Rattle.plan.specs.Limits.{domainColours}
 use Rattle.plan.specs.Sums.{sumTo}
 use Rattle.script.specs.Limits.{mostTicks}
 use Rattle.cache.specs.Access.{accessOf, dirtyTicks, missTicks, replaceTicks}
 use Rattle.cache.specs.Flush.{dirtyLineTicks, dirtyLines, flushTicks, validLines}
-use Rattle.cache.specs.Lines.{cleanEntry, dirtyEntry, dirtyMark, holdsLine, isDirty, isValid, kernelEntries, kernelIndex, l1Index, l1Length}
-use Rattle.cache.specs.Lines.{mostLine, setColour, setOf, setsPerColour, tableLength, waysPerSet}
+use Rattle.cache.specs.Lines.{cleanEntry, dirtyEntry, dirtyMark, holdsLine, isDirty, isValid, kernelEntries, kernelIndex, l1Length}
+use Rattle.cache.specs.Lines.{mostLine, setsPerColour, tableLength, waysPerSet}
 use Rattle.cache.proofs.Laws.{access-length}
 use Rattle.ops.specs.Ops.{boxLine, kernelEntryLine, messageTicks}
 use Rattle.latest.specs.Latest.{lateBy, latestAlone, latestApart, latestMeeting}

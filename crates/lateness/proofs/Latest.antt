@@ -1,37 +1,33 @@
 -- What is answered is the latest finish: no run exceeds it, and the script that is handed back reaches it. Assumes nothing.
 use Prim.Native.Nat.{ℕ, suc, _+_, _*_, _-_, _≤_, _<_}
-use mathlib.Core.Bool.{Bool, true, false, false≢true, cond, _||_}
+use mathlib.Core.Bool.{Bool, true, false, cond}
 use mathlib.Core.List.{List, _++_}
 use mathlib.Core.Path.{_≡_, refl, sym, ap, subst, _∙_}
 use native.Mathlib.Decide.{decLt}
 use native.Mathlib.Nat.{mul-div-cancel-left}
 use native.Mathlib.Numerals.{add-one}
 use native.Mathlib.Omega.{arith}
-use lib.Dec.{eqb, leb, ltb}
+use lib.Dec.{ltb}
 use lib.ListN.{getD, length, length-replicate, replicate}
 use lib.Seq.{getD-append-add}
-use borrow.Author.Tests.{eq-eqb, ltb-true}
-use Rattle.lists.proofs.Tests.{both, first-passes, second-passes}
+use borrow.Author.Tests.{ltb-true}
+use Rattle.lists.proofs.Tests.{first-passes, second-passes}
 use Rattle.plan.specs.declared.Plan.{Plan}
 use Rattle.plan.specs.Colours.{holdingOf}
 use Rattle.plan.specs.Limits.{mostDomains}
-use Rattle.plan.specs.Sums.{allBelow}
 use Rattle.plan.specs.Rights.{maySend}
 use Rattle.plan.specs.Validity.{planValid}
 use Rattle.plan.specs.Windows.{windowEnd, windowLength, windowOwner, windowStart, windowsTotal}
-use Rattle.plan.proofs.Sums.{all-below}
-use Rattle.plan.proofs.ValidPlans.{counts, limits}
+use Rattle.plan.proofs.ValidPlans.{counts}
 use Rattle.script.specs.declared.Op.{Op}
 use Rattle.script.specs.declared.Op.the-variants.{Send, Receive, Compute}
-use Rattle.script.specs.Limits.{OpWithinLimits, mostOps, mostTicks}
+use Rattle.script.specs.Limits.{mostOps, mostTicks}
 use Rattle.script.specs.Stored.{storedOf}
-use Rattle.cache.specs.Flush.{kernelFlushTicks, kernelFlushed, l1FlushTicks}
-use Rattle.cache.specs.Lines.{mostLine, tableLength}
+use Rattle.cache.specs.Lines.{tableLength}
 use Rattle.records.specs.declared.Observation.{Observation}
 use Rattle.records.specs.Records.{partRecords, recordSize}
 use Rattle.refusal.specs.declared.Verdict.the-variants.{Accepted}
-use Rattle.refusal.proofs.Passed.{unless-passed}
-use Rattle.ops.specs.Ops.{Effect, boxLine, computeOf, effectOf, messageOf, receiveOf}
+use Rattle.ops.specs.Ops.{Effect, computeOf, effectOf, messageOf, receiveOf}
 use Rattle.ops.proofs.Ticks.{effect-takes}
 use Rattle.state.specs.World.{World}
 use Rattle.machine.specs.Switch.{flushedClock, switchOf}
@@ -39,10 +35,9 @@ use Rattle.isolation.specs.Points.{FreshRun, windowsAfter, worldAfter}
 use Rattle.isolation.proofs.OneRun.OnTime.{every-start}
 use Rattle.isolation.proofs.TwoRuns.Progress.{before, no-fewer, one-more}
 use Rattle.isolation.proofs.TwoRuns.Windows.{whole}
-use Rattle.latest.specs.Answer.{LatestOutcome, domainFits, latestFrom, latestOf, latestVerdict, windowFits}
+use Rattle.latest.specs.Answer.{latestVerdict}
 use Rattle.latest.specs.Latest.{latestTicks}
-use Rattle.latest.specs.Limits.{leastLatestLength, mostLatestLength}
-use Rattle.latest.specs.Reach.{firstWindow, hasBox, lowestColour, lowestRecipient, lowestSender, ownsWindow, ownIndices}
+use Rattle.latest.specs.Reach.{firstWindow, hasBox, lowestColour, lowestRecipient, lowestSender, ownIndices}
 use Rattle.latest.specs.Script.{lastOp, lateNumber, lateScriptOf, latestScript}
 use Rattle.latest.proofs.Answers.{accepted-fits, accepted-told, told-is}
 use Rattle.latest.proofs.Ranges.{domain-declared, first-window}
@@ -50,14 +45,14 @@ use Rattle.lateness.specs.Lateness.{Finishes, latenessOf}
 use Rattle.lateness.specs.Theorems.{EachFinishes, HasLateness, HoldsScript, IsLatest, LatestFinish, OneLatest, freshRun}
 use Rattle.lateness.proofs.Colours.{Row}
 use Rattle.lateness.proofs.Fetching.{is-script, last-within, number-last}
-use Rattle.lateness.proofs.Figures.{figureOf, flushesTicks}
+use Rattle.lateness.proofs.Figures.{flushesTicks}
 use Rattle.lateness.proofs.Last.{compute-least, message-least}
 use Rattle.latest.proofs.Lowest.{lowest-passes}
 use Rattle.lateness.proofs.NoneLater.{l1-after-kernel, none-later}
 use Rattle.lateness.proofs.Ops.{figure-is}
 use Rattle.lateness.proofs.Running.{Judged, WaitedAt, base, colours, last-few, last-tick, lastAt, next-op, opens, start, worldAt}
-use Rattle.lateness.proofs.Starting.{first-length, first-owner, first-owns, windows-in-run}
-use Rattle.lateness.proofs.Stepping.{Stands, Stepped, switch-steps}
+use Rattle.lateness.proofs.Starting.{first-length, first-owner, windows-in-run}
+use Rattle.lateness.proofs.Stepping.{Stepped, switch-steps}
 
 -- ---- an answer that is no refusal
 

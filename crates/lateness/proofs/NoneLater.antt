@@ -2,20 +2,19 @@
 use Prim.Native.Nat.{ℕ, _+_, _*_, _≤_, _<_, max}
 use mathlib.Core.Bool.{Bool, true, false, cond}
 use mathlib.Core.List.{List}
-use mathlib.Core.Path.{_≡_, refl, sym, ap, subst, _∙_}
+use mathlib.Core.Path.{_≡_, refl, ap, subst, _∙_}
 use native.Mathlib.Numerals.{add-one}
 use native.Mathlib.Omega.{arith}
 use lib.ListN.{getD, length}
 use Rattle.lists.proofs.Parts.{part-same, splice-before}
-use Rattle.lists.specs.Part.{part, splice}
 use Rattle.plan.specs.declared.Plan.{Plan}
 use Rattle.plan.specs.Colours.{holdingOf}
 use Rattle.plan.specs.Validity.{planValid}
-use Rattle.plan.specs.Windows.{windowEnd, windowLength, windowOwner, windowStart, windowsTotal}
+use Rattle.plan.specs.Windows.{windowEnd, windowOwner, windowStart, windowsTotal}
 use Rattle.plan.proofs.Windows.{owner-declared, pad-least}
 use Rattle.script.specs.declared.Op.{Op}
-use Rattle.cache.specs.Flush.{countWhere, dirtyLineTicks, dirtyLines, flushTicks, kernelFlushTicks, kernelFlushed, l1FlushTicks, l1Flushed}
-use Rattle.cache.specs.Lines.{emptyTable, isDirty, kernelEntries, kernelIndex, l1Length, tableLength}
+use Rattle.cache.specs.Flush.{countWhere, dirtyLineTicks, dirtyLines, flushTicks, kernelFlushed, l1FlushTicks}
+use Rattle.cache.specs.Lines.{isDirty, kernelEntries, kernelIndex, l1Length, tableLength}
 use Rattle.cache.proofs.Laws.{kernel-flush-length}
 use Rattle.records.specs.Records.{partRecords}
 use Rattle.state.specs.World.{World, freshState, positionAt, runningOf}
@@ -31,11 +30,11 @@ use Rattle.isolation.specs.Points.{windowsAfter, worldAfter}
 use Rattle.latest.specs.Latest.{lateBy, latestAlone, latestApart, latestMeeting, latestTicks}
 use Rattle.latest.specs.Reach.{hasBox, lowestColour, meetsKernel, ownIndices}
 use Rattle.latest.proofs.Ranges.{indices-most}
-use Rattle.lateness.specs.Lateness.{Finishes, latenessOf}
+use Rattle.lateness.specs.Lateness.{latenessOf}
 use Rattle.lateness.specs.Theorems.{LatestBounded, NoneLater, PadSuffices, SwitchesByLateness, freshRun, mostLatest}
 use Rattle.lateness.proofs.Figures.{flushesTicks}
-use Rattle.lateness.proofs.Ops.{Inside, OpLate, flushes-late, op-late}
-use Rattle.lateness.proofs.Windows.{InWindow, Quiet, entered, in-long, quiet, starts-quiet}
+use Rattle.lateness.proofs.Ops.{Inside, flushes-late, op-late}
+use Rattle.lateness.proofs.Windows.{in-long, quiet, starts-quiet}
 
 -- ---- the figure is within every pad
 

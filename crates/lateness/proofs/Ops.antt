@@ -1,17 +1,16 @@
 -- What an op leaves in a window of its domain, and that it ends, with the flushes after it, no later than the domain's figure
 -- where it begins in the window. Assumes nothing.
 use Prim.Native.Nat.{ℕ, _+_, _≤_, _<_}
-use mathlib.Core.Bool.{Bool, true, false, false≢true, cond, _||_}
+use mathlib.Core.Bool.{Bool, true, false, false≢true}
 use mathlib.Core.List.{List}
-use mathlib.Core.Path.{_≡_, refl, sym, ap, subst, _∙_}
+use mathlib.Core.Path.{_≡_, refl}
 use native.Mathlib.Omega.{arith}
 use lib.Dec.{ltb}
-use lib.ListN.{getD}
 use borrow.Author.Tests.{lt-ltb}
 use Rattle.lists.proofs.Tests.{first-passes, second-passes}
 use Rattle.plan.specs.declared.Plan.{Plan}
 use Rattle.plan.specs.Colours.{holdingOf}
-use Rattle.plan.specs.Limits.{domainColours, mostDomains}
+use Rattle.plan.specs.Limits.{mostDomains}
 use Rattle.plan.specs.Rights.{maySend}
 use Rattle.plan.specs.Validity.{planValid}
 use Rattle.script.specs.declared.Op.{Op}

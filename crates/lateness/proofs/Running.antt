@@ -1,14 +1,12 @@
 -- A run in which a domain's script is the one that is handed back, from the start of the domain's first window to the window's last tick: the
 -- opening, the writes, the computes. Assumes nothing.
-use Prim.Native.Nat.{ℕ, zero, suc, _+_, _*_, _-_, _/_, _%_, _≤_, _<_, min}
-use mathlib.Core.Bool.{Bool, true, false, false≢true, cond, _&&_}
+use Prim.Native.Nat.{ℕ, zero, suc, _+_, _*_, _-_, _/_, _%_, _≤_, _<_}
+use mathlib.Core.Bool.{Bool, true, false, false≢true, cond}
 use mathlib.Core.List.{List}
 use mathlib.Core.Path.{_≡_, refl, sym, ap, subst, _∙_}
 use native.Mathlib.Nat.{add-suc, add-zero}
-use native.Mathlib.Numerals.{add-one}
 use native.Mathlib.Decide.{ℕ-discrete}
 use native.Mathlib.Omega.{arith}
-use lib.Dec.{eqb, ltb}
 use lib.ListN.{getD, length}
 use borrow.Author.Tests.{le-ltb, ne-eqb}
 use Rattle.plan.specs.declared.Plan.{Plan}
@@ -16,17 +14,15 @@ use Rattle.plan.specs.Colours.{holdingOf, ownsColour}
 use Rattle.plan.specs.Limits.{domainColours, mostDomains}
 use Rattle.plan.specs.Rights.{maySend}
 use Rattle.plan.specs.Validity.{planValid}
-use Rattle.plan.specs.Windows.{windowLength, windowOwner, windowsTotal}
+use Rattle.plan.specs.Windows.{windowLength}
 use Rattle.plan.proofs.ValidPlans.{counts, declared}
 use Rattle.script.specs.declared.Op.{Op}
 use Rattle.script.specs.declared.Op.the-variants.{Write, Send, Compute}
-use Rattle.script.specs.declared.ScriptItem.the-variants.{Op as Fetch}
-use Rattle.script.specs.Fetch.{fetchOf}
 use Rattle.script.specs.Limits.{OpWithinLimits, mostOps, mostTicks}
 use Rattle.script.specs.Stored.{storedOf}
 use Rattle.cache.specs.Access.{accessOf, missTicks}
-use Rattle.cache.specs.Lines.{cleanEntry, colourOf, dirtyEntry, holdsLine, isDirty, kernelEntries, kernelIndex, l1Index, l1Length, mostLine}
-use Rattle.cache.specs.Lines.{setColour, setIndex, setOf, setsPerColour, tableLength, waysPerSet}
+use Rattle.cache.specs.Lines.{cleanEntry, dirtyEntry, holdsLine, isDirty, kernelEntries, kernelIndex, l1Length, mostLine}
+use Rattle.cache.specs.Lines.{setColour, setOf, setsPerColour, tableLength}
 use Rattle.cache.proofs.Laws.{access-length}
 use Rattle.records.specs.Records.{partRecords}
 use Rattle.ops.specs.Ops.{computeOf, effectOf, kernelEntryLine, messageOf, messageTicks, ownsLine, touchOf}

@@ -1,12 +1,11 @@
 -- The start of a domain's first window: nothing of the domain's has been touched before, and L1 and the kernel's sets are empty, as at every
 -- window's start. Assumes nothing.
 use Prim.Native.Nat.{ℕ, zero, suc, _+_, _*_, _%_, _≤_, _<_}
-use mathlib.Core.Bool.{Bool, true, false, false≢true}
+use mathlib.Core.Bool.{true, false≢true}
 use mathlib.Core.List.{List}
-use mathlib.Core.Path.{_≡_, refl, sym, ap, subst, _∙_}
+use mathlib.Core.Path.{_≡_, sym, ap, subst, _∙_}
 use native.Mathlib.Nat.{lt-of-lt-of-le, mod-eq-of-lt, mul-le-mul-right, one-mul}
 use native.Mathlib.Omega.{arith}
-use lib.Dec.{eqb}
 use lib.ListN.{getD, length}
 use borrow.Author.Tests.{eq-eqb, eqb-true}
 use Rattle.plan.specs.declared.Plan.{Plan}
@@ -18,16 +17,15 @@ use Rattle.cache.specs.Lines.{kernelEntries, kernelIndex, l1Length, tableLength
 use Rattle.records.specs.Records.{partRecords}
 use Rattle.state.specs.World.{World, freshState, positionAt, recordsAt}
 use Rattle.machine.specs.Fresh.{freshWorld}
-use Rattle.machine.specs.Steps.{runOf, stepOf}
+use Rattle.machine.specs.Steps.{runOf}
 use Rattle.machine.specs.Switch.{switchOf}
 use Rattle.machine.proofs.Invariant.{steps-counts}
 use Rattle.reachable.proofs.Cells.{cell-zeros, zeros-length}
 use Rattle.reachable.proofs.Flushes.{flushed-kernel, flushed-l1}
-use Rattle.isolation.specs.Points.{FreshRun, Starts, windowsAfter, worldAfter}
-use Rattle.isolation.specs.Statement.{StartedOnTime}
+use Rattle.isolation.specs.Points.{FreshRun, Starts, worldAfter}
 use Rattle.isolation.proofs.OneRun.OnTime.{every-start}
 use Rattle.isolation.proofs.TwoRuns.Indices.{OwnIndex}
-use Rattle.isolation.proofs.TwoRuns.Progress.{Before, before, first-start, one-more}
+use Rattle.isolation.proofs.TwoRuns.Progress.{before, first-start, one-more}
 use Rattle.isolation.proofs.TwoRuns.Relations.{Alike, alike-refl, alike-trans, same-position, same-records}
 use Rattle.isolation.proofs.TwoRuns.Step.{step-away}
 use Rattle.isolation.proofs.TwoRuns.Windows.{whole}

@@ -1,24 +1,22 @@
 -- The ops of a script, one after the other, in its domain's window: where the domain stands after each. Assumes nothing.
 use Prim.Native.Nat.{ℕ, suc, _+_, _≤_, _<_}
-use mathlib.Core.Bool.{Bool, true, false, cond, _||_}
+use mathlib.Core.Bool.{true, false}
 use mathlib.Core.List.{List}
-use mathlib.Core.Path.{_≡_, refl, sym, ap, subst, _∙_}
+use mathlib.Core.Path.{_≡_, refl, ap, _∙_}
 use native.Mathlib.Omega.{arith}
 use lib.Dec.{leb}
-use lib.ListN.{getD, length, set, length-set}
+use lib.ListN.{length, length-set}
 use lib.Seq.{getD-set-same}
 use borrow.Author.Tests.{le-leb, lt-leb}
-use Rattle.lists.proofs.Tests.{first-passes}
 use Rattle.plan.specs.declared.Plan.{Plan}
 use Rattle.plan.specs.Limits.{mostDomains}
 use Rattle.plan.specs.Windows.{windowEnd, windowLength, windowOwner, windowStart, windowsTotal}
 use Rattle.script.specs.declared.Op.{Op}
-use Rattle.script.specs.declared.ScriptItem.{ScriptItem}
 use Rattle.script.specs.declared.ScriptItem.the-variants.{Op as Fetch, End}
 use Rattle.script.specs.Fetch.{fetchOf}
 use Rattle.ops.specs.Ops.{Effect, effectOf}
 use Rattle.state.specs.World.{World, endedOf, positionAt, recordsAt, runningOf}
-use Rattle.machine.specs.Steps.{activeStep, isEnd, nextItem, nextStepOf, opStepOf, stepOf, switchDue, turnOf}
+use Rattle.machine.specs.Steps.{activeStep, nextItem, nextStepOf, opStepOf, stepOf, switchDue, turnOf}
 use Rattle.machine.specs.Switch.{switchOf}
 use Rattle.machine.proofs.Runs.{step-active}
 

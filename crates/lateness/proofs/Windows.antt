@@ -2,28 +2,23 @@
 -- kernel's sets stay so; from then on they hold the entry line and, where the domain has a box, lines of boxes. Dirty in
 -- L1 are only lines at the domain's own indices and, where it has a box, at the index of the boxes' lines. Assumes nothing.
 use Prim.Native.Nat.{ℕ, _+_, _-_, _≤_, _<_}
-use mathlib.Core.Bool.{Bool, true, false, false≢true, cond, _&&_, _||_}
-use mathlib.Core.List.{List, [], _∷_}
-use mathlib.Core.Path.{_≡_, refl, sym, ap, subst, _∙_}
-use native.Mathlib.Decide.{ℕ-discrete}
+use mathlib.Core.Bool.{Bool, true, false, false≢true, _&&_, _||_}
+use mathlib.Core.List.{List}
+use mathlib.Core.Path.{_≡_, sym, subst, _∙_}
 use native.Mathlib.Omega.{arith}
 use lib.Dec.{eqb, leb, ltb}
 use lib.ListN.{getD, length}
-use borrow.Author.Tests.{eq-eqb, eqb-true, le-leb, le-ltb, leb-true, lt-ltb, ltb-true, ne-eqb}
-use Rattle.lists.specs.Part.{part}
-use Rattle.lists.proofs.Agree.{InRange}
-use Rattle.lists.proofs.Tests.{both, both-pass, first-passes, second-passes}
+use borrow.Author.Tests.{ne-eqb}
+use Rattle.lists.proofs.Tests.{first-passes}
 use Rattle.plan.specs.Limits.{domainColours}
-use Rattle.cache.specs.Access.{accessOf, dirtyTicks, hit1Ticks, hit2Ticks, lookupAt, lookupL1, lookupL2, missTicks, replaceTicks}
-use Rattle.cache.specs.Lines.{cleanEntry, dirtyEntry, holdsLine, isDirty, isValid, kernelEntries, kernelIndex, l1Index}
-use Rattle.cache.specs.Lines.{l1Length, mostLine, setColour, setIndex, setOf, tableLength, waysPerSet}
-use Rattle.cache.specs.Sets.{has, moveToFront, without}
+use Rattle.cache.specs.Access.{accessOf}
+use Rattle.cache.specs.Lines.{cleanEntry, dirtyEntry, holdsLine, isDirty, isValid, kernelEntries, kernelIndex}
+use Rattle.cache.specs.Lines.{l1Length, mostLine, setColour, setOf, tableLength, waysPerSet}
 use Rattle.cache.proofs.Laws.{access-length}
-use Rattle.cache.proofs.Outcome.{inL1, look-held, look-lacked, waysOf}
-use Rattle.ops.specs.Ops.{boxLine, firstBoxLine, kernelEntryLine}
+use Rattle.ops.specs.Ops.{kernelEntryLine}
 use Rattle.reachable.proofs.Accesses.{access-index}
-use Rattle.lateness.proofs.Accesses.{access-entry, access-other, access-way, four-ways}
-use Rattle.lateness.proofs.Indices.{boxesIndex, entryIndex, ownIndex, own-line-index, withBoxes}
+use Rattle.lateness.proofs.Accesses.{access-other}
+use Rattle.lateness.proofs.Indices.{boxesIndex, entryIndex, ownIndex, own-line-index}
 
 -- the number of the entry line in a set
 abbrev pub entryNumber : ℕ

@@ -1,5 +1,5 @@
 -- Document 02, E6: how late a window finishes, read off the machine's own switch. Assumes nothing.
-use Prim.Native.Nat.{ℕ, suc, _+_, _-_}
+use Prim.Native.Nat.{ℕ, suc, _-_}
 use mathlib.Core.Path.{_≡_}
 use Rattle.plan.specs.declared.Plan.{Plan}
 use Rattle.plan.specs.Windows.{windowEnd}
