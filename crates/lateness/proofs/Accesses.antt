@@ -1,7 +1,7 @@
 -- What an access of a line leaves, number by number: the line's L1 number, the ways of its set, and every other number as it was.
 -- Assumes nothing.
 use Prim.Native.Nat.{ℕ, zero, suc, _+_, _≤_, _<_}
-use mathlib.Core.Bool.{Bool}
+use mathlib.Core.Bool.{Bool, true, false, cond}
 use mathlib.Core.List.{List, [], _∷_}
 use mathlib.Core.Path.{_≡_, refl, sym, ap, subst, _∙_}
 use native.Mathlib.Omega.{arith}
@@ -10,8 +10,8 @@ use lib.Seq.{getD-set-same}
 use Rattle.lists.specs.Part.{part, splice}
 use Rattle.lists.proofs.Agree.{InRange}
 use Rattle.lists.proofs.Parts.{part-at, part-length, part-next, splice-length}
-use Rattle.cache.specs.Access.{accessOf, lookupAt}
-use Rattle.cache.specs.Lines.{l1Index, setIndex, setOf, tableLength, waysPerSet}
+use Rattle.cache.specs.Access.{accessOf, dirtyTicks, lookupAt, replaceTicks}
+use Rattle.cache.specs.Lines.{isDirty, l1Index, setIndex, setOf, tableLength, waysPerSet}
 use Rattle.cache.proofs.Laws.{lookup-ways}
 use Rattle.reachable.proofs.Accesses.{access-here}
 use Rattle.isolation.proofs.TwoRuns.Access.{AccessedIndex, access-away, atIndex, inSet}
@@ -40,6 +40,14 @@ four-ways first table within =
         let same : first + 1 + 1 + 1 ≡ first + 3 = omega arith in
         part-next (first + 1 + 1 + 1) 1 table (omega arith) (omega arith)
         ∙ ap (λ (index : ℕ). getD table index 0 ∷ []) same
+
+-- what is replaced takes no longer than a dirty line
+pub replaced-most : (entry : ℕ) → replaceTicks entry ≤ dirtyTicks
+replaced-most entry = go (isDirty entry)
+  where
+    go : (dirty : Bool) → cond dirty dirtyTicks 0 ≤ dirtyTicks
+    go true = omega arith
+    go false = omega arith
 
 -- a set with nothing behind its first way
 pub none-behind : (front way : ℕ) → 0 < way → getD (front ∷ 0 ∷ 0 ∷ 0 ∷ []) way 0 ≡ 0

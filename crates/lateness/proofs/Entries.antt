@@ -1,7 +1,7 @@
 -- A read of the kernel's entry line in a window of a domain, which every message begins with: the first of a window misses, and from then on
 -- the line is in its set at least. Assumes nothing.
 use Prim.Native.Nat.{ℕ, _+_, _≤_, _<_}
-use mathlib.Core.Bool.{Bool, true, false, false≢true, cond, _&&_}
+use mathlib.Core.Bool.{Bool, true, false, false≢true, _&&_}
 use mathlib.Core.List.{List, [], _∷_}
 use mathlib.Core.Path.{_≡_, refl, sym, ap, subst, _∙_}
 use native.Mathlib.Decide.{ℕ-discrete}
@@ -18,7 +18,7 @@ use Rattle.cache.specs.Sets.{has, moveToFront, without}
 use Rattle.cache.proofs.Laws.{access-length}
 use Rattle.cache.proofs.Outcome.{inL1, look-held, look-lacked, waysOf}
 use Rattle.ops.specs.Ops.{kernelEntryLine}
-use Rattle.lateness.proofs.Accesses.{access-entry, access-other, access-way, four-ways, none-behind}
+use Rattle.lateness.proofs.Accesses.{access-entry, access-other, access-way, four-ways, none-behind, replaced-most}
 use Rattle.lateness.proofs.Indices.{boxesIndex, entryIndex}
 use Rattle.lateness.proofs.Windows.{Entered, Quiet, entryNumber, mayHold}
 
@@ -170,10 +170,6 @@ module _ (lowest held : ℕ) (box : Bool) (table : List ℕ) where
     unfolding accessOf lookupL1 lookupL2 has moveToFront without
     later-entry = go (inL1 kernelEntryLine table) refl
       where
-        replaced : (dirty : Bool) → cond dirty dirtyTicks 0 ≤ dirtyTicks
-        replaced true = omega arith
-        replaced false = omega arith
-
         go : (holds : Bool) → inL1 kernelEntryLine table ≡ holds → LaterEntry
         go true test =
             let look = held-look test in
@@ -181,7 +177,7 @@ module _ (lowest held : ℕ) (box : Bool) (table : List ℕ) where
         go false test =
             let look = lacked-look test in
             record {
-              ticks = rw look (omega (arith, replaced (isDirty (getD table entryIndex 0))));
+              ticks = rw look (omega (arith, replaced-most (getD table entryIndex 0)));
               left = rw look refl;
               dirty = λ is. absurd (false≢true (rw look at is));
             }

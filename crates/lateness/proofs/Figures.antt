@@ -19,6 +19,7 @@ use Rattle.cache.specs.Lines.{isDirty, isValid, kernelEntries, kernelIndex, l1L
 use Rattle.cache.proofs.Laws.{access-length}
 use Rattle.ops.specs.Ops.{boxLine, kernelEntryLine, messageTicks}
 use Rattle.latest.specs.Latest.{lateBy, latestAlone, latestApart, latestMeeting}
+use Rattle.lateness.proofs.Accesses.{replaced-most}
 use Rattle.lateness.proofs.Boxes.{FirstBox, box-kernel, box-l1, boxesSet, first-box, inBoxesSet}
 use Rattle.lateness.proofs.Counting.{count-over, count-under, one}
 use Rattle.lateness.proofs.Entries.{entry-l1, entryAfter, quiet-dirty, quiet-enters, quiet-entry}
@@ -208,13 +209,6 @@ module _ (lowest held : ℕ) (within : lowest + held ≤ domainColours) (some : 
         let box = rw same at (box-first .ticks) in
         omega (arith, quiet-entry lowest held true table q .ticks)
 
-    replaced : (index : ℕ) → replaceTicks (getD table index 0) ≤ dirtyTicks
-    replaced index = go (isDirty (getD table index 0))
-      where
-        go : (dirty : Bool) → cond dirty dirtyTicks 0 ≤ dirtyTicks
-        go true = omega arith
-        go false = omega arith
-
     -- where own lines do not have the kernel's indices, nothing dirty is replaced
     none-replaced : meets lowest held ≡ false → (index : ℕ) → entryIndex ≤ index → index < l1Length
         → replaceTicks (getD table index 0) ≡ 0
@@ -240,7 +234,7 @@ module _ (lowest held : ℕ) (within : lowest + held ≤ domainColours) (some : 
             ≤ cond meet (latestMeeting (indicesOf held)) (latestApart (indicesOf held)) + 1
         go true test =
             let count = rw test at (message-count lowest held (omega arith) (omega arith)) in
-            omega (arith, message-ticks, flushes, replaced entryIndex, replaced boxesIndex)
+            omega (arith, message-ticks, flushes, replaced-most (getD table entryIndex 0), replaced-most (getD table boxesIndex 0))
         go false test =
             let count = rw test at (message-count lowest held (omega arith) (omega arith)) in
             omega (

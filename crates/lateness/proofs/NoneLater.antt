@@ -93,10 +93,6 @@ pub record InTime (plan : Plan) (world : World) : Type 0 where
       max (world .state .clock) (windowEnd plan (world .state .windows)) + flushesTicks (world .cache)
       ≤ windowEnd plan (world .state .windows) + latestTicks plan (runningOf plan (world .state))
 
-start-end : (plan : Plan) (window : ℕ) → windowStart plan window ≤ windowEnd plan window
-unfolding windowEnd
-start-end plan window = omega arith
-
 module _ (plan : Plan) (valid : planValid plan ≡ true) where
   runs-declared : (window : ℕ) → windowOwner plan window < plan .domains
   runs-declared window = owner-declared plan window valid
@@ -123,7 +119,7 @@ module _ (plan : Plan) (valid : planValid plan ≡ true) where
       omega (arith, timely .soon, l1-after-kernel (world .cache) long)
 
   after-switch : (world : World) → InTime plan world → world .state .windows < windowsTotal plan → InTime plan (switchOf plan world)
-  unfolding switchOf paddedClock
+  unfolding switchOf paddedClock windowEnd
   after-switch world timely inWindow =
       let long = in-long _ _ _ (world .cache) (timely .inside) in
       let done = flushed-soon world timely in
@@ -131,7 +127,6 @@ module _ (plan : Plan) (valid : planValid plan ≡ true) where
       let figure = latest-most plan (runningOf plan (world .state)) in
       let next : windowStart plan (world .state .windows + 1) ≡ windowEnd plan (world .state .windows) + plan .pad =
       ap (windowStart plan) (add-one (world .state .windows)) ∙ next-start plan (world .state .windows) in
-      let later = start-end plan (world .state .windows + 1) in
       starts-in-time (switchOf plan world) (flushed-long (world .cache) long) (flushed-l1 (world .cache) long)
       (λ index below. flushed-kernel (world .cache) long (kernelIndex + index) (omega arith) (omega arith))
       (omega arith)
