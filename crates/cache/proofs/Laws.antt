@@ -13,10 +13,12 @@ use Rattle.cache.specs.declared.AccessKind.the-variants.{Hit1, Hit2, Mis
 use Rattle.cache.specs.Lines.{cleanEntry, l1Index, l1Length, kernelEntries, kernelIndex, setOf, setIndex}
 use Rattle.cache.specs.Lines.{tableLength, waysPerSet}
 use Rattle.cache.specs.Sets.{has}
-use Rattle.cache.specs.Access.{accessOf, lookupAt, lookupL1, lookupL2}
+use Rattle.cache.specs.declared.WriteBack.{WriteBack}
+use Rattle.cache.specs.Access.{accessOf, lookupAt, lookupL1, lookupL2, seekOf, writeBackAt, writtenBack}
 use Rattle.cache.specs.Flush.{kernelFlushed, l1Flushed}
-use Rattle.cache.proofs.Outcome.{inL1, look-held, look-lacked, waysOf}
+use Rattle.cache.proofs.Outcome.{look-held, look-lacked}
 use Rattle.cache.proofs.Ways.{moved-length}
+use Rattle.cache.proofs.WriteBacks.{back-held, inL1, waysOf, written-entry, written-length}
 
 -- a line that L1 lacks is no hit in L1
 no-hit1 : (known : Bool) → cond known Hit2 Miss ≡ Hit1 → ⊥
@@ -37,19 +39,31 @@ module _ (writes : Bool) (line : ℕ) (table : List ℕ) where
   lookup-ways whole =
       lookup-length (inL1 line table) refl ∙ part-length (setIndex (setOf line)) waysPerSet table (omega arith)
 
-  -- an access keeps the table's length
-  pub access-length : length (accessOf writes line table .table) ≡ length table
-  unfolding accessOf
-  access-length =
+  -- a line sought keeps the table's length, whatever was put out
+  pub seek-length : (back : WriteBack) → length (seekOf writes line back table .table) ≡ length table
+  unfolding seekOf
+  seek-length back =
       let look = lookupAt writes line table in
       length-set (splice (setIndex (setOf line)) waysPerSet (look .ways) table) (l1Index line) (look .entry)
       ∙ splice-length (setIndex (setOf line)) waysPerSet (look .ways) table (lookup-length (inL1 line table) refl)
 
+-- and so does an access
+pub access-length : (writes : Bool) (line : ℕ) (table : List ℕ) → length (accessOf writes line table .table) ≡ length table
+unfolding accessOf
+access-length writes line table =
+    let back = writeBackAt line table in
+    seek-length writes line (writtenBack back table) back ∙ written-length back table
+
+module _ (writes : Bool) (line : ℕ) (table : List ℕ) (whole : length table ≡ tableLength) where
   hit1-held : (held : Bool) → inL1 line table ≡ held → accessOf writes line table .found ≡ Hit1 → inL1 line table ≡ true
-  unfolding accessOf lookupL2
+  unfolding accessOf seekOf lookupL2
   hit1-held true holds is = holds
   hit1-held false lacks is =
-      absurd (no-hit1 (has (cleanEntry line) (waysOf line table)) (rw (look-lacked writes line table lacks) at is))
+      let back = writeBackAt line table in
+      let still : inL1 line (writtenBack back table) ≡ false = rw (written-entry back line table whole) lacks in
+      absurd
+      (no-hit1 (has (cleanEntry line) (waysOf line (writtenBack back table)))
+      (rw (look-lacked writes line (writtenBack back table) still) at is))
 
   -- a hit in L1 is a line that L1 holds
   hit1-holds : accessOf writes line table .found ≡ Hit1 → inL1 line table ≡ true
@@ -58,9 +72,10 @@ module _ (writes : Bool) (line : ℕ) (table : List ℕ) where
   -- a hit in L1 leaves L2 alone
   pub hit1-keeps-l2 : accessOf writes line table .found ≡ Hit1
       → drop l1Length (accessOf writes line table .table) ≡ drop l1Length table
-  unfolding accessOf lookupL1
+  unfolding accessOf seekOf writtenBack lookupL1
   hit1-keeps-l2 is =
-      rw (look-held writes line table (hit1-holds is), splice-part)
+      let holds = hit1-holds is in
+      rw (back-held line table holds, look-held writes line table holds, splice-part)
       (drop-set-lt l1Length table (l1Index line)
       (lookupL1 writes line (getD table (l1Index line) 0) (waysOf line table) .entry) (omega arith))
 

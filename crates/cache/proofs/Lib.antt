@@ -5,3 +5,4 @@ pub mod Laws
 pub mod Outcome
 pub mod Ticks
 pub mod Ways
+pub mod WriteBacks

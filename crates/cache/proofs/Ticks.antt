@@ -10,7 +10,9 @@ use Rattle.lists.specs.Part.{part}
 use Rattle.lists.proofs.Parts.{part-limit}
 use Rattle.cache.specs.Lines.{cleanEntry, holdsLine, l1Length, isDirty, isValid, kernelEntries, kernelIndex}
 use Rattle.cache.specs.Sets.{has}
-use Rattle.cache.specs.Access.{accessOf, dirtyTicks, hit2Ticks, lookupAt, lookupL1, lookupL2, lookupOf, missTicks}
+use Rattle.cache.specs.Access.{accessOf, dirtyTicks, hit2Ticks, lookupAt, lookupL1, lookupL2, lookupOf, missTicks, seekOf}
+use Rattle.cache.specs.Access.{writeBackAt, writtenBack}
+use Rattle.cache.specs.declared.WriteBack.{WriteBack}
 use Rattle.cache.specs.Flush.{countWhere, dirtyLines, dirtyLineTicks, flushTicks, kernelFlushed, kernelFlushTicks}
 use Rattle.cache.specs.Flush.{l1FlushTicks, validLines}
 
@@ -46,10 +48,14 @@ look-ticks writes line entry ways = go (holdsLine entry line)
     go true = omega arith
     go false = l2-ticks (has (cleanEntry line) ways) (isDirty entry) _ _ refl refl
 
--- what an access takes at most
+-- what a line sought takes at most, whatever was put out, and so what an access does
+pub seek-ticks : (writes : Bool) (line : ℕ) (back : WriteBack) (table : List ℕ) → seekOf writes line back table .ticks ≤ mostAccessTicks
+unfolding seekOf lookupAt
+seek-ticks writes line back table = look-ticks writes line _ _
+
 pub access-ticks : (writes : Bool) (line : ℕ) (table : List ℕ) → accessOf writes line table .ticks ≤ mostAccessTicks
-unfolding accessOf lookupAt
-access-ticks writes line table = look-ticks writes line _ _
+unfolding accessOf
+access-ticks writes line table = seek-ticks writes line (writeBackAt line table) (writtenBack (writeBackAt line table) table)
 
 -- and at least: what L1 holds takes one tick
 look-takes : (writes : Bool) (line entry : ℕ) (ways : List ℕ) → 1 ≤ lookupOf writes line entry ways .ticks
@@ -65,7 +71,7 @@ look-takes writes line entry ways = go (holdsLine entry line)
     go false = omega (arith, searched (has (cleanEntry line) ways))
 
 pub access-takes : (writes : Bool) (line : ℕ) (table : List ℕ) → 1 ≤ accessOf writes line table .ticks
-unfolding accessOf lookupAt
+unfolding accessOf seekOf lookupAt
 access-takes writes line table = look-takes writes line _ _
 
 -- a test counts at most every number

@@ -74,6 +74,17 @@ behind-past :
 unfolding behind
 behind-past entry way next ways past = rw (past, behind)
 
+-- a number that stands in front already changes nothing
+pub front-stays : (entry : ℕ) (ways : List ℕ) → getD ways 0 0 ≡ entry → moveToFront entry ways ≡ ways
+unfolding moveToFront behind
+front-stays entry [] front = refl
+front-stays entry (way ∷ []) front =
+    moved entry way [] ∙ ap (λ (first : ℕ). first ∷ []) (sym front)
+front-stays entry (way ∷ (next ∷ ways)) front =
+    moved entry way (next ∷ ways)
+    ∙ ap (λ (left : List ℕ). entry ∷ left) (behind-here entry way next ways (eq-eqb way entry front))
+    ∙ ap (λ (first : ℕ). first ∷ (next ∷ ways)) (sym front)
+
 -- found at a index: that one goes, and the others stay as they were
 behind-found :
     (entry index : ℕ) (set : List ℕ)

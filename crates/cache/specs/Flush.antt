@@ -11,7 +11,7 @@ use Rattle.cache.specs.Lines.{l1Length, isDirty, isValid, kernelEntries,
 abbrev pub flushTicks : ℕ
 flushTicks = 8
 
--- the ticks of a dirty line that L1's flush writes back
+-- the ticks that each dirty line adds to L1's flush; nothing of it goes into L2
 abbrev pub dirtyLineTicks : ℕ
 dirtyLineTicks = 2
 

@@ -7,11 +7,11 @@ use Rattle.plan.specs.Colours.{coloursOf, sharesTotal, firstColour, maskFrom, m
 use Rattle.plan.specs.Sums.{sumTo, allBelow}
 use Rattle.plan.specs.Validity.{countsValid, declaredValid, undeclaredValid, domainValid, maskValid, windowValid, planValid}
 use Rattle.plan.specs.Windows.{windowOwner, windowLength, windowStart, windowEnd, windowsTotal, ticksTotal}
-use Rattle.cache.specs.Access.{lookupL1, lookupL2, lookupOf, lookupAt, accessOf}
+use Rattle.cache.specs.Access.{lookupL1, lookupL2, lookupOf, lookupAt, writeBackOf, writeBackAt, writtenBack, seekOf, accessOf}
 use Rattle.cache.specs.Flush.{countWhere, dirtyLines, validLines, kernelFlushTicks, l1FlushTicks, kernelFlushed, l1Flushed}
 use Rattle.cache.specs.Sets.{has, moveToFront, without}
 use Rattle.records.specs.Records.{recordBytes, partRecords, recordStored, logPart}
-use Rattle.ops.specs.Ops.{ownsLine, touchOf, messageOf, boxObservation, receiveOf, computeOf, effectOf}
+use Rattle.ops.specs.Ops.{ownsLine, touchBy, messageBy, boxObservation, receiveBy, computeOf, effectBy}
 use Rattle.state.specs.StateValidity.{clockValid, domainCountsValid, stateValid}
 use Rattle.state.specs.TableValidity.{lineAllowed, l1EntryValid, allEmpty, waysValid, setValid, boxValid, tablesValid}
 use Rattle.state.specs.World.{endedOf, freshState}
@@ -30,10 +30,10 @@ unfolding
     coloursOf sharesTotal firstColour maskFrom maskOf hasBit sumTo allBelow
     countsValid declaredValid undeclaredValid domainValid maskValid windowValid planValid
     windowOwner windowLength windowStart windowEnd windowsTotal ticksTotal
-    lookupL1 lookupL2 lookupOf lookupAt accessOf has moveToFront without
+    lookupL1 lookupL2 lookupOf lookupAt writeBackOf writeBackAt writtenBack seekOf accessOf has moveToFront without
     countWhere dirtyLines validLines kernelFlushTicks l1FlushTicks kernelFlushed l1Flushed
     recordBytes partRecords recordStored logPart
-    ownsLine touchOf messageOf boxObservation receiveOf computeOf effectOf
+    ownsLine touchBy messageBy boxObservation receiveBy computeOf effectBy
     clockValid domainCountsValid stateValid
     lineAllowed l1EntryValid allEmpty waysValid setValid boxValid tablesValid
     endedOf freshState freshWorld opStepOf switchDue nextStepOf activeStep stepOf runOf

@@ -5,3 +5,4 @@ pub mod Isolation
 pub mod Examples
 pub mod Texts
 pub mod TextExample
+pub mod Lent

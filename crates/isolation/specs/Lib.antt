@@ -4,3 +4,4 @@ pub mod Statement
 pub mod Texts
 pub mod Solo
 pub mod StepBounds
+pub mod Lent

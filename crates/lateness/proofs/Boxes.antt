@@ -10,15 +10,15 @@ use lib.ListN.{getD, length}
 use borrow.Author.Tests.{eq-eqb, le-leb, lt-ltb, ne-eqb}
 use Rattle.lists.specs.Part.{part}
 use Rattle.lists.proofs.Tests.{both-pass, second-passes}
-use Rattle.cache.specs.Access.{accessOf, lookupAt, lookupL1, lookupL2, missTicks, replaceTicks}
+use Rattle.cache.specs.Access.{oldAccessOf, lookupAt, lookupL1, lookupL2, missTicks, replaceTicks, seekOf}
 use Rattle.cache.specs.Lines.{cleanEntry, dirtyEntry, holdsLine, isDirty, isValid, kernelEntries, kernelIndex, l1Index, l1Length, setIndex, setOf}
 use Rattle.cache.specs.Lines.{tableLength, waysPerSet}
 use Rattle.cache.specs.Sets.{has, moveToFront}
-use Rattle.cache.proofs.Laws.{access-length}
-use Rattle.cache.proofs.Outcome.{inL1, look-held, look-lacked, waysOf}
+use Rattle.cache.proofs.Outcome.{look-held, look-lacked}
+use Rattle.cache.proofs.WriteBacks.{inL1, waysOf}
 use Rattle.cache.proofs.Ways.{use-lacks}
 use Rattle.ops.specs.Ops.{boxLine}
-use Rattle.lateness.proofs.Accesses.{access-entry, access-other, access-way, four-ways, none-behind}
+use Rattle.lateness.proofs.Accesses.{access-entry, access-other, access-way, four-ways, none-behind, sought-length}
 use Rattle.lateness.proofs.Indices.{boxesIndex, ownIndex}
 use Rattle.lateness.proofs.Windows.{Entered, mayDirty, mayHold}
 
@@ -34,7 +34,7 @@ module _ (sender recipient : ℕ) (table : List ℕ) (long : length table ≡ ta
   line = boxLine sender recipient
 
   abbrev pub boxAfter : List ℕ
-  boxAfter = accessOf true (boxLine sender recipient) table .table
+  boxAfter = oldAccessOf true (boxLine sender recipient) table .table
 
   -- a number of L1 but the line's own
   pub box-l1 : (index : ℕ) → index < l1Length → (index ≡ boxesIndex → ⊥) → getD boxAfter index 0 ≡ getD table index 0
@@ -79,20 +79,20 @@ module _ (sender recipient : ℕ) (table : List ℕ) (long : length table ≡ ta
 
     -- what it takes and leaves: behind the line its set stays empty
     pub record FirstBox : Type 0 where
-      pub ticks : accessOf true line table .ticks ≤ missTicks + replaceTicks (getD table boxesIndex 0)
+      pub ticks : oldAccessOf true line table .ticks ≤ missTicks + replaceTicks (getD table boxesIndex 0)
       pub behind : (way : ℕ) → 0 < way → way < waysPerSet → getD boxAfter (kernelIndex + (boxesSet + way)) 0 ≡ 0
 
     pub first-box : FirstBox
-    unfolding accessOf lookupL1 lookupL2
+    unfolding oldAccessOf seekOf lookupL1 lookupL2
     first-box = record { ticks = ticks; behind = behind }
       where
         entry-at : getD table (l1Index line) 0 ≡ getD table boxesIndex 0
         entry-at = ap (λ index. getD table index 0) (let same : l1Index line ≡ boxesIndex = omega arith in same)
 
-        ticks : accessOf true line table .ticks ≤ missTicks + replaceTicks (getD table boxesIndex 0)
+        ticks : oldAccessOf true line table .ticks ≤ missTicks + replaceTicks (getD table boxesIndex 0)
         ticks = go (inL1 line table) refl
           where
-            go : (holds : Bool) → inL1 line table ≡ holds → accessOf true line table .ticks ≤ missTicks + replaceTicks (getD table boxesIndex 0)
+            go : (holds : Bool) → inL1 line table ≡ holds → oldAccessOf true line table .ticks ≤ missTicks + replaceTicks (getD table boxesIndex 0)
             go true test = rw (look-held true line table test) (omega arith)
             go false test = rw (look-lacked true line table test, empty-ways, lacks-line, entry-at) (omega arith)
 
@@ -120,8 +120,8 @@ module _ (sender recipient : ℕ) (table : List ℕ) (long : length table ≡ ta
           look-lacked true line table (rw index-is lacks)
           ∙ rw (index-is, empty-ways) refl
 
-      pub missed-ticks : accessOf true line table .ticks ≡ missTicks + replaceTicks (getD table boxesIndex 0)
-      unfolding accessOf lookupL2
+      pub missed-ticks : oldAccessOf true line table .ticks ≡ missTicks + replaceTicks (getD table boxesIndex 0)
+      unfolding oldAccessOf seekOf lookupL2
       missed-ticks = rw (missed, lacks-line) refl
 
       pub missed-entry : getD boxAfter boxesIndex 0 ≡ dirtyEntry line
@@ -139,10 +139,10 @@ module _ (sender recipient : ℕ) (table : List ℕ) (long : length table ≡ ta
 
 -- an entered window of a domain with a box stays so
 pub box-enters : (lowest held sender recipient : ℕ) (table : List ℕ) → Entered lowest held true table
-    → Entered lowest held true (accessOf true (boxLine sender recipient) table .table)
+    → Entered lowest held true (oldAccessOf true (boxLine sender recipient) table .table)
 box-enters lowest held sender recipient table e =
     record {
-      long = access-length true (boxLine sender recipient) table ∙ e .long;
+      long = sought-length true (boxLine sender recipient) table ∙ e .long;
       dirty = λ index less is. dirty index less is (ℕ-discrete index boxesIndex);
       entry = box-kernel sender recipient table (e .long) 0 refl ∙ e .entry;
       valid = λ index less is. valid index less is (inBoxesSet index) refl;

@@ -12,18 +12,18 @@ use borrow.Author.Tests.{eq-eqb, lt-leb, ltb-false, ltb-true, ne-eqb}
 use Rattle.lists.proofs.Agree.{InRange}
 use Rattle.lists.proofs.Parts.{part-at}
 use Rattle.lists.proofs.Tests.{first-passes}
-use Rattle.cache.specs.Access.{accessOf, dirtyTicks, hit2Ticks, lookupAt, lookupL1, lookupL2, missTicks, replaceTicks}
+use Rattle.cache.specs.Access.{dirtyTicks, oldAccessOf, hit2Ticks, lookupAt, lookupL1, lookupL2, missTicks, replaceTicks, seekOf}
 use Rattle.cache.specs.Lines.{holdsLine, isDirty, isValid, kernelEntries, kernelIndex, l1Length, tableLength, waysPerSet}
 use Rattle.cache.specs.Sets.{has, moveToFront, without}
-use Rattle.cache.proofs.Laws.{access-length}
-use Rattle.cache.proofs.Outcome.{inL1, look-held, look-lacked, waysOf}
+use Rattle.cache.proofs.Outcome.{look-held, look-lacked}
+use Rattle.cache.proofs.WriteBacks.{inL1, waysOf}
 use Rattle.ops.specs.Ops.{kernelEntryLine}
-use Rattle.lateness.proofs.Accesses.{access-entry, access-other, access-way, four-ways, none-behind, replaced-most}
+use Rattle.lateness.proofs.Accesses.{access-entry, access-other, access-way, four-ways, none-behind, replaced-most, sought-length}
 use Rattle.lateness.proofs.Indices.{boxesIndex, entryIndex}
 use Rattle.lateness.proofs.Windows.{Entered, Quiet, entryNumber, mayHold}
 
 abbrev pub entryAfter : List ℕ → List ℕ
-entryAfter table = accessOf false kernelEntryLine table .table
+entryAfter table = oldAccessOf false kernelEntryLine table .table
 
 -- the entry line's set where it holds that line alone
 abbrev entryWays : List ℕ
@@ -50,7 +50,7 @@ module _ (table : List ℕ) (long : length table ≡ tableLength) where
   -- ---- the first of a window
 
   pub record FirstEntry : Type 0 where
-    pub ticks : accessOf false kernelEntryLine table .ticks ≡ missTicks + replaceTicks (getD table entryIndex 0)
+    pub ticks : oldAccessOf false kernelEntryLine table .ticks ≡ missTicks + replaceTicks (getD table entryIndex 0)
     pub clean : getD (entryAfter table) entryIndex 0 ≡ entryNumber
     pub front : getD (entryAfter table) kernelIndex 0 ≡ entryNumber
     pub behind : (index : ℕ) → 0 < index → index < kernelEntries → getD (entryAfter table) (kernelIndex + index) 0 ≡ 0
@@ -73,8 +73,8 @@ module _ (table : List ℕ) (long : length table ≡ tableLength) where
     unfolding lookupL2
     first-clean = access-entry false kernelEntryLine table long ∙ rw first-look refl
 
-    first-ticks : accessOf false kernelEntryLine table .ticks ≡ missTicks + replaceTicks (getD table entryIndex 0)
-    unfolding accessOf lookupL2 has
+    first-ticks : oldAccessOf false kernelEntryLine table .ticks ≡ missTicks + replaceTicks (getD table entryIndex 0)
+    unfolding oldAccessOf seekOf lookupL2 has
     first-ticks = rw first-look refl
 
     first-behind : (index : ℕ) → 0 < index → index < kernelEntries → (near : Bool) → ltb index waysPerSet ≡ near
@@ -112,7 +112,7 @@ module _ (lowest held : ℕ) (box : Bool) (table : List ℕ) where
     pub quiet-enters : Entered lowest held box (entryAfter table)
     quiet-enters =
         record {
-          long = access-length false kernelEntryLine table ∙ q .long;
+          long = sought-length false kernelEntryLine table ∙ q .long;
           dirty = λ index less is.
               first-passes _ (box && eqb index boxesIndex) (q .dirty index less (quiet-dirty index less is .1));
           entry = quiet-entry .front;
@@ -162,12 +162,12 @@ module _ (lowest held : ℕ) (box : Bool) (table : List ℕ) where
 
     -- it takes no longer than to find the line in its set, and leaves the set as it was
     pub record LaterEntry : Type 0 where
-      pub ticks : accessOf false kernelEntryLine table .ticks ≤ hit2Ticks + dirtyTicks
+      pub ticks : oldAccessOf false kernelEntryLine table .ticks ≤ hit2Ticks + dirtyTicks
       pub left : lookupAt false kernelEntryLine table .ways ≡ entryWays
       pub dirty : isDirty (lookupAt false kernelEntryLine table .entry) ≡ true → isDirty (getD table entryIndex 0) ≡ true
 
     later-entry : LaterEntry
-    unfolding accessOf lookupL1 lookupL2 has moveToFront without
+    unfolding oldAccessOf seekOf lookupL1 lookupL2 has moveToFront without
     later-entry = go (inL1 kernelEntryLine table) refl
       where
         go : (holds : Bool) → inL1 kernelEntryLine table ≡ holds → LaterEntry
@@ -182,7 +182,7 @@ module _ (lowest held : ℕ) (box : Bool) (table : List ℕ) where
               dirty = λ is. absurd (false≢true (rw look at is));
             }
 
-    pub later-ticks : accessOf false kernelEntryLine table .ticks ≤ hit2Ticks + dirtyTicks
+    pub later-ticks : oldAccessOf false kernelEntryLine table .ticks ≤ hit2Ticks + dirtyTicks
     later-ticks = later-entry .ticks
 
     -- no number of the kernel's sets changes
@@ -206,7 +206,7 @@ module _ (lowest held : ℕ) (box : Bool) (table : List ℕ) where
     pub later-enters : Entered lowest held box (entryAfter table)
     later-enters =
         record {
-          long = access-length false kernelEntryLine table ∙ e .long;
+          long = sought-length false kernelEntryLine table ∙ e .long;
           dirty = λ index less is. e .dirty index less (dirty-before index less (ℕ-discrete index entryIndex) is);
           entry = kernel-same 0 true refl ∙ e .entry;
           valid = λ index less is. e .valid index less (rw (kernel-same index (ltb index waysPerSet) refl) at is);

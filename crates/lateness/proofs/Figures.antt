@@ -13,13 +13,12 @@ use Rattle.lists.proofs.Tests.{both, both-pass, first-passes, second-passes}
 use Rattle.plan.specs.Limits.{domainColours}
 use Rattle.plan.specs.Sums.{sumTo}
 use Rattle.script.specs.Limits.{mostTicks}
-use Rattle.cache.specs.Access.{accessOf, dirtyTicks, missTicks, replaceTicks}
+use Rattle.cache.specs.Access.{oldAccessOf, dirtyTicks, missTicks, replaceTicks}
 use Rattle.cache.specs.Flush.{dirtyLineTicks, dirtyLines, flushTicks, kernelFlushTicks, l1FlushTicks, validLines}
 use Rattle.cache.specs.Lines.{isDirty, isValid, kernelEntries, kernelIndex, l1Length, tableLength, waysPerSet}
-use Rattle.cache.proofs.Laws.{access-length}
 use Rattle.ops.specs.Ops.{boxLine, kernelEntryLine, messageTicks}
 use Rattle.latest.specs.Latest.{lateBy, latestAlone, latestApart, latestMeeting}
-use Rattle.lateness.proofs.Accesses.{replaced-most}
+use Rattle.lateness.proofs.Accesses.{replaced-most, sought-length}
 use Rattle.lateness.proofs.Boxes.{FirstBox, box-kernel, box-l1, boxesSet, first-box, inBoxesSet}
 use Rattle.lateness.proofs.Counting.{count-over, count-under, one}
 use Rattle.lateness.proofs.Entries.{entry-l1, entryAfter, quiet-dirty, quiet-enters, quiet-entry}
@@ -148,10 +147,10 @@ module _ (lowest held : ℕ) (within : lowest + held ≤ domainColours) (some : 
     middle-long = quiet-enters lowest held true table q .long
 
     abbrev last : List ℕ
-    last = accessOf true (boxLine sender recipient) middle .table
+    last = oldAccessOf true (boxLine sender recipient) middle .table
 
     last-long : length last ≡ tableLength
-    last-long = access-length true (boxLine sender recipient) middle ∙ middle-long
+    last-long = sought-length true (boxLine sender recipient) middle ∙ middle-long
 
     boxes-empty : (way : ℕ) → way < waysPerSet → getD middle (kernelIndex + (boxesSet + way)) 0 ≡ 0
     boxes-empty way less = quiet-entry lowest held true table q .behind (boxesSet + way) (omega arith) (omega arith)
@@ -201,7 +200,7 @@ module _ (lowest held : ℕ) (within : lowest + held ≤ domainColours) (some : 
             (both-pass (ownIndex lowest held index) (not (eqb index entryIndex)) (q .dirty index below (before .1)) (ap not (ne-eqb index entryIndex (before .0))))
 
     -- the ticks of its two accesses, beside what they replace
-    message-ticks : accessOf false kernelEntryLine table .ticks + accessOf true (boxLine sender recipient) middle .ticks
+    message-ticks : oldAccessOf false kernelEntryLine table .ticks + oldAccessOf true (boxLine sender recipient) middle .ticks
         ≤ missTicks + replaceTicks (getD table entryIndex 0) + (missTicks + replaceTicks (getD table boxesIndex 0))
     message-ticks =
         let same : getD middle boxesIndex 0 ≡ getD table boxesIndex 0 =
@@ -219,7 +218,7 @@ module _ (lowest held : ℕ) (within : lowest + held ≤ domainColours) (some : 
         go false test = refl
 
     pub message-late :
-        messageTicks + accessOf false kernelEntryLine table .ticks + accessOf true (boxLine sender recipient) middle .ticks
+        messageTicks + oldAccessOf false kernelEntryLine table .ticks + oldAccessOf true (boxLine sender recipient) middle .ticks
         + flushesTicks last
         ≤ figureOf lowest held true + 1
     unfolding latestMeeting latestApart lateBy
@@ -229,7 +228,7 @@ module _ (lowest held : ℕ) (within : lowest + held ≤ domainColours) (some : 
         flushes = flushes-most last 2 _ message-valid message-dirty
 
         go : (meet : Bool) → meets lowest held ≡ meet
-            → messageTicks + accessOf false kernelEntryLine table .ticks + accessOf true (boxLine sender recipient) middle .ticks
+            → messageTicks + oldAccessOf false kernelEntryLine table .ticks + oldAccessOf true (boxLine sender recipient) middle .ticks
             + flushesTicks last
             ≤ cond meet (latestMeeting (indicesOf held)) (latestApart (indicesOf held)) + 1
         go true test =

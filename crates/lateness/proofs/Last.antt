@@ -14,13 +14,13 @@ use Rattle.lists.proofs.Tests.{both}
 use Rattle.plan.specs.Limits.{domainColours}
 use Rattle.plan.specs.Sums.{sumTo}
 use Rattle.script.specs.Limits.{mostTicks}
-use Rattle.cache.specs.Access.{accessOf, dirtyTicks, missTicks, replaceTicks}
+use Rattle.cache.specs.Access.{oldAccessOf, dirtyTicks, missTicks, replaceTicks}
 use Rattle.cache.specs.Flush.{dirtyLineTicks, dirtyLines, flushTicks, validLines}
 use Rattle.cache.specs.Lines.{cleanEntry, dirtyEntry, dirtyMark, holdsLine, isDirty, isValid, kernelEntries, kernelIndex, l1Length}
 use Rattle.cache.specs.Lines.{mostLine, setsPerColour, tableLength, waysPerSet}
-use Rattle.cache.proofs.Laws.{access-length}
 use Rattle.ops.specs.Ops.{boxLine, kernelEntryLine, messageTicks}
 use Rattle.latest.specs.Latest.{lateBy, latestAlone, latestApart, latestMeeting}
+use Rattle.lateness.proofs.Accesses.{sought-length}
 use Rattle.lateness.proofs.Boxes.{box-kernel, box-l1, boxesSet, missed-entry, missed-front, missed-ticks}
 use Rattle.lateness.proofs.Entries.{FirstEntry, entryAfter, entry-l1, first-entry}
 use Rattle.lateness.proofs.Figures.{dirty-least, figureOf, flushes-least, flushesTicks, messageHolds, valid-least}
@@ -104,13 +104,13 @@ module _ (lowest held : ℕ) (within : lowest + held ≤ domainColours) (some : 
     middle = entryAfter table
 
     middle-long : length middle ≡ tableLength
-    middle-long = access-length false kernelEntryLine table ∙ long
+    middle-long = sought-length false kernelEntryLine table ∙ long
 
     abbrev last : List ℕ
-    last = accessOf true (boxLine sender recipient) middle .table
+    last = oldAccessOf true (boxLine sender recipient) middle .table
 
     last-long : length last ≡ tableLength
-    last-long = access-length true (boxLine sender recipient) middle ∙ middle-long
+    last-long = sought-length true (boxLine sender recipient) middle ∙ middle-long
 
     boxes-empty : (way : ℕ) → way < waysPerSet → getD middle (kernelIndex + (boxesSet + way)) 0 ≡ 0
     boxes-empty way less = entry .behind (boxesSet + way) (omega arith) (omega arith)
@@ -123,10 +123,10 @@ module _ (lowest held : ℕ) (within : lowest + held ≤ domainColours) (some : 
     lacks-box = rw middle-box (lacks boxesIndex (boxLine sender recipient) (omega arith) (omega arith) small)
 
     -- its ticks are those of two misses, and of what they replace
-    message-ticks : accessOf false kernelEntryLine table .ticks + accessOf true (boxLine sender recipient) middle .ticks
+    message-ticks : oldAccessOf false kernelEntryLine table .ticks + oldAccessOf true (boxLine sender recipient) middle .ticks
         ≡ missTicks + replaceTicks (getD table entryIndex 0) + (missTicks + replaceTicks (getD table boxesIndex 0))
     message-ticks =
-        let box : accessOf true (boxLine sender recipient) middle .ticks ≡ missTicks + replaceTicks (getD table boxesIndex 0) =
+        let box : oldAccessOf true (boxLine sender recipient) middle .ticks ≡ missTicks + replaceTicks (getD table boxesIndex 0) =
         missed-ticks sender recipient middle middle-long boxes-empty lacks-box ∙ ap (λ number. missTicks + replaceTicks number) middle-box in
         omega (arith, entry .ticks)
 
@@ -169,7 +169,7 @@ module _ (lowest held : ℕ) (within : lowest + held ≤ domainColours) (some : 
 
     pub message-least :
         figureOf lowest held true + 1
-        ≤ messageTicks + accessOf false kernelEntryLine table .ticks + accessOf true (boxLine sender recipient) middle .ticks
+        ≤ messageTicks + oldAccessOf false kernelEntryLine table .ticks + oldAccessOf true (boxLine sender recipient) middle .ticks
         + flushesTicks last
     unfolding latestMeeting latestApart lateBy
     message-least = go (meets lowest held) refl
@@ -179,7 +179,7 @@ module _ (lowest held : ℕ) (within : lowest + held ≤ domainColours) (some : 
 
         go : (meet : Bool) → meets lowest held ≡ meet
             → cond meet (latestMeeting (indicesOf held)) (latestApart (indicesOf held)) + 1
-            ≤ messageTicks + accessOf false kernelEntryLine table .ticks + accessOf true (boxLine sender recipient) middle .ticks
+            ≤ messageTicks + oldAccessOf false kernelEntryLine table .ticks + oldAccessOf true (boxLine sender recipient) middle .ticks
             + flushesTicks last
         go true test =
             let count = rw test at (message-count lowest held (omega arith) (omega arith)) in

@@ -27,7 +27,9 @@ use Rattle.cache.specs.Lines.{tableLength}
 use Rattle.records.specs.declared.Observation.{Observation}
 use Rattle.records.specs.Records.{partRecords, recordSize}
 use Rattle.refusal.specs.declared.Verdict.the-variants.{Accepted}
-use Rattle.ops.specs.Ops.{Effect, computeOf, effectOf, messageOf, receiveOf}
+use Rattle.cache.specs.Access.{oldAccessOf}
+use Rattle.ops.specs.Ops.{Effect, computeOf, effectBy, messageBy, receiveBy}
+use Rattle.reachable.specs.OldBoard.{oldEffectOf}
 use Rattle.ops.proofs.Ticks.{effect-takes}
 use Rattle.state.specs.World.{World}
 use Rattle.machine.specs.Switch.{flushedClock, switchOf}
@@ -50,7 +52,7 @@ use Rattle.lateness.proofs.Last.{compute-least, message-least}
 use Rattle.latest.proofs.Lowest.{lowest-passes}
 use Rattle.lateness.proofs.NoneLater.{l1-after-kernel, none-later}
 use Rattle.lateness.proofs.Ops.{figure-is}
-use Rattle.lateness.proofs.Running.{Judged, WaitedAt, base, colours, last-few, last-tick, lastAt, next-op, opens, start, worldAt}
+use Rattle.lateness.proofs.Running.{Judged, WaitedAt, base, colours, last-few, last-tick, lastAt, next-op, opens, start, worldAt, old-op}
 use Rattle.lateness.proofs.Starting.{first-length, first-owner, windows-in-run}
 use Rattle.lateness.proofs.Stepping.{Stepped, switch-steps}
 
@@ -80,7 +82,7 @@ module _ (plan : Plan) (domain : ℕ) (j : Judged plan domain) (scripts log : Li
   waited = last-tick plan domain j scripts log holds room
 
   abbrev effect : Effect
-  effect = effectOf plan domain (lastOp plan domain) (world .cache) (world .boxes)
+  effect = oldEffectOf plan domain (lastOp plan domain) (world .cache) (world .boxes)
 
   below : domain < mostDomains
   below = omega (arith, j .declared, counts plan (j .valid) .domains-most)
@@ -94,8 +96,8 @@ module _ (plan : Plan) (domain : ℕ) (j : Judged plan domain) (scripts log : Li
   abbrev Reaches : Op → Type 0
   Reaches op =
       latestTicks plan domain + 1
-      ≤ effectOf plan domain op (world .cache) (world .boxes) .ticks
-      + flushesTicks (effectOf plan domain op (world .cache) (world .boxes) .cache)
+      ≤ oldEffectOf plan domain op (world .cache) (world .boxes) .ticks
+      + flushesTicks (oldEffectOf plan domain op (world .cache) (world .boxes) .cache)
 
   abbrev row : Row plan domain
   row = colours plan domain j scripts log holds room
@@ -104,9 +106,9 @@ module _ (plan : Plan) (domain : ℕ) (j : Judged plan domain) (scripts log : Li
   message-reaches : (sender recipient : ℕ) (denied passed : Observation) (number : ℕ) → hasBox plan domain ≡ true
       → sender < mostDomains → recipient < mostDomains → maySend plan sender recipient ≡ true
       → latestTicks plan domain + 1
-      ≤ messageOf plan sender recipient denied passed number (world .cache) (world .boxes) .ticks
-      + flushesTicks (messageOf plan sender recipient denied passed number (world .cache) (world .boxes) .cache)
-  unfolding messageOf
+      ≤ messageBy oldAccessOf plan sender recipient denied passed number (world .cache) (world .boxes) .ticks
+      + flushesTicks (messageBy oldAccessOf plan sender recipient denied passed number (world .cache) (world .boxes) .cache)
+  unfolding messageBy
   message-reaches sender recipient denied passed number box from to may =
       let opened = opens plan domain j scripts log holds room .opened in
       rw (figure-is plan domain (j .valid) (j .declared), box, may)
@@ -121,7 +123,7 @@ module _ (plan : Plan) (domain : ℕ) (j : Judged plan domain) (scripts log : Li
       (opens plan domain j scripts log holds room .opened .entered alone))
 
   last-reaches : Reaches (lastOp plan domain)
-  unfolding lastOp hasBox lowestRecipient lowestSender effectOf receiveOf computeOf
+  unfolding lastOp hasBox lowestRecipient lowestSender effectBy receiveBy computeOf
   last-reaches = go (ltb (lowestRecipient plan domain) mostDomains) refl (ltb (lowestSender plan domain) mostDomains) refl
     where
       go : (sends : Bool) → ltb (lowestRecipient plan domain) mostDomains ≡ sends
@@ -160,7 +162,10 @@ module _ (plan : Plan) (domain : ℕ) (j : Judged plan domain) (scripts log : Li
   final = worldAt plan domain j scripts log holds room (suc ops)
 
   takes : 1 ≤ effect .ticks
-  takes = effect-takes plan domain (lastOp plan domain) (world .cache) (world .boxes) (last-within plan domain)
+  takes =
+      subst (λ (op : Effect). 1 ≤ op .ticks)
+      (old-op plan domain j scripts log holds room ops _ (lastOp plan domain) (waited .stands) (last-within plan domain))
+      (effect-takes plan domain (lastOp plan domain) (world .cache) (world .boxes) (last-within plan domain))
 
   abbrev at : ℕ
   at = start plan domain j scripts log holds room .at + suc ops

@@ -2,7 +2,7 @@
 use Prim.Native.Nat.{ℕ, _+_, _*_, _≤_, _<_, max}
 use mathlib.Core.Bool.{Bool, true, false, cond}
 use mathlib.Core.List.{List}
-use mathlib.Core.Path.{_≡_, refl, ap, subst, _∙_}
+use mathlib.Core.Path.{_≡_, refl, sym, ap, subst, _∙_}
 use native.Mathlib.Numerals.{add-one}
 use native.Mathlib.Omega.{arith}
 use lib.ListN.{getD, length}
@@ -24,7 +24,10 @@ use Rattle.machine.specs.Switch.{flushedClock, paddedClock, switchOf}
 use Rattle.machine.proofs.Fetched.{fetched-within}
 use Rattle.machine.proofs.Invariant.{Begins, steps-hold}
 use Rattle.machine.proofs.Schedule.{next-start}
+use Rattle.ops.specs.Ops.{effectOf}
+use Rattle.reachable.specs.OldBoard.{oldEffectOf}
 use Rattle.reachable.proofs.Cells.{cell-zeros, zeros-length}
+use Rattle.reachable.proofs.OldBoard.{Fronted, op-fronted, same-op, start-fronted, switch-fronted}
 use Rattle.reachable.proofs.Flushes.{flushed-kernel, flushed-l1, flushed-long}
 use Rattle.isolation.specs.Points.{windowsAfter, worldAfter}
 use Rattle.latest.specs.Latest.{lateBy, latestAlone, latestApart, latestMeeting, latestTicks}
@@ -33,7 +36,7 @@ use Rattle.latest.proofs.Ranges.{indices-most}
 use Rattle.lateness.specs.Lateness.{latenessOf}
 use Rattle.lateness.specs.Theorems.{LatestBounded, NoneLater, PadSuffices, SwitchesByLateness, freshRun, mostLatest}
 use Rattle.lateness.proofs.Figures.{flushesTicks}
-use Rattle.lateness.proofs.Ops.{Inside, flushes-late, op-late}
+use Rattle.lateness.proofs.Ops.{Inside, OpLate, flushes-late, op-late}
 use Rattle.lateness.proofs.Windows.{in-long, quiet, starts-quiet}
 
 -- ---- the figure is within every pad
@@ -132,12 +135,16 @@ module _ (plan : Plan) (valid : planValid plan ≡ true) where
       (omega arith)
 
   after-op : (scripts : List ℕ) (quota : ℕ) (world : World) (op : Op) → InTime plan world → Begins plan scripts quota world op
+      → effectOf plan (runningOf plan (world .state)) op (world .cache) (world .boxes)
+      ≡ oldEffectOf plan (runningOf plan (world .state)) op (world .cache) (world .boxes)
       → InTime plan (opStepOf plan quota (runningOf plan (world .state)) op world)
   unfolding opStepOf
-  after-op scripts quota world op timely begins =
+  after-op scripts quota world op timely begins same =
       let running = runningOf plan (world .state) in
       let good = fetched-within scripts running (positionAt (world .state) running) op (begins .next) in
-      let left = op-late plan running valid (runs-declared (world .state .windows)) op (world .cache) (world .boxes) good (timely .inside) in
+      let left =
+      subst (OpLate plan running) (sym same)
+      (op-late plan running valid (runs-declared (world .state .windows)) op (world .cache) (world .boxes) good (timely .inside)) in
       let early = begins .inTime in
       let flushes = flushes-late plan running valid (runs-declared (world .state .windows)) _ (left .in-window) in
       record { inside = left .in-window; soon = omega (arith, left .late) }
@@ -150,7 +157,14 @@ module _ (plan : Plan) (valid : planValid plan ≡ true) where
 
   pub in-time : (scripts : List ℕ) (quota count : ℕ) (log : List ℕ) → InTime plan (steps plan scripts quota count (freshWorld log))
   in-time scripts quota count log =
-      steps-hold plan scripts quota (InTime plan) after-switch (after-op scripts quota) (freshWorld log) (at-start log) count
+      steps-hold plan scripts quota (λ world. Fronted plan scripts quota (length log) valid world × InTime plan world)
+      (λ world held inWindow.
+      (switch-fronted plan scripts quota (length log) valid world (held .0) inWindow, after-switch world (held .1) inWindow))
+      (λ world op held begins. (
+        op-fronted plan scripts quota (length log) valid world op (held .0) begins,
+        after-op scripts quota world op (held .1) begins (same-op plan scripts quota (length log) valid world op (held .0) begins .same),
+      ))
+      (freshWorld log) (start-fronted plan scripts quota (length log) valid log refl, at-start log) count .1
 
 -- ---- the two statements
 

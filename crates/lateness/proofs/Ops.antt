@@ -16,13 +16,14 @@ use Rattle.plan.specs.Validity.{planValid}
 use Rattle.script.specs.declared.Op.{Op}
 use Rattle.script.specs.declared.Op.the-variants.{Read, Write, Send, Receive, Compute}
 use Rattle.script.specs.Limits.{OpWithinLimits, mostTicks}
-use Rattle.cache.specs.Access.{accessOf}
-use Rattle.cache.proofs.Ticks.{access-ticks}
+use Rattle.cache.specs.Access.{oldAccessOf}
 use Rattle.records.specs.declared.Observation.{Observation}
-use Rattle.ops.specs.Ops.{Effect, boxLine, computeOf, effectOf, kernelEntryLine, messageOf, messageTicks, ownsLine, receiveOf, touchOf}
+use Rattle.ops.specs.Ops.{Effect, boxLine, computeOf, effectBy, kernelEntryLine, messageBy, messageTicks, ownsLine, receiveBy, touchBy}
 use Rattle.ops.proofs.Operations.{owned}
 use Rattle.latest.specs.Latest.{latestTicks}
 use Rattle.latest.specs.Reach.{hasBox, lowestColour, lowestRecipient, lowestSender, meetsKernel, ownIndices}
+use Rattle.reachable.specs.OldBoard.{oldEffectOf}
+use Rattle.lateness.proofs.Accesses.{sought-ticks}
 use Rattle.lateness.proofs.Boxes.{box-enters}
 use Rattle.lateness.proofs.Colours.{Row, row}
 use Rattle.lateness.proofs.Entries.{entryAfter, later-enters, later-ticks, quiet-enters}
@@ -78,46 +79,46 @@ module _ (plan : Plan) (domain : ℕ) (valid : planValid plan ≡ true) (declare
   flushes-late table inside =
       omega (arith, figure-is, common-late lowest held (colours .within) (colours .some) (hasBox plan domain) table 1 inside (omega arith))
 
-  touch-late : (writes : Bool) (line : ℕ) (table boxes : List ℕ) → Inside plan domain table → OpLate plan domain (touchOf plan domain writes line table boxes)
-  unfolding touchOf
+  touch-late : (writes : Bool) (line : ℕ) (table boxes : List ℕ) → Inside plan domain table → OpLate plan domain (touchBy oldAccessOf plan domain writes line table boxes)
+  unfolding touchBy
   touch-late writes line table boxes inside = go (ownsLine plan domain line) refl
     where
-      go : (owns : Bool) → ownsLine plan domain line ≡ owns → OpLate plan domain (touchOf plan domain writes line table boxes)
+      go : (owns : Bool) → ownsLine plan domain line ≡ owns → OpLate plan domain (touchBy oldAccessOf plan domain writes line table boxes)
       go true test =
           let own = owned plan domain line test in
           let kept = own-in-window lowest held (hasBox plan domain) (colours .within) writes line (own .0)
           (colours .from _ (own .1)) (colours .below _ (own .1)) table inside in
-          rw test (common _ kept (omega (arith, access-ticks writes line table)))
+          rw test (common _ kept (omega (arith, sought-ticks writes line table)))
       go false test = rw test (common _ inside (omega arith))
 
   -- a message that the rights refuse, or allow, from a quiet or an entered window
   module _ (sender recipient : ℕ) (denied passed : Observation) (number : ℕ) (table boxes : List ℕ)
       (boxed : maySend plan sender recipient ≡ true → hasBox plan domain ≡ true) where
     abbrev message : Effect
-    message = messageOf plan sender recipient denied passed number table boxes
+    message = messageBy oldAccessOf plan sender recipient denied passed number table boxes
 
     enters : Inside plan domain table → Entered lowest held (hasBox plan domain) (entryAfter table)
     enters (quiet q) = quiet-enters lowest held (hasBox plan domain) table q
     enters (entered e) = later-enters lowest held (hasBox plan domain) table e
 
     passes-on : (box : Bool) → box ≡ true → Entered lowest held box (entryAfter table)
-        → Entered lowest held box (accessOf true (boxLine sender recipient) (entryAfter table) .table)
+        → Entered lowest held box (oldAccessOf true (boxLine sender recipient) (entryAfter table) .table)
     passes-on true is e = box-enters lowest held sender recipient (entryAfter table) e
     passes-on false is e = absurd (false≢true is)
 
     first-passes-on : (box : Bool) → box ≡ true → Quiet lowest held box table
-        → messageTicks + accessOf false kernelEntryLine table .ticks + accessOf true (boxLine sender recipient) (entryAfter table) .ticks
-        + flushesTicks (accessOf true (boxLine sender recipient) (entryAfter table) .table)
+        → messageTicks + oldAccessOf false kernelEntryLine table .ticks + oldAccessOf true (boxLine sender recipient) (entryAfter table) .ticks
+        + flushesTicks (oldAccessOf true (boxLine sender recipient) (entryAfter table) .table)
         ≤ figureOf lowest held box + 1
     first-passes-on true is q = message-late lowest held (colours .within) (colours .some) sender recipient table q
     first-passes-on false is q = absurd (false≢true is)
 
     message-inside : Inside plan domain table → OpLate plan domain message
-    unfolding messageOf
+    unfolding messageBy
     message-inside inside = go (maySend plan sender recipient) refl inside
       where
         go : (may : Bool) → maySend plan sender recipient ≡ may → Inside plan domain table → OpLate plan domain message
-        go false test inside = rw test (common _ (entered (enters inside)) (omega (arith, access-ticks false kernelEntryLine table)))
+        go false test inside = rw test (common _ (entered (enters inside)) (omega (arith, sought-ticks false kernelEntryLine table)))
         go true test (quiet q) =
             rw test
             (record {
@@ -127,10 +128,10 @@ module _ (plan : Plan) (domain : ℕ) (valid : planValid plan ≡ true) (declare
         go true test (entered e) =
             rw test
             (common _ (entered (passes-on (hasBox plan domain) (boxed test) (enters (entered e))))
-            (omega (arith, later-ticks lowest held (hasBox plan domain) table e, access-ticks true (boxLine sender recipient) (entryAfter table))))
+            (omega (arith, later-ticks lowest held (hasBox plan domain) table e, sought-ticks true (boxLine sender recipient) (entryAfter table))))
 
-  pub op-late : (op : Op) (table boxes : List ℕ) → OpWithinLimits op → Inside plan domain table → OpLate plan domain (effectOf plan domain op table boxes)
-  unfolding effectOf receiveOf computeOf OpWithinLimits
+  pub op-late : (op : Op) (table boxes : List ℕ) → OpWithinLimits op → Inside plan domain table → OpLate plan domain (oldEffectOf plan domain op table boxes)
+  unfolding effectBy receiveBy computeOf OpWithinLimits
   op-late (Read line) table boxes good inside = touch-late false line table boxes inside
   op-late (Write line) table boxes good inside = touch-late true line table boxes inside
   op-late (Send recipient word) table boxes good inside =

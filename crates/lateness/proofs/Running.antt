@@ -14,19 +14,21 @@ use Rattle.plan.specs.Colours.{holdingOf, ownsColour}
 use Rattle.plan.specs.Limits.{domainColours, mostDomains}
 use Rattle.plan.specs.Rights.{maySend}
 use Rattle.plan.specs.Validity.{planValid}
-use Rattle.plan.specs.Windows.{windowLength}
+use Rattle.plan.specs.Windows.{windowLength, windowOwner, windowsTotal}
 use Rattle.plan.proofs.ValidPlans.{counts, declared}
 use Rattle.script.specs.declared.Op.{Op}
 use Rattle.script.specs.declared.Op.the-variants.{Write, Send, Compute}
 use Rattle.script.specs.Limits.{OpWithinLimits, mostOps, mostTicks}
 use Rattle.script.specs.Stored.{storedOf}
-use Rattle.cache.specs.Access.{accessOf, missTicks}
+use Rattle.cache.specs.Access.{oldAccessOf, missTicks}
 use Rattle.cache.specs.Lines.{cleanEntry, dirtyEntry, holdsLine, isDirty, kernelEntries, kernelIndex, l1Length, mostLine}
 use Rattle.cache.specs.Lines.{setColour, setOf, setsPerColour, tableLength}
-use Rattle.cache.proofs.Laws.{access-length}
 use Rattle.records.specs.Records.{partRecords}
-use Rattle.ops.specs.Ops.{computeOf, effectOf, kernelEntryLine, messageOf, messageTicks, ownsLine, touchOf}
+use Rattle.ops.specs.Ops.{Effect, computeOf, effectBy, effectOf, kernelEntryLine, messageBy, messageTicks, ownsLine, touchBy}
+use Rattle.reachable.specs.OldBoard.{oldEffectOf}
+use Rattle.reachable.proofs.OldBoard.{reached-op}
 use Rattle.state.specs.World.{World}
+use Rattle.machine.specs.Steps.{stepOf}
 use Rattle.isolation.specs.Points.{FreshRun, worldAfter}
 use Rattle.isolation.proofs.TwoRuns.Indices.{OwnIndex, own-between, own-set}
 use Rattle.isolation.proofs.TwoRuns.Progress.{one-more}
@@ -35,13 +37,13 @@ use Rattle.latest.specs.Reach.{firstWindow, hasBox, lowestColour, ownIndices}
 use Rattle.latest.specs.Script.{lateNumber, lateScriptOf, latestScript, openingOps, waitingTicks, writtenTicks}
 use Rattle.latest.proofs.Ranges.{opening-most}
 use Rattle.lateness.specs.Theorems.{HoldsScript, freshRun}
-use Rattle.lateness.proofs.Accesses.{access-other}
+use Rattle.lateness.proofs.Accesses.{access-other, sought-length}
 use Rattle.lateness.proofs.Colours.{Row, row}
 use Rattle.lateness.proofs.Entries.{FirstEntry, entryAfter, entry-l1, first-entry}
 use Rattle.lateness.proofs.Fetching.{fetches, number-opening, number-rest, number-wait, number-write}
 use Rattle.lateness.proofs.Indices.{entryIndex, indicesOf}
 use Rattle.lateness.proofs.Starting.{AtStart, FirstStart, first-length, first-owner, first-starts, windows-in-run}
-use Rattle.lateness.proofs.Stepping.{Stands, Stepped, op-stepped}
+use Rattle.lateness.proofs.Stepping.{Stands, Stepped, not-ended, op-stepped, running}
 use Rattle.lateness.proofs.Windows.{entryNumber}
 use Rattle.lateness.proofs.Writing.{Clean, Written, lineAt, write-more, write-ticks}
 
@@ -100,18 +102,37 @@ module _ (plan : Plan) (domain : ℕ) (judged : Judged plan domain) (scripts log
 
   -- ---- one op
 
+  window-in-run : window < windowsTotal plan
+  window-in-run = windows-in-run plan (judged .valid) window (judged .some)
+
+  owner : windowOwner plan window ≡ domain
+  owner = first-owner plan domain (judged .some)
+
+  -- it is document 01's own
+  pub old-op : (ops ticks : ℕ) (op : Op) → StandsAt ops ticks → OpWithinLimits op
+      → effectOf plan domain op (worldAt ops .cache) (worldAt ops .boxes)
+      ≡ oldEffectOf plan domain op (worldAt ops .cache) (worldAt ops .boxes)
+  unfolding worldAfter
+  old-op ops ticks op stands good =
+      let runs = running plan scripts quota domain window window-in-run owner below ops ticks (worldAt ops) stands in
+      let goes = not-ended plan scripts quota domain window window-in-run owner below ops ticks (worldAt ops) stands in
+      rw runs at (reached-op plan scripts log (start .at + ops) (judged .valid) op goes good)
+
   pub next-op : (ops ticks : ℕ) (op : Op) → StandsAt ops ticks → ticks < windowLength plan window → ops < mostOps
       → lateNumber (lateScriptOf plan domain) ops ≡ storedOf op → OpWithinLimits op
-      → Stepped plan domain window (suc ops) (ticks + effectOf plan domain op (worldAt ops .cache) (worldAt ops .boxes) .ticks)
-      (effectOf plan domain op (worldAt ops .cache) (worldAt ops .boxes) .cache) (worldAt (suc ops))
+      → Stepped plan domain window (suc ops) (ticks + oldEffectOf plan domain op (worldAt ops .cache) (worldAt ops .boxes) .ticks)
+      (oldEffectOf plan domain op (worldAt ops .cache) (worldAt ops .boxes) .cache) (worldAt (suc ops))
   next-op ops ticks op stands inTime few number good =
       subst
-      (Stepped plan domain window (suc ops) (ticks + effectOf plan domain op (worldAt ops .cache) (worldAt ops .boxes) .ticks)
-      (effectOf plan domain op (worldAt ops .cache) (worldAt ops .boxes) .cache))
+      (Stepped plan domain window (suc ops) (ticks + oldEffectOf plan domain op (worldAt ops .cache) (worldAt ops .boxes) .ticks)
+      (oldEffectOf plan domain op (worldAt ops .cache) (worldAt ops .boxes) .cache))
       (sym (ap (worldAfter run) (add-suc (start .at) ops) ∙ one-more run (start .at + ops)))
-      (op-stepped plan scripts quota domain window (windows-in-run plan (judged .valid) window (judged .some))
-      (first-owner plan domain (judged .some)) below ops ticks (worldAt ops) stands op inTime (omega arith)
-      (fetches plan domain scripts holds ops op few number good))
+      (subst
+      (λ (effect : Effect).
+      Stepped plan domain window (suc ops) (ticks + effect .ticks) (effect .cache) (stepOf plan scripts quota (worldAt ops)))
+      (old-op ops ticks op stands good)
+      (op-stepped plan scripts quota domain window window-in-run owner below ops ticks (worldAt ops) stands op inTime (omega arith)
+      (fetches plan domain scripts holds ops op few number good)))
 
   -- ---- the opening
 
@@ -169,13 +190,13 @@ module _ (plan : Plan) (domain : ℕ) (judged : Judged plan domain) (scripts log
         clean-l1 : (isDirty (getD (worldAt 0 .cache) entryIndex 0) ≡ false) × (holdsLine (getD (worldAt 0 .cache) entryIndex 0) kernelEntryLine ≡ false)
         clean-l1 = rw (starts .l1 entryIndex (omega arith)) (refl, refl)
 
-    first-ticks : accessOf false kernelEntryLine (worldAt 0 .cache) .ticks ≡ missTicks
+    first-ticks : oldAccessOf false kernelEntryLine (worldAt 0 .cache) .ticks ≡ missTicks
     first-ticks = first .ticks ∙ rw (starts .l1 entryIndex (omega arith)) refl
 
     entered-table : Opened plan domain (entryAfter (worldAt 0 .cache))
     entered-table =
         record {
-          long = access-length false kernelEntryLine (worldAt 0 .cache) ∙ starts .long;
+          long = sought-length false kernelEntryLine (worldAt 0 .cache) ∙ starts .long;
           clean = λ index small. go index small (ℕ-discrete index entryIndex);
           own = λ index mine.
               let between = own-between plan (judged .valid) domain index (judged .declared) mine in
@@ -207,9 +228,9 @@ module _ (plan : Plan) (domain : ℕ) (judged : Judged plan domain) (scripts log
     unfolding OpWithinLimits
     good = (omega (arith, below), omega arith)
 
-    opening-effect : (effectOf plan domain itself (worldAt 0 .cache) (worldAt 0 .boxes) .ticks ≡ messageTicks + missTicks)
-        × (effectOf plan domain itself (worldAt 0 .cache) (worldAt 0 .boxes) .cache ≡ entryAfter (worldAt 0 .cache))
-    unfolding effectOf messageOf
+    opening-effect : (oldEffectOf plan domain itself (worldAt 0 .cache) (worldAt 0 .boxes) .ticks ≡ messageTicks + missTicks)
+        × (oldEffectOf plan domain itself (worldAt 0 .cache) (worldAt 0 .boxes) .cache ≡ entryAfter (worldAt 0 .cache))
+    unfolding effectBy messageBy
     opening-effect = rw denied (ap (λ ticks. messageTicks + ticks) first-ticks, refl)
 
     opens-alone : OpenedAt 1
@@ -284,9 +305,9 @@ module _ (plan : Plan) (domain : ℕ) (judged : Judged plan domain) (scripts log
   write-good count few = omega (arith, colours .within)
 
   write-effect : (count : ℕ) → count < indicesOf held → (table boxes : List ℕ)
-      → (effectOf plan domain (Write (lineOf count)) table boxes .ticks ≡ accessOf true (lineOf count) table .ticks)
-      × (effectOf plan domain (Write (lineOf count)) table boxes .cache ≡ accessOf true (lineOf count) table .table)
-  unfolding effectOf touchOf
+      → (oldEffectOf plan domain (Write (lineOf count)) table boxes .ticks ≡ oldAccessOf true (lineOf count) table .ticks)
+      × (oldEffectOf plan domain (Write (lineOf count)) table boxes .cache ≡ oldAccessOf true (lineOf count) table .table)
+  unfolding effectBy touchBy
   write-effect count few table boxes = rw (owns count few) (refl, refl)
 
   pub writes : (count : ℕ) → count ≤ indicesOf held → WrittenAt count
@@ -308,7 +329,7 @@ module _ (plan : Plan) (domain : ℕ) (judged : Judged plan domain) (scripts log
       let ops : opening + suc count ≡ suc (opening + count) = add-suc opening count in
       let ticks : (messageTicks + missTicks) * opening + missTicks * suc count
       ≡ (messageTicks + missTicks) * opening + missTicks * count
-      + effectOf plan domain (Write (lineOf count)) table (worldAt (opening + count) .boxes) .ticks
+      + oldEffectOf plan domain (Write (lineOf count)) table (worldAt (opening + count) .boxes) .ticks
       = omega (arith, effect .0, miss) in
       record {
         stands = rw (ops, ticks) (step .stands);
@@ -345,9 +366,9 @@ module _ (plan : Plan) (domain : ℕ) (judged : Judged plan domain) (scripts log
   few-ops = omega (arith, judged .most, opening-most plan domain, fills .1)
 
   compute-effect : (ticks : ℕ) (table boxes : List ℕ)
-      → (effectOf plan domain (Compute ticks) table boxes .ticks ≡ ticks)
-      × (effectOf plan domain (Compute ticks) table boxes .cache ≡ table)
-  unfolding effectOf computeOf
+      → (oldEffectOf plan domain (Compute ticks) table boxes .ticks ≡ ticks)
+      × (oldEffectOf plan domain (Compute ticks) table boxes .cache ≡ table)
+  unfolding effectBy computeOf
   compute-effect ticks table boxes = (refl, refl)
 
   compute-good : (ticks : ℕ) → 1 ≤ ticks → ticks ≤ mostTicks → OpWithinLimits (Compute ticks)

@@ -28,7 +28,7 @@ use Rattle.isolation.proofs.TwoRuns.Indices.{OwnIndex}
 use Rattle.isolation.proofs.TwoRuns.Progress.{before, first-start, one-more}
 use Rattle.isolation.proofs.TwoRuns.Relations.{Alike, alike-refl, alike-trans, same-position, same-records}
 use Rattle.isolation.proofs.TwoRuns.Step.{step-away}
-use Rattle.isolation.proofs.TwoRuns.Windows.{whole}
+use Rattle.isolation.proofs.TwoRuns.Windows.{ready, whole}
 use Rattle.latest.specs.Reach.{firstWindow, ownsWindow}
 use Rattle.lateness.specs.Theorems.{freshRun}
 use Rattle.latest.proofs.Lowest.{lowest-passes, none-before}
@@ -125,7 +125,7 @@ module _ (plan : Plan) (scripts log : List ℕ) (valid : planValid plan ≡ true
         (alike-trans plan quota domain (untouched start starts count (omega arith))
         (step-away plan scripts quota domain world valid declared
         (others-before plan domain some (world .state .windows) (starts .first count (omega arith)))
-        (whole run valid count)))
+        (ready run valid count)))
 
     fresh-position : positionAt (worldAfter run 0 .state) domain ≡ 0
     unfolding worldAfter runOf freshWorld freshState

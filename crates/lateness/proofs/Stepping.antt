@@ -33,10 +33,10 @@ pub record Stands (plan : Plan) (domain window ops ticks : ℕ) (world : World) 
 module _ (plan : Plan) (scripts : List ℕ) (quota domain window : ℕ) (in-run : window < windowsTotal plan)
     (owner : windowOwner plan window ≡ domain) (below : domain < mostDomains) where
   module _ (ops ticks : ℕ) (world : World) (stands : Stands plan domain window ops ticks world) where
-    running : runningOf plan (world .state) ≡ domain
+    pub running : runningOf plan (world .state) ≡ domain
     running = ap (windowOwner plan) (stands .windows) ∙ owner
 
-    not-ended : endedOf plan (world .state) ≡ false
+    pub not-ended : endedOf plan (world .state) ≡ false
     unfolding endedOf
     not-ended = lt-leb (windowsTotal plan) (world .state .windows) (omega (arith, stands .windows))
 

@@ -11,13 +11,11 @@ use lib.ListN.{getD, length}
 use borrow.Author.Tests.{ne-eqb}
 use Rattle.lists.proofs.Tests.{first-passes}
 use Rattle.plan.specs.Limits.{domainColours}
-use Rattle.cache.specs.Access.{accessOf}
+use Rattle.cache.specs.Access.{oldAccessOf}
 use Rattle.cache.specs.Lines.{cleanEntry, dirtyEntry, holdsLine, isDirty, isValid, kernelEntries, kernelIndex}
 use Rattle.cache.specs.Lines.{l1Length, mostLine, setColour, setOf, tableLength, waysPerSet}
-use Rattle.cache.proofs.Laws.{access-length}
 use Rattle.ops.specs.Ops.{kernelEntryLine}
-use Rattle.reachable.proofs.Accesses.{access-index}
-use Rattle.lateness.proofs.Accesses.{access-other}
+use Rattle.lateness.proofs.Accesses.{access-other, sought-index, sought-length}
 use Rattle.lateness.proofs.Indices.{boxesIndex, entryIndex, ownIndex, own-line-index}
 
 -- the number of the entry line in a set
@@ -73,20 +71,20 @@ module _ (lowest held : ℕ) (box : Bool) where
       (from : lowest ≤ setColour (setOf line)) (below : setColour (setOf line) < lowest + held) where
     -- leaves the kernel's sets
     own-kernel : (table : List ℕ) → length table ≡ tableLength → (index : ℕ) → index < kernelEntries
-        → getD (accessOf writes line table .table) (kernelIndex + index) 0 ≡ getD table (kernelIndex + index) 0
+        → getD (oldAccessOf writes line table .table) (kernelIndex + index) 0 ≡ getD table (kernelIndex + index) 0
     own-kernel table long index less =
         access-other writes line table long (kernelIndex + index) (λ same. omega arith) (λ inside. omega arith)
 
-    pub own-quiet : (table : List ℕ) → Quiet table → Quiet (accessOf writes line table .table)
+    pub own-quiet : (table : List ℕ) → Quiet table → Quiet (oldAccessOf writes line table .table)
     own-quiet table q =
         record {
-          long = access-length writes line table ∙ q .long;
+          long = sought-length writes line table ∙ q .long;
           dirty = λ index less.
-              access-index writes line table (q .long) (λ n. isDirty n ≡ true → ownIndex lowest held index ≡ true) index less
+              sought-index writes line table (q .long) (λ n. isDirty n ≡ true → ownIndex lowest held index ≡ true) index less
               (q .dirty index less)
               (λ same. let own = subst (λ i. ownIndex lowest held i ≡ true) (sym same) (own-line-index lowest held line within from below) in (λ is. own, λ is. own));
           lacks =
-              access-index writes line table (q .long) (λ n. holdsLine n kernelEntryLine ≡ false) entryIndex (omega arith)
+              sought-index writes line table (q .long) (λ n. holdsLine n kernelEntryLine ≡ false) entryIndex (omega arith)
               (q .lacks) (λ same. (other-line (cleanEntry line) (omega arith) (omega arith), other-line (dirtyEntry line) (omega arith) (omega arith)));
           empty = λ index less. own-kernel table (q .long) index less ∙ q .empty index less;
         }
@@ -94,12 +92,12 @@ module _ (lowest held : ℕ) (box : Bool) where
         other-line : (n : ℕ) → (n ≡ cleanEntry kernelEntryLine → ⊥) → (n ≡ dirtyEntry kernelEntryLine → ⊥) → holdsLine n kernelEntryLine ≡ false
         other-line n one other = rw (ne-eqb n (cleanEntry kernelEntryLine) one, ne-eqb n (dirtyEntry kernelEntryLine) other)
 
-    pub own-entered : (table : List ℕ) → Entered table → Entered (accessOf writes line table .table)
+    pub own-entered : (table : List ℕ) → Entered table → Entered (oldAccessOf writes line table .table)
     own-entered table e =
         record {
-          long = access-length writes line table ∙ e .long;
+          long = sought-length writes line table ∙ e .long;
           dirty = λ index less.
-              access-index writes line table (e .long) (λ n. isDirty n ≡ true → mayDirty lowest held box index ≡ true) index less
+              sought-index writes line table (e .long) (λ n. isDirty n ≡ true → mayDirty lowest held box index ≡ true) index less
               (e .dirty index less)
               (λ same.
               let own = first-passes _ (box && eqb index boxesIndex)
@@ -109,10 +107,10 @@ module _ (lowest held : ℕ) (box : Bool) where
           valid = λ index less is. e .valid index less (rw (own-kernel table (e .long) index less) at is);
         }
       where
-        kernel-cell : (index : ℕ) → index < kernelEntries → getD (accessOf writes line table .table) (kernelIndex + index) 0 ≡ getD table (kernelIndex + index) 0
+        kernel-cell : (index : ℕ) → index < kernelEntries → getD (oldAccessOf writes line table .table) (kernelIndex + index) 0 ≡ getD table (kernelIndex + index) 0
         kernel-cell = own-kernel table (e .long)
 
-    pub own-in-window : (table : List ℕ) → InWindow table → InWindow (accessOf writes line table .table)
+    pub own-in-window : (table : List ℕ) → InWindow table → InWindow (oldAccessOf writes line table .table)
     own-in-window table (quiet q) = quiet (own-quiet table q)
     own-in-window table (entered e) = entered (own-entered table e)
 

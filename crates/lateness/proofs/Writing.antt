@@ -9,13 +9,13 @@ use native.Mathlib.Omega.{arith}
 use lib.ListN.{getD, length}
 use borrow.Author.Tests.{ltb-true, ne-eqb}
 use Rattle.plan.specs.Limits.{domainColours}
-use Rattle.cache.specs.Access.{accessOf, lookupAt, lookupL2, missTicks}
+use Rattle.cache.specs.Access.{oldAccessOf, lookupAt, lookupL2, missTicks, seekOf}
 use Rattle.cache.specs.Lines.{cleanEntry, dirtyEntry, holdsLine, isDirty, kernelEntries, kernelIndex, l1Index, l1Length}
 use Rattle.cache.specs.Lines.{setCount, setIndex, setOf, setsPerColour, tableLength, waysPerSet}
 use Rattle.cache.specs.Sets.{has}
-use Rattle.cache.proofs.Laws.{access-length}
-use Rattle.cache.proofs.Outcome.{look-lacked, waysOf}
-use Rattle.lateness.proofs.Accesses.{access-entry, access-other, four-ways}
+use Rattle.cache.proofs.Outcome.{look-lacked}
+use Rattle.cache.proofs.WriteBacks.{waysOf}
+use Rattle.lateness.proofs.Accesses.{access-entry, access-other, four-ways, sought-length}
 use Rattle.lateness.proofs.Indices.{indicesOf, ownIndex}
 
 module _ (lowest held : ℕ) (within : lowest + held ≤ domainColours) where
@@ -45,7 +45,7 @@ module _ (lowest held : ℕ) (within : lowest + held ≤ domainColours) where
     line = lineAt count
 
     abbrev after : List ℕ
-    after = accessOf true line table .table
+    after = oldAccessOf true line table .table
 
     set-is : setOf line ≡ line
     set-is = omega arith
@@ -79,8 +79,8 @@ module _ (lowest held : ℕ) (within : lowest + held ≤ domainColours) where
     unfolding has
     none = rw (ne-eqb 0 (cleanEntry line) (λ same. omega arith)) refl
 
-    pub write-ticks : accessOf true line table .ticks ≡ missTicks
-    unfolding accessOf lookupL2
+    pub write-ticks : oldAccessOf true line table .ticks ≡ missTicks
+    unfolding oldAccessOf seekOf lookupL2
     write-ticks = rw (look, none, clean (l1Index line) (omega arith) .0) refl
 
     write-entry : getD after (l1Index line) 0 ≡ dirtyEntry line
@@ -96,7 +96,7 @@ module _ (lowest held : ℕ) (within : lowest + held ≤ domainColours) where
     pub write-more : Written (suc count) before after
     write-more =
         record {
-          long = access-length true line table ∙ written .long;
+          long = sought-length true line table ∙ written .long;
           done = λ other less. go other less (ℕ-discrete other count);
           ahead = λ other way past less below.
               write-other (setIndex (lineAt other) + way) (λ same. omega arith) (λ from to. omega arith)

@@ -19,7 +19,7 @@ use Rattle.cache.specs.Flush.{kernelFlushTicks, kernelFlushed, l1FlushTicks}
 use Rattle.cache.proofs.Ticks.{flush-ticks}
 use Rattle.records.specs.Records.{recordStored}
 use Rattle.ops.specs.declared.OpResult.{OpResult}
-use Rattle.ops.specs.Ops.{Effect, effectOf, messageOf, ownsLine, receiveOf, touchOf}
+use Rattle.ops.specs.Ops.{Effect, effectBy, effectOf, messageBy, ownsLine, receiveBy, touchBy}
 use Rattle.ops.specs.View.{effectWith, viewOf}
 use Rattle.ops.proofs.Ticks.{effect-ticks}
 use Rattle.state.specs.declared.State.{State}
@@ -149,7 +149,7 @@ op-ran plan op turn cache boxes log done cache′ boxes′ log′ within did kep
 effect-view :
     (plan : Plan) (domain : ℕ) (op : Op) (cache boxes : List ℕ)
     → effectOf (viewOf (plan .rights) (plan .masks)) domain op cache boxes ≡ effectOf plan domain op cache boxes
-unfolding effectOf messageOf touchOf receiveOf ownsLine
+unfolding effectBy messageBy touchBy receiveBy ownsLine
 effect-view plan domain (Read line) cache boxes = refl
 effect-view plan domain (Write line) cache boxes = refl
 effect-view plan domain (Send recipient word) cache boxes = refl

@@ -11,17 +11,17 @@ use Rattle.script.specs.declared.ScriptItem.{ScriptItem}
 use Rattle.script.specs.declared.ScriptItem.the-variants.{Op as Fetch, End}
 use Rattle.script.specs.Fetch.{fetchOf}
 use Rattle.records.specs.Records.{recordStored}
-use Rattle.ops.specs.Ops.{effectOf}
+use Rattle.ops.specs.Ops.{Effect, effectOf}
 use Rattle.state.specs.declared.State.{State}
 use Rattle.state.specs.World.{World, endedOf, positionAt, recordsAt, runningOf}
 use Rattle.machine.specs.declared.Turn.{Turn}
 use Rattle.machine.specs.Switch.{switchOf}
 
--- one op of a domain: the next position, one record more, the clock after the op, and what the op leaves.
--- Here and below, `quota` is the number of records that each domain's part of the log holds.
-unfoldable pub opStepOf : Plan → ℕ → ℕ → Op → World → World
-opStepOf plan quota domain op world =
-    let effect = effectOf plan domain op (world .cache) (world .boxes) in
+-- what an op of a domain leaves of a world, by its effect: the next position, one record more, the
+-- clock after the op, and the effect's cache table and boxes. What its accesses put out is no part of
+-- a world. Here and below, `quota` is the number of records that each domain's part of the log holds.
+abbrev pub afterEffect : ℕ → ℕ → Effect → World → World
+afterEffect quota domain effect world =
     let clock = world .state .clock + effect .ticks in
     let count = recordsAt (world .state) domain in
     record {
@@ -36,6 +36,11 @@ opStepOf plan quota domain op world =
       boxes = effect .boxes;
       log = recordStored quota domain count (effect .seen) clock (world .log);
     }
+
+-- one op of a domain
+unfoldable pub opStepOf : Plan → ℕ → ℕ → Op → World → World
+opStepOf plan quota domain op world =
+    afterEffect quota domain (effectOf plan domain op (world .cache) (world .boxes)) world
 
 -- where the running domain stands in its window
 abbrev pub turnOf : Plan → ℕ → State → Turn

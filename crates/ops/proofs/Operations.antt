@@ -13,13 +13,15 @@ use Rattle.plan.specs.Limits.{mostDomains}
 use Rattle.script.specs.Limits.{OpWithinLimits}
 use Rattle.script.specs.declared.Op.the-variants.{Receive, Send}
 use Rattle.cache.specs.declared.AccessKind.{AccessKind}
+use Rattle.cache.specs.declared.WriteBack.{WriteBack}
+use Rattle.cache.specs.declared.WriteBack.the-variants.{Nothing}
 use Rattle.cache.specs.Access.{accessOf}
 use Rattle.cache.specs.Lines.{colourOf, mostLine, setCount}
 use Rattle.cache.proofs.Ticks.{access-ticks, mostAccessTicks}
 use Rattle.records.specs.declared.Observation.{Observation}
 use Rattle.records.specs.declared.Observation.the-variants.{Barred}
-use Rattle.ops.specs.Ops.{accessObservation, barredTicks, boxIndex, firstBoxLine, kernelEntryLine, messageOf}
-use Rattle.ops.specs.Ops.{messageTicks, ownsLine, touchOf}
+use Rattle.ops.specs.Ops.{accessObservation, barredTicks, boxIndex, firstBoxLine, kernelEntryLine, messageBy}
+use Rattle.ops.specs.Ops.{messageOf, messageTicks, ownsLine, touchBy, touchOf}
 use Rattle.ops.specs.View.{effectWith}
 
 -- a domain's own line is a line, and of one of its colours
@@ -36,50 +38,51 @@ owned plan domain line owns = go (ltb mostLine line) refl owns
 module _ (plan : Plan) (domain : ℕ) (writes : Bool) (line : ℕ) (cache boxes : List ℕ) where
   pub touch-barred :
       ownsLine plan domain line ≡ false
-      → effectWith (record { ticks = barredTicks; seen = Barred line }) cache boxes
+      → effectWith (record { ticks = barredTicks; seen = Barred line; first = Nothing; second = Nothing }) cache boxes
       ≡ touchOf plan domain writes line cache boxes
-  unfolding touchOf
+  unfolding touchBy
   touch-barred lacks = rw lacks refl
 
   pub touch-access :
-      (ticks : ℕ) (found : AccessKind) (seen : Observation) (table : List ℕ)
+      (ticks : ℕ) (found : AccessKind) (seen : Observation) (first : WriteBack) (table : List ℕ)
       → ownsLine plan domain line ≡ true
       → ticks ≡ accessOf writes line cache .ticks
       → found ≡ accessOf writes line cache .found
       → seen ≡ accessObservation found line
+      → first ≡ accessOf writes line cache .back
       → table ≡ accessOf writes line cache .table
-      → effectWith (record { ticks = ticks; seen = seen }) table boxes ≡ touchOf plan domain writes line cache boxes
-  unfolding touchOf
-  touch-access ticks found seen table owns t f s b = rw (owns, t, s, f, b) refl
+      → effectWith (record { ticks = ticks; seen = seen; first = first; second = Nothing }) table boxes
+      ≡ touchOf plan domain writes line cache boxes
+  unfolding touchBy
+  touch-access ticks found seen first table owns t f s o b = rw (owns, t, s, f, o, b) refl
 
 -- a send or a receive: refused by the rights, or passed on. The code has the rights and the box's index in hand.
 module _
     (plan : Plan) (sender recipient : ℕ) (denied passed : Observation) (number : ℕ) (cache boxes rights : List ℕ)
-    (handed : plan .rights ≡ rights) where
+    (handed : plan .rights ≡ rights) (entered : ℕ) (first : WriteBack) (table : List ℕ)
+    (e : entered ≡ accessOf false kernelEntryLine cache .ticks)
+    (f : first ≡ accessOf false kernelEntryLine cache .back)
+    (t : table ≡ accessOf false kernelEntryLine cache .table) where
   pub message-denied :
-      (entered : ℕ) (table : List ℕ)
-      → hasBit (getD rights sender 0) recipient ≡ false
-      → entered ≡ messageTicks + accessOf false kernelEntryLine cache .ticks
-      → table ≡ accessOf false kernelEntryLine cache .table
-      → effectWith (record { ticks = entered; seen = denied }) table boxes
+      hasBit (getD rights sender 0) recipient ≡ false
+      → effectWith (record { ticks = messageTicks + entered; seen = denied; first = first; second = Nothing }) table boxes
       ≡ messageOf plan sender recipient denied passed number cache boxes
-  unfolding messageOf
-  message-denied entered table lacks e t = rw (handed, lacks, e, t) refl
+  unfolding messageBy
+  message-denied lacks = rw (handed, lacks, e, f, t) refl
 
   pub message-passed :
-      (entered reached index : ℕ) (table last : List ℕ)
+      (reached index : ℕ) (second : WriteBack) (last : List ℕ)
       → hasBit (getD rights sender 0) recipient ≡ true
-      → entered ≡ messageTicks + accessOf false kernelEntryLine cache .ticks
-      → table ≡ accessOf false kernelEntryLine cache .table
       → index ≡ boxIndex sender recipient
       → reached ≡ accessOf true (firstBoxLine + setCount * index) table .ticks
+      → second ≡ accessOf true (firstBoxLine + setCount * index) table .back
       → last ≡ accessOf true (firstBoxLine + setCount * index) table .table
-      → effectWith (record { ticks = entered + reached; seen = passed }) last
+      → effectWith (record { ticks = messageTicks + entered + reached; seen = passed; first = first; second = second }) last
       (set boxes index number)
       ≡ messageOf plan sender recipient denied passed number cache boxes
-  unfolding messageOf
-  message-passed entered reached index table last may e t i r l =
-      rw (handed, may, r, l, e, t, i) refl
+  unfolding messageBy
+  message-passed reached index second last may i r s l =
+      rw (handed, may, r, s, l, e, f, t, i) refl
 
 -- an access's answer is no larger than any access's
 pub answered-ticks : (writes : Bool) (line answer : ℕ) (table : List ℕ) → answer ≡ accessOf writes line table .ticks
@@ -89,9 +92,9 @@ answered-ticks writes line answer table so = rw so (access-ticks writes line tab
 -- what a send or a receive takes at most
 pub message-ticks :
     (entered reached line : ℕ) (cache table : List ℕ)
-    → entered ≡ messageTicks + accessOf false kernelEntryLine cache .ticks
+    → entered ≡ accessOf false kernelEntryLine cache .ticks
     → reached ≡ accessOf true line table .ticks
-    → entered + reached ≤ messageTicks + mostAccessTicks + mostAccessTicks
+    → messageTicks + entered + reached ≤ messageTicks + mostAccessTicks + mostAccessTicks
 message-ticks entered reached line cache table e r =
     omega (
       arith,

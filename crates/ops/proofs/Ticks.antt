@@ -17,14 +17,14 @@ use Rattle.plan.specs.Windows.{ticksTotal}
 use Rattle.script.specs.declared.Op.{Op}
 use Rattle.script.specs.declared.Op.the-variants.{Read, Write, Send, Receive, Compute}
 use Rattle.script.specs.Limits.{OpWithinLimits}
-use Rattle.cache.specs.Access.{accessOf, lookupAt, lookupL1, lookupL2, lookupOf}
+use Rattle.cache.specs.Access.{accessOf, lookupAt, lookupL1, lookupL2, lookupOf, seekOf, writeBackAt, writeBackOf}
+use Rattle.cache.specs.Access.{writtenBack}
 use Rattle.cache.specs.Lines.{tableLength}
 use Rattle.cache.specs.Sets.{has, moveToFront, without}
 use Rattle.cache.proofs.Ticks.{access-takes, access-ticks}
 use Rattle.records.specs.declared.Observation.{Observation}
-use Rattle.records.specs.declared.Observation.the-variants.{Ran}
-use Rattle.ops.specs.Ops.{Effect, boxLine, boxesLength, computeOf, effectOf, kernelEntryLine, messageOf, ownsLine}
-use Rattle.ops.specs.Ops.{receiveOf, touchOf}
+use Rattle.ops.specs.Ops.{Effect, boxLine, boxesLength, computeOf, effectBy, effectOf, kernelEntryLine, messageBy}
+use Rattle.ops.specs.Ops.{messageOf, ownsLine, receiveBy, touchBy, touchOf}
 
 -- a choice between two effects keeps what both keep
 choice-ticks : (Keeps : ℕ → Type 0) (test : Bool) (one other : Effect) → Keeps (one .ticks) → Keeps (other .ticks) → Keeps (cond test one other .ticks)
@@ -35,14 +35,14 @@ choice-ticks Keeps false one other left right = right
 
 touch-ticks : (plan : Plan) (domain : ℕ) (writes : Bool) (line : ℕ) (cache boxes : List ℕ)
     → touchOf plan domain writes line cache boxes .ticks ≤ dearestOp
-unfolding touchOf
+unfolding touchBy
 touch-ticks plan domain writes line cache boxes =
     choice-ticks (λ ticks. ticks ≤ dearestOp) (ownsLine plan domain line) _ _ (omega (arith, access-ticks writes line cache)) (omega arith)
 
 -- the entry line's access first, and for one that is allowed the box's access besides
 message-ticks : (plan : Plan) (sender recipient : ℕ) (denied passed : Observation) (number : ℕ) (cache boxes : List ℕ)
     → messageOf plan sender recipient denied passed number cache boxes .ticks ≤ dearestOp
-unfolding messageOf
+unfolding messageBy
 message-ticks plan sender recipient denied passed number cache boxes =
     let entry = access-ticks false kernelEntryLine cache in
     let box = access-ticks true (boxLine sender recipient) (accessOf false kernelEntryLine cache .table) in
@@ -51,7 +51,7 @@ message-ticks plan sender recipient denied passed number cache boxes =
 -- no op takes more
 pub effect-ticks : (plan : Plan) (domain : ℕ) (op : Op) (cache boxes : List ℕ) → OpWithinLimits op
     → effectOf plan domain op cache boxes .ticks ≤ dearestOp
-unfolding effectOf receiveOf computeOf OpWithinLimits
+unfolding effectBy receiveBy computeOf OpWithinLimits
 effect-ticks plan domain (Read line) cache boxes within = touch-ticks plan domain false line cache boxes
 effect-ticks plan domain (Write line) cache boxes within = touch-ticks plan domain true line cache boxes
 effect-ticks plan domain (Send recipient word) cache boxes within =
@@ -63,20 +63,20 @@ effect-ticks plan domain (Compute ticks) cache boxes within = omega arith
 
 touch-takes : (plan : Plan) (domain : ℕ) (writes : Bool) (line : ℕ) (cache boxes : List ℕ)
     → 1 ≤ touchOf plan domain writes line cache boxes .ticks
-unfolding touchOf
+unfolding touchBy
 touch-takes plan domain writes line cache boxes =
     choice-ticks (λ ticks. 1 ≤ ticks) (ownsLine plan domain line) _ _ (access-takes writes line cache) (omega arith)
 
 message-takes : (plan : Plan) (sender recipient : ℕ) (denied passed : Observation) (number : ℕ) (cache boxes : List ℕ)
     → 1 ≤ messageOf plan sender recipient denied passed number cache boxes .ticks
-unfolding messageOf
+unfolding messageBy
 message-takes plan sender recipient denied passed number cache boxes =
     choice-ticks (λ ticks. 1 ≤ ticks) (maySend plan sender recipient) _ _ (omega arith) (omega arith)
 
 -- no op takes less
 pub effect-takes : (plan : Plan) (domain : ℕ) (op : Op) (cache boxes : List ℕ) → OpWithinLimits op
     → 1 ≤ effectOf plan domain op cache boxes .ticks
-unfolding effectOf receiveOf computeOf OpWithinLimits
+unfolding effectBy receiveBy computeOf OpWithinLimits
 effect-takes plan domain (Read line) cache boxes within = touch-takes plan domain false line cache boxes
 effect-takes plan domain (Write line) cache boxes within = touch-takes plan domain true line cache boxes
 effect-takes plan domain (Send recipient word) cache boxes within =
@@ -113,9 +113,9 @@ dearestAfter (op ∷ ops) effect = dearestAfter ops (effectOf dearestPlan 0 op (
 abbrev pub dearestSend : Effect
 dearestSend =
     dearestAfter (Write 12 ∷ Write 13 ∷ Send 1 77 ∷ [])
-    (record { ticks = 0; seen = Ran 0; cache = replicate tableLength 0; boxes = replicate boxesLength 0 })
+    (computeOf 0 (replicate tableLength 0) (replicate boxesLength 0))
 
 -- both of the send's accesses miss and replace a dirty line
 pub dearest-ticks : dearestSend .ticks ≡ dearestOp
-unfolding effectOf touchOf ownsLine messageOf accessOf lookupAt lookupOf lookupL1 lookupL2 has moveToFront without part splice hasBit
+unfolding computeOf effectBy touchBy ownsLine messageBy accessOf seekOf writeBackAt writeBackOf writtenBack lookupAt lookupOf lookupL1 lookupL2 has moveToFront without part splice hasBit
 dearest-ticks = refl

@@ -1,5 +1,5 @@
--- Document 01, "What an op costs": the five ops, with their ticks, records, caches and boxes.
--- Assumes nothing.
+-- Document 01, "What an op costs", and document 02, E7: the five ops, with their ticks, records,
+-- caches and boxes. Assumes nothing.
 use Prim.Native.Nat.{ℕ, _+_, _*_, _-_}
 use mathlib.Core.Bool.{Bool, true, false, cond}
 use mathlib.Core.List.{List}
@@ -14,16 +14,22 @@ use Rattle.script.specs.declared.Op.the-variants.{Read, Write, Send, Receive, C
 use Rattle.cache.specs.declared.AccessKind.{AccessKind}
 use Rattle.cache.specs.declared.AccessKind.the-variants.{Hit1 as AtL1, Hit2 as AtL2}
 use Rattle.cache.specs.declared.AccessKind.the-variants.{Miss as Nowhere}
+use Rattle.cache.specs.declared.WriteBack.{WriteBack}
+use Rattle.cache.specs.declared.WriteBack.the-variants.{Nothing}
 use Rattle.cache.specs.Lines.{colourOf, mostLine, setCount}
-use Rattle.cache.specs.Access.{accessOf}
+use Rattle.cache.specs.Access.{AccessOutcome, accessOf}
 use Rattle.records.specs.declared.Observation.{Observation}
 use Rattle.records.specs.declared.Observation.the-variants.{Hit1, Hit2, Miss, Sent, Got, Empty}
 use Rattle.records.specs.declared.Observation.the-variants.{Denied, Ran, Barred}
 
--- what an op does: its ticks, what its domain sees, and the cache table and boxes that it leaves
+-- what an op does: its ticks, what its domain sees, the dirty lines that its first and its second
+-- access put out, and the cache table and boxes that it leaves. An access that it does not make puts
+-- nothing out.
 pub record Effect : Type 0 where
   pub ticks : ℕ
   pub seen : Observation
+  pub first : WriteBack
+  pub second : WriteBack
   pub cache : List ℕ
   pub boxes : List ℕ
 
@@ -73,65 +79,105 @@ accessObservation AtL1 line = Hit1 line
 accessObservation AtL2 line = Hit2 line
 accessObservation Nowhere line = Miss line
 
--- read n, write n: barred, caches unchanged, where the line is not the domain's; else an access
-unfoldable pub touchOf : Plan → ℕ → Bool → ℕ → List ℕ → List ℕ → Effect
-touchOf plan domain writes line cache boxes =
-    let access = accessOf writes line cache in
-    cond (ownsLine plan domain line)
-    (record {
-      ticks = access .ticks;
-      seen = accessObservation (access .found) line;
-      cache = access .table;
-      boxes = boxes;
-    })
-    (record { ticks = barredTicks; seen = Barred line; cache = cache; boxes = boxes })
-
--- what a send and a receive do alike: a read access to the kernel's entry line; where the sender's
--- list lacks the recipient, no more; else a write access to the line of the box between them, and
--- the box is given a new number
-unfoldable pub messageOf : Plan → ℕ → ℕ → Observation → Observation → ℕ → List ℕ → List ℕ → Effect
-messageOf plan sender recipient denied passed number cache boxes =
-    let entry = accessOf false kernelEntryLine cache in
-    let box = accessOf true (boxLine sender recipient) (entry .table) in
-    cond (maySend plan sender recipient)
-    (record {
-      ticks = messageTicks + entry .ticks + box .ticks;
-      seen = passed;
-      cache = box .table;
-      boxes = set boxes (boxIndex sender recipient) number;
-    })
-    (record {
-      ticks = messageTicks + entry .ticks;
-      seen = denied;
-      cache = entry .table;
-      boxes = boxes;
-    })
-
--- send b w: the box holds w, overwriting. A full box is never reported.
-abbrev pub sendOf : Plan → ℕ → ℕ → ℕ → List ℕ → List ℕ → Effect
-sendOf plan sender recipient word cache boxes =
-    messageOf plan sender recipient (Denied recipient) (Sent recipient) (fullBox word) cache boxes
-
 -- what a receive finds in a box
 unfoldable pub boxObservation : ℕ → ℕ → Observation
 boxObservation sender box = cond (eqb box 0) (Empty sender) (Got (box - 1))
 
--- receive a: the box is emptied
-unfoldable pub receiveOf : Plan → ℕ → ℕ → List ℕ → List ℕ → Effect
-receiveOf plan receiver sender cache boxes =
-    let found = boxObservation sender (getD boxes (boxIndex sender receiver) 0) in
-    messageOf plan sender receiver (Denied sender) found 0 cache boxes
-
 -- compute t: t ticks
 unfoldable pub computeOf : ℕ → List ℕ → List ℕ → Effect
 computeOf ticks cache boxes =
-    record { ticks = ticks; seen = Ran ticks; cache = cache; boxes = boxes }
+    record {
+      ticks = ticks;
+      seen = Ran ticks;
+      first = Nothing;
+      second = Nothing;
+      cache = cache;
+      boxes = boxes;
+    }
 
--- an op of a domain
-unfoldable pub effectOf : Plan → ℕ → Op → List ℕ → List ℕ → Effect
-effectOf plan domain (Read line) cache boxes = touchOf plan domain false line cache boxes
-effectOf plan domain (Write line) cache boxes = touchOf plan domain true line cache boxes
-effectOf plan domain (Send recipient word) cache boxes =
-    sendOf plan domain recipient word cache boxes
-effectOf plan domain (Receive sender) cache boxes = receiveOf plan domain sender cache boxes
-effectOf plan domain (Compute ticks) cache boxes = computeOf ticks cache boxes
+-- ---- the ops, over the access that a board makes
+
+module _ (access : Bool → ℕ → List ℕ → AccessOutcome) where
+  -- read n, write n: barred, caches unchanged, where the line is not the domain's; else an access
+  unfoldable pub touchBy : Plan → ℕ → Bool → ℕ → List ℕ → List ℕ → Effect
+  touchBy plan domain writes line cache boxes =
+      let made = access writes line cache in
+      cond (ownsLine plan domain line)
+      (record {
+        ticks = made .ticks;
+        seen = accessObservation (made .found) line;
+        first = made .back;
+        second = Nothing;
+        cache = made .table;
+        boxes = boxes;
+      })
+      (record {
+        ticks = barredTicks;
+        seen = Barred line;
+        first = Nothing;
+        second = Nothing;
+        cache = cache;
+        boxes = boxes;
+      })
+
+  -- what a send and a receive do alike: a read access to the kernel's entry line; where the sender's
+  -- list lacks the recipient, no more; else a write access to the line of the box between them, and
+  -- the box is given a new number
+  unfoldable pub messageBy : Plan → ℕ → ℕ → Observation → Observation → ℕ → List ℕ → List ℕ → Effect
+  messageBy plan sender recipient denied passed number cache boxes =
+      let entry = access false kernelEntryLine cache in
+      let box = access true (boxLine sender recipient) (entry .table) in
+      cond (maySend plan sender recipient)
+      (record {
+        ticks = messageTicks + entry .ticks + box .ticks;
+        seen = passed;
+        first = entry .back;
+        second = box .back;
+        cache = box .table;
+        boxes = set boxes (boxIndex sender recipient) number;
+      })
+      (record {
+        ticks = messageTicks + entry .ticks;
+        seen = denied;
+        first = entry .back;
+        second = Nothing;
+        cache = entry .table;
+        boxes = boxes;
+      })
+
+  -- send b w: the box holds w, overwriting. A full box is never reported.
+  abbrev pub sendBy : Plan → ℕ → ℕ → ℕ → List ℕ → List ℕ → Effect
+  sendBy plan sender recipient word cache boxes =
+      messageBy plan sender recipient (Denied recipient) (Sent recipient) (fullBox word) cache boxes
+
+  -- receive a: the box is emptied
+  unfoldable pub receiveBy : Plan → ℕ → ℕ → List ℕ → List ℕ → Effect
+  receiveBy plan receiver sender cache boxes =
+      let found = boxObservation sender (getD boxes (boxIndex sender receiver) 0) in
+      messageBy plan sender receiver (Denied sender) found 0 cache boxes
+
+  -- an op of a domain
+  unfoldable pub effectBy : Plan → ℕ → Op → List ℕ → List ℕ → Effect
+  effectBy plan domain (Read line) cache boxes = touchBy plan domain false line cache boxes
+  effectBy plan domain (Write line) cache boxes = touchBy plan domain true line cache boxes
+  effectBy plan domain (Send recipient word) cache boxes =
+      sendBy plan domain recipient word cache boxes
+  effectBy plan domain (Receive sender) cache boxes = receiveBy plan domain sender cache boxes
+  effectBy plan domain (Compute ticks) cache boxes = computeOf ticks cache boxes
+
+-- ---- the ops of the machine
+
+abbrev pub touchOf : Plan → ℕ → Bool → ℕ → List ℕ → List ℕ → Effect
+touchOf = touchBy accessOf
+
+abbrev pub messageOf : Plan → ℕ → ℕ → Observation → Observation → ℕ → List ℕ → List ℕ → Effect
+messageOf = messageBy accessOf
+
+abbrev pub sendOf : Plan → ℕ → ℕ → ℕ → List ℕ → List ℕ → Effect
+sendOf = sendBy accessOf
+
+abbrev pub receiveOf : Plan → ℕ → ℕ → List ℕ → List ℕ → Effect
+receiveOf = receiveBy accessOf
+
+abbrev pub effectOf : Plan → ℕ → Op → List ℕ → List ℕ → Effect
+effectOf = effectBy accessOf

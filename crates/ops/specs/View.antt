@@ -9,7 +9,14 @@ use Rattle.ops.specs.Ops.{Effect}
 -- an answer with the cache table and the boxes after the call
 abbrev pub effectWith : OpResult → List ℕ → List ℕ → Effect
 effectWith result cache boxes =
-    record { ticks = result .ticks; seen = result .seen; cache = cache; boxes = boxes }
+    record {
+      ticks = result .ticks;
+      seen = result .seen;
+      first = result .first;
+      second = result .second;
+      cache = cache;
+      boxes = boxes;
+    }
 
 -- a plan of which only the rights and the masks are said: no op's definition reads the rest
 abbrev pub viewOf : List ℕ → List ℕ → Plan

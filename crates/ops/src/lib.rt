@@ -7,6 +7,8 @@ use crate::limits::FIRST_BOX_LINE;
 use crate::limits::KERNEL_ENTRY_LINE;
 use crate::limits::MESSAGE_TICKS;
 use cache::AccessKind;
+use cache::AccessResult;
+use cache::WriteBack;
 use cache::access;
 use cache::limits::MOST_LINE;
 use cache::limits::SET_COUNT;
@@ -26,14 +28,17 @@ ghost use Rattle.script.specs.Limits.{OpWithinLimits};
 ghost use Rattle.cache.specs.Access.{accessOf};
 ghost use Rattle.cache.specs.Lines.{mostLine, setCount, tableLength};
 ghost use Rattle.ops.specs.Ops.{accessObservation, boxIndex, boxesLength, boxObservation};
-ghost use Rattle.ops.specs.Ops.{effectOf, firstBoxLine, kernelEntryLine, messageTicks};
+ghost use Rattle.ops.specs.Ops.{effectOf, firstBoxLine, kernelEntryLine};
 ghost use Rattle.ops.specs.Ops.{ownsLine, receiveOf, sendOf, touchOf};
 ghost use Rattle.ops.specs.View.{effectWith};
 
-// What an op answers, beside the cache table and the boxes.
+// What an op answers, beside the cache table and the boxes: its ticks, what its domain sees, and
+// what its first and its second access wrote back.
 pub struct OpResult {
     pub ticks: u64,
     pub seen: Observation,
+    pub first: WriteBack,
+    pub second: WriteBack,
 }
 
 fn wide(number: u16) -> u32
@@ -84,13 +89,18 @@ fn touch(
         return OpResult {
             ticks: BARRED_TICKS,
             seen: Observation::Barred(line),
+            first: WriteBack::Nothing,
+            second: WriteBack::Nothing,
         };
     }
     let accessed = access(cache, line, writes);
     let found = accessed.found;
+    let first = accessed.back;
     OpResult {
         ticks: accessed.ticks,
         seen: access_observation(found, line),
+        first: first,
+        second: WriteBack::Nothing,
     }
 }
 
@@ -102,29 +112,30 @@ fn box_index(sender: usize, recipient: usize) -> usize
     DOMAIN_ENTRIES * sender + recipient
 }
 
-// How every send and receive begins, whatever its rights: the kernel's entry line is read. Answers
-// the ticks so far.
-fn enter_kernel(cache: &mut [u16]) -> u64
+// How every send and receive begins, whatever its rights: the kernel's entry line is read.
+fn enter_kernel(cache: &mut [u16]) -> AccessResult
     requires { ⌜ length (now cache) ≡ tableLength ⌝ }
-    ensures { λ r. ⌜ (r ≡ messageTicks + accessOf false kernelEntryLine (now (cache .entry)) .ticks)
+    ensures { λ r.
+        ⌜ (r .found ≡ accessOf false kernelEntryLine (now (cache .entry)) .found)
+        × (r .ticks ≡ accessOf false kernelEntryLine (now (cache .entry)) .ticks)
+        × (r .back ≡ accessOf false kernelEntryLine (now (cache .entry)) .back)
         × (now (cache .exit) ≡ accessOf false kernelEntryLine (now (cache .entry)) .table) ⌝ }
 {
-    let entry = access(cache, KERNEL_ENTRY_LINE, false);
-    MESSAGE_TICKS + entry.ticks
+    access(cache, KERNEL_ENTRY_LINE, false)
 }
 
 // How a send or a receive reaches a box that it has the right to: the box's line is written.
-// Answers the ticks of that.
-fn reach_box(index: usize, cache: &mut [u16]) -> u64
+fn reach_box(index: usize, cache: &mut [u16]) -> AccessResult
     requires { ⌜ (index < boxesLength) × (length (now cache) ≡ tableLength) ⌝ }
     ensures { λ r.
-        ⌜ (r ≡ accessOf true (firstBoxLine + setCount * index) (now (cache .entry)) .ticks)
+        ⌜ (r .found ≡ accessOf true (firstBoxLine + setCount * index) (now (cache .entry)) .found)
+        × (r .ticks ≡ accessOf true (firstBoxLine + setCount * index) (now (cache .entry)) .ticks)
+        × (r .back ≡ accessOf true (firstBoxLine + setCount * index) (now (cache .entry)) .back)
         × (now (cache .exit)
         ≡ accessOf true (firstBoxLine + setCount * index) (now (cache .entry)) .table) ⌝ }
 {
     let line = FIRST_BOX_LINE + SET_COUNT * index;
-    let accessed = access(cache, line as u16, true);
-    accessed.ticks
+    access(cache, line as u16, true)
 }
 
 // A send of a word to a recipient.
@@ -145,19 +156,25 @@ fn send(
         → effectWith r (now (cache .exit)) (now (boxes .exit))
         ≡ sendOf plan sender recipient word (now (cache .entry)) (now (boxes .entry))) ⌝ }
 {
-    let entry_ticks = enter_kernel(cache);
+    let entered = enter_kernel(cache);
+    let first = entered.back;
     if !has_bit(rights[sender], recipient as u32) {
         return OpResult {
-            ticks: entry_ticks,
+            ticks: MESSAGE_TICKS + entered.ticks,
             seen: Observation::Denied(recipient),
+            first: first,
+            second: WriteBack::Nothing,
         };
     }
     let index = box_index(sender, recipient as usize);
-    let box_ticks = reach_box(index, cache);
+    let reached = reach_box(index, cache);
+    let second = reached.back;
     boxes[index] = word as u32 + 1;
     OpResult {
-        ticks: entry_ticks + box_ticks,
+        ticks: MESSAGE_TICKS + entered.ticks + reached.ticks,
         seen: Observation::Sent(recipient),
+        first: first,
+        second: second,
     }
 }
 
@@ -190,20 +207,26 @@ fn receive(
         ≡ receiveOf plan receiver sender (now (cache .entry)) (now (boxes .entry))) ⌝ }
 {
     let from = sender as usize;
-    let entry_ticks = enter_kernel(cache);
+    let entered = enter_kernel(cache);
+    let first = entered.back;
     if !has_bit(rights[from], receiver as u32) {
         return OpResult {
-            ticks: entry_ticks,
+            ticks: MESSAGE_TICKS + entered.ticks,
             seen: Observation::Denied(sender),
+            first: first,
+            second: WriteBack::Nothing,
         };
     }
     let index = box_index(from, receiver);
-    let box_ticks = reach_box(index, cache);
+    let reached = reach_box(index, cache);
+    let second = reached.back;
     let number = boxes[index];
     boxes[index] = 0;
     OpResult {
-        ticks: entry_ticks + box_ticks,
+        ticks: MESSAGE_TICKS + entered.ticks + reached.ticks,
         seen: box_observation(sender, number),
+        first: first,
+        second: second,
     }
 }
 
@@ -234,6 +257,8 @@ pub fn operate(
         Op::Compute(ticks) => OpResult {
             ticks: ticks as u64,
             seen: Observation::Ran(ticks),
+            first: WriteBack::Nothing,
+            second: WriteBack::Nothing,
         },
     }
 }

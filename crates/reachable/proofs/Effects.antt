@@ -18,8 +18,8 @@ use Rattle.script.specs.Limits.{OpWithinLimits, lastDomain, mostWord}
 use Rattle.cache.specs.Access.{accessOf}
 use Rattle.cache.specs.Lines.{colourOf, kernelColour}
 use Rattle.records.specs.declared.Observation.{Observation}
-use Rattle.ops.specs.Ops.{Effect, boxIndex, boxLine, boxesLength, computeOf, effectOf, fullBox, kernelEntryLine}
-use Rattle.ops.specs.Ops.{messageOf, ownsLine, receiveOf, touchOf}
+use Rattle.ops.specs.Ops.{Effect, boxIndex, boxLine, boxesLength, computeOf, effectBy, effectOf, fullBox}
+use Rattle.ops.specs.Ops.{kernelEntryLine, messageBy, messageOf, ownsLine, receiveBy, touchBy, touchOf}
 use Rattle.ops.proofs.Operations.{owned}
 use Rattle.state.specs.declared.State.{State}
 use Rattle.state.specs.TableValidity.{boxHolds, lineAllowed}
@@ -87,7 +87,7 @@ module _ (plan : Plan) (state : State) (running : endedOf plan state ≡ false) 
   domain = runningOf plan state
 
   touch-valid : (writes : Bool) (line : ℕ) → EffectValid plan state (touchOf plan domain writes line cache boxes)
-  unfolding touchOf
+  unfolding touchBy
   touch-valid writes line =
       choice-valid plan state (ownsLine plan domain line) _ _
       (λ owns.
@@ -97,7 +97,7 @@ module _ (plan : Plan) (state : State) (running : endedOf plan state ≡ false) 
       (record { cache = sound; boxes = full })
 
   -- the kernel's entry line and a box's line are the kernel's
-  entry-valid : CacheValid plan state (accessOf false kernelEntryLine cache .table)
+  pub entry-valid : CacheValid plan state (accessOf false kernelEntryLine cache .table)
   entry-valid =
       access-valid plan state running kernelEntryLine (omega arith)
       (kernel-allowed plan domain kernelEntryLine refl) false cache sound
@@ -107,7 +107,7 @@ module _ (plan : Plan) (state : State) (running : endedOf plan state ≡ false) 
       → number ≤ fullBox mostWord
       → (maySend plan sender recipient ≡ true → (eqb number 0 || maySend plan sender recipient) ≡ true)
       → EffectValid plan state (messageOf plan sender recipient denied passed number cache boxes)
-  unfolding messageOf
+  unfolding messageBy
   message-valid sender recipient denied passed number from to small allowed =
       choice-valid plan state (maySend plan sender recipient) _ _
       (λ right.
@@ -123,7 +123,7 @@ module _ (plan : Plan) (state : State) (running : endedOf plan state ≡ false) 
   -- every op that stands in a script
   pub effect-valid : domain ≤ lastDomain → (op : Op) → OpWithinLimits op
       → EffectValid plan state (effectOf plan domain op cache boxes)
-  unfolding effectOf receiveOf computeOf OpWithinLimits
+  unfolding effectBy receiveBy computeOf OpWithinLimits
   effect-valid declared (Read line) within = touch-valid false line
   effect-valid declared (Write line) within = touch-valid true line
   effect-valid declared (Send recipient word) within =

@@ -5,7 +5,10 @@ pub mod Counts
 pub mod Effects
 pub mod Progress
 pub mod Ending
+pub mod OldBoard
 pub mod Flushes
+pub mod Fronts
+pub mod Lent
 pub mod Lines
 pub mod StateReached
 pub mod Reached

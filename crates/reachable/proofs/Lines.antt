@@ -5,19 +5,21 @@ use mathlib.Core.Bool.{Bool, true, false, cond, not}
 use mathlib.Core.List.{List}
 use mathlib.Core.Path.{_≡_, refl, ap, _∙_}
 use native.Mathlib.Omega.{arith}
-use lib.Dec.{eqb}
+use lib.Dec.{eqb, leb}
 use lib.ListN.{getD, length, replicate}
-use borrow.Author.Tests.{eq-eqb, le-leb, lt-leb}
+use borrow.Author.Tests.{eq-eqb, eqb-true, le-leb, leb-true, lt-leb, ltb-true, ne-eqb}
 use Rattle.plan.specs.declared.Plan.{Plan}
-use Rattle.cache.specs.Access.{accessOf}
-use Rattle.cache.specs.Lines.{cleanEntry, dirtyEntry, dirtyMark, l1Index, l1Length, mostLine, setCount, setIndex, setOf}
+use Rattle.cache.specs.declared.WriteBack.the-variants.{Line}
+use Rattle.cache.specs.Access.{accessOf, dirtyLine, writeBackAt}
+use Rattle.cache.specs.Lines.{cleanEntry, dirtyEntry, dirtyMark, isDirty, l1Index, l1Length, mostLine, setCount, setIndex}
 use Rattle.cache.specs.Lines.{tableLength}
 use Rattle.cache.proofs.Laws.{access-length}
+use Rattle.cache.proofs.WriteBacks.{back-dirty}
 use Rattle.state.specs.declared.State.{State}
-use Rattle.state.specs.TableValidity.{entryValid, lineAllowed, entryLine, setValid, unmarked}
+use Rattle.state.specs.TableValidity.{entryValid, lineAllowed, entryLine, setValid, standsForLine, unmarked}
 use Rattle.state.specs.World.{endedOf, runningOf}
 use Rattle.state.proofs.Empties.{zero-set}
-use Rattle.lists.proofs.Tests.{both-pass, first-passes, second-passes}
+use Rattle.lists.proofs.Tests.{both, both-pass, first-passes, second-passes}
 use Rattle.reachable.proofs.Accesses.{access-index, access-sets}
 use Rattle.reachable.proofs.Cells.{cell-zeros, zeros-length}
 use Rattle.reachable.proofs.Ways.{line-stands}
@@ -26,6 +28,42 @@ pub record CacheValid (plan : Plan) (state : State) (cache : List ℕ) : Type 0 
   pub long : length cache ≡ tableLength
   pub lines : (index : ℕ) → index < l1Length → entryValid plan state index (getD cache index 0) ≡ true
   pub sets : (set : ℕ) → set < setCount → setValid cache set ≡ true
+
+-- ---- what is dirty in L1
+
+-- a dirty number of L1 is a line's of its index, which the running domain may have there
+pub record DirtyLine (plan : Plan) (state : State) (index entry : ℕ) : Type 0 where
+  pub small : dirtyLine entry ≤ mostLine
+  pub here : l1Index (dirtyLine entry) ≡ index
+  pub allowed : lineAllowed plan (runningOf plan state) (dirtyLine entry) ≡ true
+
+pub dirty-line : (plan : Plan) (state : State) (index entry : ℕ) → entryValid plan state index entry ≡ true
+    → isDirty entry ≡ true
+    → DirtyLine plan state index entry
+dirty-line plan state index entry sound dirty =
+    let past : dirtyMark < entry = ltb-true dirtyMark entry dirty in
+    let some : eqb entry 0 ≡ false = ne-eqb entry 0 (λ none. omega arith) in
+    let plain : unmarked entry ≡ entry - dirtyMark =
+    ap (λ test. cond test (entry - dirtyMark) entry) (le-leb dirtyMark entry (omega arith)) in
+    let line : entryLine (unmarked entry) ≡ dirtyLine entry = omega arith in
+    let parts = both _ _ (rw some at sound) in
+    let firsts = both _ _ (parts .0) in
+    let stands = both (standsForLine (unmarked entry)) (eqb (l1Index (entryLine (unmarked entry))) index) (firsts .0) in
+    let most : unmarked entry ≤ cleanEntry mostLine =
+    leb-true _ _ (both (leb 1 (unmarked entry)) (leb (unmarked entry) (cleanEntry mostLine)) (stands .0) .1) in
+    let at : l1Index (entryLine (unmarked entry)) ≡ index = eqb-true _ _ (stands .1) in
+    let may : lineAllowed plan (runningOf plan state) (entryLine (unmarked entry)) ≡ true = firsts .1 in
+    record { small = omega arith; here = rw line at at; allowed = rw line at may }
+
+-- so a line that an access puts out is one that the running domain may have in L1, and stood at the index of the line
+-- asked for
+pub put-out : (plan : Plan) (state : State) (cache : List ℕ) → CacheValid plan state cache → (line other : ℕ)
+    → writeBackAt line cache ≡ Line other
+    → (other ≤ mostLine) × (l1Index other ≡ l1Index line) × (lineAllowed plan (runningOf plan state) other ≡ true)
+put-out plan state cache sound line other out =
+    let was = back-dirty line other cache out in
+    let dirty = dirty-line plan state (l1Index line) _ (sound .lines (l1Index line) (omega arith)) (was .0) in
+    rw (← (was .1)) (dirty .small, dirty .here, dirty .allowed)
 
 -- ---- an access
 
@@ -63,8 +101,8 @@ module _ (plan : Plan) (state : State) (running : endedOf plan state ≡ false) 
         lines = λ index below. access-index writes line cache (sound .long)
             (λ entry.
             entryValid plan state index entry ≡ true) index below (sound .lines index below) (entries-valid index);
-        sets = λ set below. access-sets writes line cache (sound .long) small set below (sound .sets set below)
-            (sound .sets (setOf line) (omega arith));
+        sets = access-sets writes line cache (sound .long) small
+            (λ other out. put-out plan state cache sound line other out .0) (sound .sets);
       }
 
 -- ---- empty cells

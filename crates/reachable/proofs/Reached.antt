@@ -3,18 +3,21 @@
 use mathlib.Core.Bool.{true}
 use mathlib.Core.List.{List}
 use mathlib.Core.Path.{_≡_, refl}
-use Prim.Native.Nat.{ℕ}
-use lib.ListN.{length}
+use Prim.Native.Nat.{ℕ, _<_}
+use lib.ListN.{getD, length}
 use Rattle.plan.specs.declared.Plan.{Plan}
 use Rattle.plan.specs.Validity.{planValid}
-use Rattle.cache.specs.Lines.{tableLength}
+use Rattle.cache.specs.Access.{dirtyLine}
+use Rattle.cache.specs.Lines.{isDirty, l1Length, tableLength}
 use Rattle.records.specs.Records.{partRecords}
 use Rattle.ops.specs.Ops.{boxesLength}
-use Rattle.state.specs.TableValidity.{tablesValid}
+use Rattle.state.specs.TableValidity.{lineAllowed, tablesValid}
+use Rattle.state.specs.World.{runningOf}
 use Rattle.state.specs.StateValidity.{stateValid}
 use Rattle.machine.specs.Fresh.{reachedWorld}
 use Rattle.machine.proofs.Schedule.{scheduled}
 use Rattle.reachable.proofs.Counts.{counted}
+use Rattle.reachable.proofs.Lines.{dirty-line}
 use Rattle.reachable.proofs.StateReached.{passes-state}
 use Rattle.reachable.proofs.Tables.{Sound, passes-tables, sound}
 
@@ -31,6 +34,14 @@ module _ (plan : Plan) (scripts log : List ℕ) (count : ℕ) (possible : planVa
 
   pub log-length : length (reachedWorld plan scripts log count .log) ≡ length log
   log-length = reached-valid .log
+
+  -- every dirty line of L1 is one that the running domain may have there
+  pub dirty-allowed : (index : ℕ) → index < l1Length
+      → isDirty (getD (reachedWorld plan scripts log count .cache) index 0) ≡ true
+      → lineAllowed plan (runningOf plan (reachedWorld plan scripts log count .state))
+      (dirtyLine (getD (reachedWorld plan scripts log count .cache) index 0))
+      ≡ true
+  dirty-allowed index below dirty = dirty-line plan _ index _ (reached-valid .cache .lines index below) dirty .allowed
 
   -- they are valid, and so is the state
   pub tables-valid :

@@ -44,7 +44,7 @@ stored-length quota domain number seen clock log =
     length-sets log (recordIndex quota domain number) (recordBytes seen clock)
 
 module _ (plan : Plan) (scripts : List ℕ) (quota logLength : ℕ) (possible : planValid plan ≡ true) where
-  after-switch : (world : World) → Sound plan logLength world → world .state .windows < windowsTotal plan
+  pub after-switch : (world : World) → Sound plan logLength world → world .state .windows < windowsTotal plan
       → Sound plan logLength (switchOf plan world)
   unfolding switchOf
   after-switch world sound inWindow =
@@ -55,7 +55,7 @@ module _ (plan : Plan) (scripts : List ℕ) (quota logLength : ℕ) (possible : 
       }
 
   -- an op leaves the number of windows, on which alone it depends which lines L1 may hold
-  after-op : (world : World) (op : Op) → Sound plan logLength world → Begins plan scripts quota world op
+  pub after-op : (world : World) (op : Op) → Sound plan logLength world → Begins plan scripts quota world op
       → Sound plan logLength (opStepOf plan quota (runningOf plan (world .state)) op world)
   unfolding opStepOf endedOf
   after-op world op sound begins =
@@ -77,7 +77,7 @@ module _ (plan : Plan) (scripts : List ℕ) (quota logLength : ℕ) (possible : 
         log = stored-length quota running (recordsAt (world .state) running) _ _ (world .log) ∙ sound .log;
       }
 
-  at-start : (log : List ℕ) → length log ≡ logLength → Sound plan logLength (freshWorld log)
+  pub at-start : (log : List ℕ) → length log ≡ logLength → Sound plan logLength (freshWorld log)
   unfolding freshWorld
   at-start log long =
       record {

@@ -1,1 +1,3 @@
+pub mod OldBoard
+pub mod Lent
 pub mod StepCounts

@@ -4,3 +4,4 @@ pub mod ShareExamples
 pub mod BoundExamples
 pub mod WriteExamples
 pub mod LatestExamples
+pub mod WriteBackExamples

@@ -55,7 +55,13 @@ static inline bool put_first(uint16_t *set, uint16_t entry)
     return false;
 }
 
-/* One access; dirty is DIRTY for a write and 0 for a read. Adds its ticks. */
+static inline uint16_t *set_of(uint16_t *cache, uint32_t line)
+{
+    return cache + L1 + WAYS * (line % SETS);
+}
+
+/* One access; dirty is DIRTY for a write and 0 for a read. Adds its ticks. A dirty line that it
+ * replaces goes back to its set before the line is looked for, which it may push out of L2. */
 static inline enum seen access_line(uint16_t *cache, uint32_t line, uint32_t dirty,
                                     uint32_t *ticks)
 {
@@ -68,8 +74,12 @@ static inline enum seen access_line(uint16_t *cache, uint32_t line, uint32_t dir
         return SEEN_HIT1;
     }
     *slot = (uint16_t)(entry | dirty);
-    *ticks += held & DIRTY ? WRITE_BACK_TICKS : 0;
-    if (put_first(cache + L1 + WAYS * (line % SETS), entry)) {
+    if (held & DIRTY) {
+        uint16_t written = (uint16_t)(held & ~DIRTY);
+        put_first(set_of(cache, written - 1u), written);
+        *ticks += WRITE_BACK_TICKS;
+    }
+    if (put_first(set_of(cache, line), entry)) {
         *ticks += HIT2_TICKS;
         return SEEN_HIT2;
     }

@@ -9,6 +9,7 @@ use pirkvezo_differential::generate::disturb::disturb;
 use pirkvezo_differential::generate::faults::faulty_text;
 use pirkvezo_differential::generate::lists::{random_call, random_world};
 use pirkvezo_differential::generate::mutate::mutate;
+use pirkvezo_differential::generate::put_out::put_out_world;
 use pirkvezo_differential::generate::scatter::scatter;
 use pirkvezo_differential::generate::sketch::Sketch;
 use pirkvezo_differential::generate::whole::Whole;
@@ -26,9 +27,9 @@ struct Trial<'e> {
 }
 
 /// Compares an engine with the reference over so many cases. Each case is five
-/// texts, a list of calls from a fresh start, a world that no run reaches, and
-/// one that is damaged again and again. Gives how many calls were compared, and
-/// what they came to.
+/// texts, a list of calls from a fresh start, a world that no run reaches, one whose
+/// ops put lines out of L1, and one that is damaged again and again. Gives how many
+/// calls were compared, and what they came to.
 pub fn agrees(engine: &dyn Engine, count: u64) -> Result<(u64, Tally), String> {
     let mut trial = Trial {
         engine,
@@ -60,6 +61,7 @@ impl<'e> Trial<'e> {
         self.read(&random_text(rng))?;
         self.list(rng)?;
         self.scattered(rng)?;
+        self.put_out(rng)?;
         self.damaged(rng)
     }
 
@@ -92,6 +94,15 @@ impl<'e> Trial<'e> {
         }
         let domains = pair.world().plan[2];
         (0..=domains).try_for_each(|domain| self.call(&mut pair, &Call::Log(domain)))
+    }
+
+    fn put_out(&mut self, rng: &mut Rng) -> Result<(), Difference> {
+        let mut pair = self.pair(put_out_world(rng));
+        for _ in 0..rng.below(8) {
+            self.call(&mut pair, &Call::Step)?;
+        }
+        let limit = rng.pick(&[1, 16, 100, u64::MAX]);
+        self.call(&mut pair, &Call::Run(limit))
     }
 
     /// Calls with changes in between. Most changes are taken back after a call
@@ -132,7 +143,7 @@ impl<'e> Trial<'e> {
 mod tests {
     use super::agrees;
     use crate::peer::Peer;
-    use pirkvezo_differential::engine::{Engine, Tables};
+    use pirkvezo_differential::engine::{Engine, OldBoard, Tables};
 
     #[test]
     fn the_peer_agrees_with_the_reference() {
@@ -153,6 +164,7 @@ mod tests {
         ScriptsLeft,
         BoxesLeft,
         CacheLeft,
+        LinesNotWritten,
         LogOneShort,
     }
 
@@ -209,6 +221,7 @@ mod tests {
                     };
                     Peer.run(other, limit, answer)
                 }
+                Faulty::LinesNotWritten => OldBoard.run(tables, limit, answer),
                 _ => Peer.run(tables, limit, answer),
             }
         }
@@ -237,6 +250,7 @@ mod tests {
             Faulty::ScriptsLeft,
             Faulty::BoxesLeft,
             Faulty::CacheLeft,
+            Faulty::LinesNotWritten,
             Faulty::LogOneShort,
         ];
         for fault in faults {

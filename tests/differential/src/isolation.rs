@@ -5,15 +5,18 @@
 //! window of the observer's own, where both have done the same number of its
 //! ops. If each of its windows began with equal boxes addressed to it, then its
 //! log, its script position, the L2 sets of its colours, and in its own window
-//! the clock, must be equal.
+//! the clock, must be equal. Where two runs go on from lent worlds that are equal for
+//! the observer, the same must hold from there on.
 
 use crate::engine::Engine;
 use crate::timeline::Timeline;
 use crate::world::{Call, World};
 use std::rc::Rc;
 
-/// A whole run, step by step, as it bears on one domain.
+/// A run to its end, step by step, as it bears on one domain.
 pub struct Trail {
+    /// The windows completed where it begins.
+    completed: usize,
     /// The points of each window, the last of them after the run's end.
     windows: Vec<Vec<Point>>,
 }
@@ -49,6 +52,12 @@ impl Trail {
     /// Makes a fresh start and steps to the end.
     pub fn walk(engine: &dyn Engine, mut world: World, observer: usize) -> Result<Self, String> {
         world.accept(engine, &Call::FreshStart)?;
+        Trail::walk_on(engine, world, observer)
+    }
+
+    /// Steps to the end from where this world is.
+    pub fn walk_on(engine: &dyn Engine, mut world: World, observer: usize) -> Result<Self, String> {
+        let start = world.state[0] as usize;
         let mut windows = Vec::new();
         let mut current: Vec<Point> = Vec::new();
         loop {
@@ -64,7 +73,12 @@ impl Trail {
                 windows.push(std::mem::take(&mut current));
             }
             match (steps, ended) {
-                (0, 1) => return Ok(Trail { windows }),
+                (0, 1) => {
+                    return Ok(Trail {
+                        completed: start,
+                        windows,
+                    })
+                }
                 (1, _) => {}
                 _ => return Err(format!("a step answered {steps} steps")),
             }
@@ -103,7 +117,7 @@ impl Point {
     }
 }
 
-/// Holds two runs of one plan against each other.
+/// Holds two runs of one plan against each other, which begin in the same window.
 pub fn hold_together(
     first: &Trail,
     second: &Trail,
@@ -112,7 +126,7 @@ pub fn hold_together(
 ) -> Result<Compared, String> {
     let mut compared = Compared::default();
     let windows = first.windows.iter().zip(&second.windows);
-    for (completed, (here, there)) in windows.enumerate() {
+    for (completed, (here, there)) in (first.completed..).zip(windows) {
         let owner = timeline.window(completed as u64).map(|span| span.domain);
         if owner != Some(observer) {
             let same = |point: &&Point| point.part == here[0].part;

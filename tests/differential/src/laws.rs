@@ -1,8 +1,9 @@
 //! What document 01 says of every call, whatever the engine: refused calls
 //! change nothing, the answer fits the state, and only the log bytes of new
 //! records are written. What document 02, E2, says of every plan: its shares give
-//! its colours, and none is let twice. These hold for one engine alone, so they
-//! bind also where there is no second one.
+//! its colours, and none is let twice. What its E7 leaves to a domain: lines that others
+//! put out go back to sets of their own colours. These hold for one engine alone, so
+//! they bind also where there is no second one.
 
 use crate::engine::{ANSWER, BOXES, CACHE, PLAN, SCRIPTS, STATE};
 use crate::timeline::Timeline;
@@ -183,6 +184,7 @@ fn judge_steps(
             ..part + 8 * after.state[10 + domain] as usize;
         expected.log[new.clone()].copy_from_slice(&after.log[new]);
     }
+    judge_sets(&timeline, before, after)?;
     expected.state = after.state.clone();
     if steps > 0 {
         expected.cache = after.cache.clone();
@@ -191,5 +193,24 @@ fn judge_steps(
     match *after == expected {
         true => Ok(()),
         false => Err("a step wrote where it may not".into()),
+    }
+}
+
+/// Judges that no L2 set has changed but those of the kernel and of the domains whose
+/// windows there were.
+fn judge_sets(timeline: &Timeline, before: &World, after: &World) -> Result<(), String> {
+    // A pass has 32 windows at most, so those behind are of domains that had one.
+    let windows = before.state[0]..=after.state[0].min(before.state[0] + 32);
+    let spans = windows.filter_map(|completed| timeline.window(completed));
+    let colours = spans.fold(1 << 15, |colours, span| {
+        colours | before.plan[84 + span.domain]
+    });
+    let sets = before.cache[16..]
+        .chunks(4)
+        .zip(after.cache[16..].chunks(4));
+    let mut changed = sets.enumerate().filter(|(_, (old, new))| old != new);
+    match changed.all(|(set, _)| colours >> (set / 4) & 1 == 1) {
+        true => Ok(()),
+        false => Err("a set changed of a domain that did not run".into()),
     }
 }

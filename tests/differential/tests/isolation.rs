@@ -1,13 +1,15 @@
 //! Demand 3 by trial: what the others do shows nowhere in what a domain has.
-//! Document 01, "Two lists of calls".
+//! Document 01, "Two lists of calls", and document 02, E7: also where lines that others
+//! put out go back through L2.
 
-use pirkvezo_differential::engine::{under_test, Engine, Reference};
+use pirkvezo_differential::engine::{under_test, Engine, OldBoard, Reference};
 use pirkvezo_differential::generate::pairs::StorePair;
+use pirkvezo_differential::generate::rivals::WorldPair;
 use pirkvezo_differential::isolation::{hold_together, Compared, Trail};
 use pirkvezo_differential::rng::Rng;
 use pirkvezo_differential::seed::cases;
 use pirkvezo_differential::timeline::Timeline;
-use pirkvezo_differential::world::World;
+use pirkvezo_differential::world::{Call, World};
 
 /// Runs both stores and holds the two runs against each other.
 fn try_pair(engine: &dyn Engine, rng: &mut Rng) -> Result<Compared, String> {
@@ -25,25 +27,87 @@ fn try_pair(engine: &dyn Engine, rng: &mut Rng) -> Result<Compared, String> {
     hold_together(&first?, &second?, &timeline, pair.observer)
 }
 
-#[test]
-fn nothing_shows_of_the_others() {
+/// What all pairs of one engine came to.
+#[derive(Clone, Copy, Debug, Default)]
+struct Sum {
+    pairs: u64,
+    whole: u64,
+    windows: u64,
+    points: u64,
+}
+
+impl Sum {
+    fn add(&mut self, compared: Compared) {
+        self.pairs += 1;
+        self.whole += u64::from(compared.to_the_end);
+        self.windows += compared.own_windows;
+        self.points += compared.points;
+    }
+
+    fn assert_enough(self) {
+        println!("{self:?}");
+        assert!(2 * self.whole > self.pairs, "too few pairs had equal boxes");
+        assert!(
+            self.windows > self.pairs,
+            "too few windows were held together"
+        );
+    }
+}
+
+/// Tries so many pairs with the reference and with the library.
+fn try_both(
+    test: &str,
+    count: u64,
+    try_one: impl Fn(&dyn Engine, &mut Rng) -> Result<Compared, String>,
+) {
     let engines: [Box<dyn Engine>; 2] = [Box::new(Reference), under_test()];
-    let mut sums = [(0, 0, 0, 0); 2];
-    for (case, rng) in cases("isolation", 2_000) {
+    let mut sums = [Sum::default(); 2];
+    for (case, rng) in cases(test, count) {
         for (engine, sum) in engines.iter().zip(&mut sums) {
-            let compared = try_pair(&**engine, &mut rng.clone());
-            let compared = compared.unwrap_or_else(|what| {
+            let compared = try_one(&**engine, &mut rng.clone());
+            sum.add(compared.unwrap_or_else(|what| {
                 panic!("{case}: {}: {what}", engine.name());
-            });
-            sum.0 += 1;
-            sum.1 += u64::from(compared.to_the_end);
-            sum.2 += compared.own_windows;
-            sum.3 += compared.points;
+            }));
         }
     }
-    for (pairs, whole, windows, points) in sums {
-        println!("{pairs} pairs, {whole} to the end, {windows} own windows, {points} points");
-        assert!(2 * whole > pairs, "too few pairs had equal boxes");
-        assert!(windows > pairs, "too few windows were held together");
+    sums.into_iter().for_each(Sum::assert_enough);
+}
+
+#[test]
+fn nothing_shows_of_the_others() {
+    try_both("isolation", 2_000, try_pair);
+}
+
+/// Runs on from two lent worlds and holds the two runs against each other.
+fn try_worlds(engine: &dyn Engine, rng: &mut Rng) -> Result<Compared, String> {
+    let WorldPair { observer, worlds } = WorldPair::random(rng);
+    let timeline = Timeline::of(&worlds[0].plan).expect("windows");
+    let [first, second] = worlds.map(|world| Trail::walk_on(engine, world, observer));
+    hold_together(&first?, &second?, &timeline, observer)
+}
+
+#[test]
+fn nothing_shows_of_the_others_on_lent_tables() {
+    try_both("isolation, lent", 2_000, try_worlds);
+}
+
+/// E7 shows in most of those pairs, in both worlds, and nearly all differ in their caches.
+#[test]
+fn lent_worlds_differ_in_what_they_put_out() {
+    let (mut shown, mut apart, mut count) = (0, 0, 0);
+    for (_, mut rng) in cases("isolation, worlds", 1_000) {
+        let WorldPair { worlds, .. } = WorldPair::random(&mut rng);
+        count += 1;
+        apart += u32::from(worlds[0].cache != worlds[1].cache);
+        shown += u32::from(worlds.iter().all(|world| {
+            let after = |engine: &dyn Engine| {
+                let mut world = world.clone();
+                let made = world.accept(engine, &Call::Run(5));
+                made.map(|()| world)
+            };
+            after(&Reference) != after(&OldBoard)
+        }));
     }
+    assert!(2 * shown > count, "{shown} of {count}");
+    assert!(10 * apart > 9 * count, "{apart} of {count}");
 }

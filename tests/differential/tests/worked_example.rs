@@ -1,6 +1,6 @@
 //! Fixed calls with the answers that document 01 settles, asked of every engine
 //! by itself: "Settled numbers" and "The plan text", with the shares of document
-//! 02, E2.
+//! 02, E2, and with lines that go back through L2 by its E7.
 
 use pirkvezo_differential::engine::{under_test, Engine, Reference};
 use pirkvezo_differential::world::{Call, World};
@@ -227,5 +227,153 @@ fn refusals_of_a_step() {
         refused(&|world| world.state[4] = 1, 14);
         refused(&|world| world.state[10] = 1_025, 14);
         refused(&|world| world.state[17] = 1, 14);
+    }
+}
+
+/// A lent table, one op on it, and what it comes to.
+struct PutOut {
+    /// Numbers of L1 by index, and L2 sets by number.
+    near: &'static [(usize, u16)],
+    sets: &'static [(usize, [u16; 4])],
+    /// The op as a script holds it.
+    op: u32,
+    /// Its record's kind, and the ticks that it takes.
+    kind: u8,
+    ticks: u64,
+    /// What is then in L1 and in L2.
+    left_near: &'static [(usize, u16)],
+    left_sets: &'static [(usize, [u16; 4])],
+}
+
+const READ: u32 = 1 << 20;
+const SEND: u32 = 3 << 20;
+
+const PUT_OUT: [PutOut; 7] = [
+    // Line 0 drops line 256, which is then sought.
+    PutOut {
+        near: &[(0, 32_769)],
+        sets: &[(0, [65, 129, 193, 257])],
+        op: READ | 256,
+        kind: 3,
+        ticks: 104,
+        left_near: &[(0, 257)],
+        left_sets: &[(0, [257, 1, 65, 129])],
+    },
+    // The set has room.
+    PutOut {
+        near: &[(0, 32_769)],
+        sets: &[(0, [65, 129, 193, 0])],
+        op: READ | 64,
+        kind: 2,
+        ticks: 14,
+        left_near: &[(0, 65)],
+        left_sets: &[(0, [65, 1, 129, 193])],
+    },
+    // Line 16 is of another set than line 0.
+    PutOut {
+        near: &[(0, 32_785)],
+        sets: &[(16, [81, 145, 209, 273])],
+        op: READ,
+        kind: 3,
+        ticks: 104,
+        left_near: &[(0, 1)],
+        left_sets: &[(0, [1, 0, 0, 0]), (16, [17, 81, 145, 209])],
+    },
+    // Line 125 is the kernel's.
+    PutOut {
+        near: &[(13, 32_894)],
+        sets: &[(61, [62, 126, 190, 254])],
+        op: READ | 13,
+        kind: 3,
+        ticks: 104,
+        left_near: &[(13, 14)],
+        left_sets: &[(13, [14, 0, 0, 0]), (61, [126, 62, 190, 254])],
+    },
+    // A clean line is not put out.
+    PutOut {
+        near: &[(0, 1)],
+        sets: &[(0, [65, 129, 193, 257])],
+        op: READ | 256,
+        kind: 2,
+        ticks: 10,
+        left_near: &[(0, 257)],
+        left_sets: &[(0, [257, 65, 129, 193])],
+    },
+    // Nor is one that is hit.
+    PutOut {
+        near: &[(0, 32_769)],
+        sets: &[(0, [65, 1, 129, 0])],
+        op: READ,
+        kind: 1,
+        ticks: 1,
+        left_near: &[(0, 32_769)],
+        left_sets: &[(0, [65, 1, 129, 0])],
+    },
+    // A message of which both accesses put a line out: 12 and 13.
+    PutOut {
+        near: &[(12, 32_781), (13, 32_782)],
+        sets: &[(12, [77, 13, 0, 0]), (13, [78, 142, 206, 270])],
+        op: SEND | 1 << 16 | 5,
+        kind: 4,
+        ticks: 213,
+        left_near: &[(12, 61), (13, 32_894)],
+        left_sets: &[
+            (12, [13, 77, 0, 0]),
+            (13, [14, 78, 142, 206]),
+            (60, [61, 0, 0, 0]),
+            (61, [126, 0, 0, 0]),
+        ],
+    },
+];
+
+/// A cache table with these numbers in it and 0 elsewhere.
+fn table(near: &[(usize, u16)], sets: &[(usize, [u16; 4])]) -> [u16; 272] {
+    let mut table = [0; 272];
+    near.iter().for_each(|(index, held)| table[*index] = *held);
+    for (set, ways) in sets {
+        table[16 + 4 * set..][..4].copy_from_slice(ways);
+    }
+    table
+}
+
+/// Domain 0 has the colours 0 to 13 and may send to domain 1.
+fn wide(engine: &dyn Engine) -> World {
+    let text = "(pad 276)\n(run 1)\n(domain 0(share 966)(may 1))\n(domain 1(share 34)(may))\n\
+                (window 0(length 4000))\n";
+    let mut world = World::blank(16);
+    let text = text.as_bytes().to_vec();
+    assert_eq!(ask(engine, &mut world, Call::Read(text)), [0; 4]);
+    assert_eq!(ask(engine, &mut world, Call::FreshStart), [0; 4]);
+    world
+}
+
+#[test]
+fn lines_put_out() {
+    for engine in engines() {
+        for case in PUT_OUT {
+            let mut world = wide(&*engine);
+            world.cache[..].copy_from_slice(&table(case.near, case.sets));
+            world.scripts[0] = case.op;
+            assert_eq!(ask(&*engine, &mut world, Call::Step), [0, 0, 1, 0]);
+            assert_eq!((world.log[0], world.state[1]), (case.kind, case.ticks));
+            let left = table(case.left_near, case.left_sets);
+            assert_eq!(world.cache[..], left, "{}", engine.name());
+        }
+    }
+}
+
+/// A switch empties L1 and the kernel's sets, and writes nothing to the others.
+#[test]
+fn a_flush_puts_nothing_out() {
+    for engine in engines() {
+        let mut world = wide(&*engine);
+        let near = [(0, 32_769), (1, 32_786), (13, 32_894)];
+        let own = [(0, [65, 1, 0, 0]), (17, [82, 146, 210, 274])];
+        let kernel = [(60, [61, 0, 0, 0]), (61, [62, 126, 0, 0])];
+        let lent = table(&near, &[own, kernel].concat());
+        world.cache[..].copy_from_slice(&lent);
+        assert_eq!(ask(&*engine, &mut world, Call::Step), [0, 0, 1, 1]);
+        assert_eq!(world.state[..2], [1, 4_276]);
+        assert_eq!(world.cache[..], table(&[], &own), "{}", engine.name());
     }
 }

@@ -1,5 +1,6 @@
 //! The two caches: document 01, "The core and its tables", "What an op costs",
-//! the flushes of "Window, switch, run", and refusal 13.
+//! the flushes of "Window, switch, run", and refusal 13. What becomes of a dirty line
+//! that is replaced in L1: document 02, E7.
 
 use crate::colours::Colours;
 use crate::geometry::Line;
@@ -15,17 +16,35 @@ const DIRTY: u16 = 32_768;
 /// The first of the kernel's L2 sets.
 const KERNEL_SETS: usize = 60;
 
-/// A cache table of the right length.
+/// A cache table of the right length, and the board that works on it.
 #[derive(Debug)]
 pub struct Cache<'a> {
+    board: Board,
     l1: &'a mut [u16; L1],
     l2: &'a mut [[u16; WAYS]; SETS],
+}
+
+/// What becomes of a dirty line that an access replaces in L1.
+#[derive(Clone, Copy, Debug, PartialEq, Eq)]
+pub enum Board {
+    /// It goes to the front of its L2 set: document 02, E7.
+    New,
+    /// L2 stays as it is: document 01, before E7. Kept to tell where E7 shows.
+    Old,
 }
 
 #[derive(Clone, Copy, Debug, PartialEq, Eq)]
 pub enum Access {
     Read,
     Write,
+}
+
+/// What an access answers.
+#[derive(Clone, Copy, Debug, PartialEq, Eq)]
+pub struct Accessed {
+    pub found: Found,
+    pub ticks: u64,
+    pub put_out: PutOut,
 }
 
 /// Where an access found its line.
@@ -36,34 +55,83 @@ pub enum Found {
     Nowhere,
 }
 
+/// Which dirty line an access put out of L1, if any.
+#[derive(Clone, Copy, Debug, PartialEq, Eq)]
+pub enum PutOut {
+    Nothing,
+    Dirty(Line),
+}
+
 impl<'a> Cache<'a> {
     /// The caches in this table; none if its length is wrong.
     pub fn over(table: &'a mut [u16]) -> Option<Self> {
+        Cache::on(Board::New, table)
+    }
+
+    /// The same on either board.
+    pub fn on(board: Board, table: &'a mut [u16]) -> Option<Self> {
         let (l1, rest) = table.split_first_chunk_mut()?;
         match rest.as_chunks_mut() {
-            (sets, []) => sets.try_into().ok().map(|l2| Cache { l1, l2 }),
+            (sets, []) => sets.try_into().ok().map(|l2| Cache { board, l1, l2 }),
             _ => None,
         }
     }
 
-    /// Looks a line up and leaves it in L1; gives where it was and the ticks.
+    /// Looks a line up and leaves it in L1.
     #[inline]
-    pub fn access(&mut self, line: Line, access: Access) -> (Found, u64) {
+    pub fn access(&mut self, line: Line, access: Access) -> Accessed {
         let mark = match access {
             Access::Read => 0,
             Access::Write => DIRTY,
         };
+        let replaced = self.near(line.index());
         let near = &mut self.l1[line.index()];
-        if *near & !DIRTY == line.tag() {
+        if replaced.0 == Some(line) {
             *near |= mark;
-            return (Found::InL1, 1);
+            return Accessed {
+                found: Found::InL1,
+                ticks: 1,
+                put_out: PutOut::Nothing,
+            };
         }
-        let replaced = std::mem::replace(near, line.tag() | mark);
-        let write_back = if replaced & DIRTY != 0 { 4 } else { 0 };
-        match bring_to_front(&mut self.l2[line.set()], line.tag()) {
-            true => (Found::InL2, 10 + write_back),
-            false => (Found::Nowhere, 100 + write_back),
+        *near = line.tag() | mark;
+        let put_out = match replaced {
+            (Some(held), true) => PutOut::Dirty(held),
+            _ => PutOut::Nothing,
+        };
+        // It is written before the line is sought, which it may drop from L2.
+        let written = self.write_back(put_out);
+        let (found, sought) = match self.bring_to_front(line) {
+            true => (Found::InL2, 10),
+            false => (Found::Nowhere, 100),
+        };
+        Accessed {
+            found,
+            ticks: written + sought,
+            put_out,
         }
+    }
+
+    /// Writes a line that was put out back into L2; gives the ticks.
+    fn write_back(&mut self, put_out: PutOut) -> u64 {
+        let PutOut::Dirty(line) = put_out else {
+            return 0;
+        };
+        if self.board == Board::New {
+            self.bring_to_front(line);
+        }
+        4
+    }
+
+    /// Puts a line in front of its L2 set; gives whether the set held it before. The
+    /// others move back by one up to where it was; a full set that did not hold it
+    /// drops its last.
+    fn bring_to_front(&mut self, line: Line) -> bool {
+        let mut carried = line.tag();
+        self.l2[line.set()].iter_mut().any(|held| {
+            std::mem::swap(held, &mut carried);
+            carried == line.tag()
+        })
     }
 
     /// Empties the kernel's L2 sets; gives the ticks.
@@ -74,7 +142,7 @@ impl<'a> Cache<'a> {
         8 + valid as u64
     }
 
-    /// Empties L1; gives the ticks.
+    /// Empties L1 and writes nothing to L2; gives the ticks.
     pub fn flush_l1(&mut self) -> u64 {
         let dirty = self.l1.iter().filter(|held| **held & DIRTY != 0).count();
         self.l1.fill(0);
@@ -122,17 +190,6 @@ impl<'a> Cache<'a> {
                 },
             )
     }
-}
-
-/// Puts a line in front of its set; gives whether the set held it before. The
-/// others move back by one up to where it was; a full set that did not hold it
-/// drops its last.
-fn bring_to_front(set: &mut [u16; WAYS], tag: u16) -> bool {
-    let mut carried = tag;
-    set.iter_mut().any(|held| {
-        std::mem::swap(held, &mut carried);
-        carried == tag
-    })
 }
 
 fn is_sound_set(number: usize, set: &[u16; WAYS]) -> bool {

@@ -60,7 +60,7 @@ fn first_length(plan: &Plan, domain: u32) -> Option<u32> {
 pub(crate) fn timed(tenant: &Tenant, before: &[Op], last: Op, length: u64) -> Vec<Op> {
     let mut caches = [0; cache::TABLE];
     let ops = before.iter();
-    let busy: u64 = ops.map(|op| tenant.play(&mut caches, *op)).sum();
+    let busy: u64 = ops.map(|op| tenant.play(&mut caches, *op).ticks).sum();
     let most = *limits::COMPUTE.end() as u16;
     let idle = length - 1 - busy;
     let (whole, rest) = (idle / u64::from(most), idle % u64::from(most));
@@ -106,6 +106,7 @@ pub fn finished_windows(
     };
     let mut windows = Vec::new();
     run_watched(
+        cache::Board::New,
         plan,
         scripts,
         &mut state,

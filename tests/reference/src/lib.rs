@@ -1,6 +1,7 @@
 //! The reader and the machine of document 01 and, of document 02, the frame maker
 //! (E1), the shares to the nearest colour (E2), the bound of a run's steps (E3), the
-//! plan written back (E4) and the latest a domain can finish (E6), in plain Rust.
+//! plan written back (E4), the latest a domain can finish (E6) and the written lines
+//! that go back through L2 (E7), in plain Rust.
 //!
 //! This is a second reading of the papers. It is written from them alone and
 //! shares no code with the proved implementation, so that the two can be held

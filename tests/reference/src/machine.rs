@@ -1,6 +1,6 @@
 //! The machine from window to window: document 01, "Window, switch, run".
 
-use crate::cache::Cache;
+use crate::cache::{Board, Cache};
 use crate::journal::Journal;
 use crate::mail::Mail;
 use crate::plan::Plan;
@@ -68,12 +68,13 @@ pub fn run(
     lent: Lent,
     limit: u64,
 ) -> Result<Progress, Refusal> {
-    run_watched(plan, scripts, state, lent, limit, |_, _| ())
+    run_watched(Board::New, plan, scripts, state, lent, limit, |_, _| ())
 }
 
-/// Does the same, and shows each window that it completes, with the tick at which
-/// the window's switch has emptied L1.
+/// Does the same on either board, and shows each window that it completes, with the
+/// tick at which the window's switch has emptied L1.
 pub fn run_watched(
+    board: Board,
     plan: &Plan,
     scripts: &[u32],
     state: &mut State,
@@ -81,7 +82,7 @@ pub fn run_watched(
     limit: u64,
     mut completed: impl FnMut(Turn, u64),
 ) -> Result<Progress, Refusal> {
-    let mut machine = Machine::admit(plan, scripts, state, lent)?;
+    let mut machine = Machine::admit(board, plan, scripts, state, lent)?;
     let mut left = limit;
     while let Some(turn) = machine.turn.filter(|_| left > 0) {
         left -= machine.work(turn, left);
@@ -115,13 +116,14 @@ struct Machine<'a> {
 impl<'a> Machine<'a> {
     /// Judges all that was lent: 11, 12, 13, 14.
     fn admit(
+        board: Board,
         plan: &'a Plan,
         scripts: &'a [u32],
         state: &'a mut State,
         lent: Lent<'a>,
     ) -> Result<Self, Refusal> {
         let scripts = Scripts::over(scripts).ok_or(Refusal::TableLength)?;
-        let cache = Cache::over(lent.cache).ok_or(Refusal::TableLength)?;
+        let cache = Cache::on(board, lent.cache).ok_or(Refusal::TableLength)?;
         let mail = Mail::over(lent.boxes).ok_or(Refusal::TableLength)?;
         let schedule = plan.schedule()?;
         let turn = schedule.turn(state.completed);
@@ -161,7 +163,7 @@ impl<'a> Machine<'a> {
             counts: self.state.counts[turn.domain],
         };
         let mut done = 0;
-        while done < most && shift.op() {
+        while done < most && shift.op().is_some() {
             done += 1;
         }
         (self.state.clock, self.state.counts[turn.domain]) = (shift.clock, shift.counts);

@@ -4,7 +4,10 @@
 //! At a window's start L1 and the kernel's L2 sets are empty, by a fresh start or by
 //! the switch before, whatever other domains did. From there every op of the domain
 //! is tried on the machine's own caches, and again on whatever that leaves, until
-//! nothing new comes up. Three things are left out, and none of them is ever later:
+//! nothing new comes up. A dirty line that is put out is written back (E7) to where it
+//! stands already: its own access left it in front of its L2 set, and any other line of
+//! that set has its L1 index and so would have put it out. Three things are left out,
+//! and none of them is ever later:
 //!
 //! - **Ops.** Of the accesses to one L1 index only those to a line that neither cache
 //!   holds are tried. Any other takes fewer ticks, and leaves the same or changes
@@ -120,7 +123,7 @@ pub(crate) fn search(tenant: &Tenant) -> Found {
         for step in &all_moves {
             let Node { mut caches, .. } = nodes[at];
             let before = nodes[at].moves.len();
-            let busy = tenant.play(&mut caches, tenant.op(*step, before));
+            let busy = tenant.play(&mut caches, tenant.op(*step, before)).ticks;
             let moves = || [&nodes[at].moves[..], &[*step]].concat();
             // The op begins one tick before the end.
             let ticks = busy - 1 + flush(&caches);

@@ -1,14 +1,14 @@
 //! A domain by itself: the ops with which it can change the caches, and what each of
 //! them does there. Document 02, E6.
 
-use crate::cache::{Access, Cache, L1};
+use crate::cache::{Access, Board, Cache, L1};
 use crate::geometry::Line;
 use crate::journal::RECORD;
 use crate::limits::{COMPUTE, DOMAINS, OPS};
 use crate::mail::{Mail, BOXES};
 use crate::op::Op;
 use crate::plan::Plan;
-use crate::shift::Shift;
+use crate::shift::{Effect, Shift};
 use crate::state::Counts;
 
 /// A domain of a plan.
@@ -16,6 +16,7 @@ use crate::state::Counts;
 pub struct Tenant<'p> {
     plan: &'p Plan,
     own: usize,
+    board: Board,
     /// Of its lines with each L1 index, the lowest; none where it has no such line.
     lines: [Option<u16>; L1],
     /// A message through each box that it may use.
@@ -48,6 +49,11 @@ pub struct Reach {
 impl<'p> Tenant<'p> {
     /// A declared domain.
     pub fn of(plan: &'p Plan, own: usize) -> Self {
+        Tenant::on(Board::New, plan, own)
+    }
+
+    /// The same on either board.
+    pub fn on(board: Board, plan: &'p Plan, own: usize) -> Self {
         let colours = plan.domains[own].colours;
         let is_own = |number: &u16| Line::new(*number).is_some_and(|line| colours.include(line));
         let lines = std::array::from_fn(|index| (index as u16..64).step_by(L1).find(is_own));
@@ -62,6 +68,7 @@ impl<'p> Tenant<'p> {
         Tenant {
             plan,
             own,
+            board,
             lines,
             messages: sent.map(send).chain(received.map(receive)).collect(),
         }
@@ -113,9 +120,9 @@ impl<'p> Tenant<'p> {
         steps.map(|(before, step)| self.op(*step, before)).collect()
     }
 
-    /// Does an op of this domain on these caches, as the machine does it; gives the
-    /// ticks. What boxes and log hold takes no time, so they are empty.
-    pub fn play(&self, caches: &mut [u16], op: Op) -> u64 {
+    /// Does an op of this domain on these caches, as the machine does it. What boxes and
+    /// log hold takes no time and puts out no line, so they are empty.
+    pub fn play(&self, caches: &mut [u16], op: Op) -> Effect {
         let mut script = [0; OPS];
         script[0] = op.stored();
         let mut boxes = [0; BOXES];
@@ -125,12 +132,11 @@ impl<'p> Tenant<'p> {
             end: 1,
             script: &script,
             part: &mut [[0; RECORD]],
-            cache: &mut Cache::over(caches).expect("a cache table"),
+            cache: &mut Cache::on(self.board, caches).expect("a cache table"),
             mail: &mut Mail::over(&mut boxes).expect("a table of boxes"),
             clock: 0,
             counts: Counts::default(),
         };
-        assert!(shift.op(), "an op begins");
-        shift.clock
+        shift.op().expect("an op begins")
     }
 }

@@ -14,7 +14,7 @@ use Rattle.state.specs.World.{World, runningOf}
 use Rattle.machine.specs.Steps.{stepOf}
 use Rattle.machine.specs.Switch.{switchOf}
 use Rattle.isolation.specs.Statement.{ScriptsAgree}
-use Rattle.isolation.proofs.TwoRuns.OpStep.{Whole, switch-away}
+use Rattle.isolation.proofs.TwoRuns.OpStep.{Ready, Whole, switch-away}
 use Rattle.isolation.proofs.TwoRuns.Relations.{Alike, Close, alike-refl, alike-sym, alike-trans}
 use Rattle.isolation.proofs.TwoRuns.Step.{Together, both, step-alike, step-away, still}
 
@@ -47,11 +47,11 @@ module _ (plan : Plan) (quota : ℕ) (Named : ℕ → Type 0) where
 
   module _ (possible : planValid plan ≡ true) (declared : (domain : ℕ) → Named domain → domain < plan .domains) where
     -- a step in the window of a domain that is not named
-    pub near-step : (scripts : List ℕ) (world : World) → Whole world → (Named (runningOf plan (world .state)) → ⊥)
+    pub near-step : (scripts : List ℕ) (world : World) → Ready plan world → (Named (runningOf plan (world .state)) → ⊥)
         → Near world (stepOf plan scripts quota world)
-    near-step scripts world whole unnamed domain named =
+    near-step scripts world ready unnamed domain named =
         step-away plan scripts quota domain world possible (declared domain named)
-        (λ e. unnamed (subst Named e named)) whole
+        (λ e. unnamed (subst Named e named)) ready
 
     pub near-switch : (world : World) → Whole world → Near world (switchOf plan world)
     near-switch world whole domain named = switch-away plan quota domain possible (declared domain named) world whole
@@ -60,11 +60,11 @@ module _ (plan : Plan) (quota : ℕ) (Named : ℕ → Type 0) where
     module _ (scripts scripts′ : List ℕ) (same : ScriptsAgree Named scripts scripts′) {Kept : ℕ → Type 0}
         (to : (domain : ℕ) → Named domain → (sender : ℕ) → sender < mostDomains → Kept (boxIndex sender domain)) where
       pub locked-step : (running : ℕ) (one other : World) → Named running → runningOf plan (one .state) ≡ running
-          → Whole one → Whole other
+          → Ready plan one → Ready plan other
           → Locked Kept running one other
           → Paired Kept running one other (stepOf plan scripts quota one) (stepOf plan scripts′ quota other)
-      locked-step running one other named runs whole whole′ lock =
-          go (step-alike plan quota running (to running named) (lock .close) runs scripts scripts′ (same running named) whole)
+      locked-step running one other named runs ready ready′ lock =
+          go (step-alike plan quota running (to running named) (lock .close) runs scripts scripts′ (same running named) ready)
         where
           runs′ : runningOf plan (other .state) ≡ running
           runs′ = ap (windowOwner plan) (sym (lock .close .windows)) ∙ runs
@@ -77,11 +77,11 @@ module _ (plan : Plan) (quota : ℕ) (Named : ℕ → Type 0) where
           all close domain n (no ne) =
               let away =
               step-away plan scripts quota domain one possible (declared domain n)
-              (λ e. ne (e ∙ runs)) whole
+              (λ e. ne (e ∙ runs)) ready
               in
               let away′ =
               step-away plan scripts′ quota domain other possible (declared domain n)
-              (λ e. ne (e ∙ runs′)) whole′
+              (λ e. ne (e ∙ runs′)) ready′
               in
               alike-trans plan quota domain (alike-sym plan quota domain away)
               (alike-trans plan quota domain (lock .near domain n) away′)

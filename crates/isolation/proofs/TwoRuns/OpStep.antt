@@ -3,7 +3,8 @@
 use Prim.Native.Nat.{ℕ, _+_, _<_}
 use mathlib.Core.Bool.{true}
 use mathlib.Core.List.{List}
-use mathlib.Core.Path.{_≡_, refl, sym, ap₂}
+use mathlib.Core.Path.{_≡_, refl, sym, ap₂, subst, _∙_}
+use native.Mathlib.Omega.{arith}
 use lib.ListN.{getD, length, set}
 use Rattle.lists.proofs.Agree.{Agree, agree-fewer, agree-refl, set-alike, set-away}
 use Rattle.plan.specs.declared.Plan.{Plan}
@@ -11,16 +12,19 @@ use Rattle.plan.specs.Limits.{mostDomains}
 use Rattle.plan.specs.Validity.{planValid}
 use Rattle.script.specs.declared.Op.{Op}
 use Rattle.script.specs.Limits.{OpWithinLimits}
-use Rattle.cache.specs.Lines.{tableLength}
+use Rattle.plan.specs.Windows.{windowOwner}
+use Rattle.cache.specs.Access.{dirtyLine}
+use Rattle.cache.specs.Lines.{isDirty, tableLength}
 use Rattle.ops.specs.Ops.{boxIndex}
-use Rattle.state.specs.World.{World, recordsAt}
+use Rattle.state.specs.TableValidity.{lineAllowed}
+use Rattle.state.specs.World.{World, recordsAt, runningOf}
 use Rattle.machine.specs.Steps.{opStepOf}
 use Rattle.machine.specs.Switch.{switchOf}
 use Rattle.isolation.specs.Statement.{Only}
 use Rattle.isolation.proofs.TwoRuns.Flush.{flush-alike, flush-away}
 use Rattle.isolation.proofs.TwoRuns.Log.{raised, stored-alike, stored-away}
 use Rattle.isolation.proofs.TwoRuns.Ops.{effect-alike, effect-away}
-use Rattle.isolation.proofs.TwoRuns.Indices.{FlushedIndex, OwnIndex, WorkIndex, flushed, own, own-between}
+use Rattle.isolation.proofs.TwoRuns.Indices.{DirtyAllowed, FlushedIndex, OwnIndex, WorkIndex, flushed, l1, own, own-between}
 use Rattle.isolation.proofs.TwoRuns.Indices.{own-untouched}
 use Rattle.isolation.proofs.TwoRuns.Relations.{Alike, Close, same-records}
 
@@ -28,8 +32,30 @@ use Rattle.isolation.proofs.TwoRuns.Relations.{Alike, Close, same-recor
 abbrev pub Whole : World → Type 0
 Whole world = length (world .cache) ≡ tableLength
 
+-- and an op may begin on it: of L1's dirty lines none is a rival's of the running domain
+pub record Ready (plan : Plan) (world : World) : Type 0 where
+  pub whole : Whole world
+  pub dirty : DirtyAllowed plan (runningOf plan (world .state)) (world .cache)
+
+-- a table that has the same L1 and as many numbers, in the same window
+pub ready-alike : (plan : Plan) {one other : World} → one .state .windows ≡ other .state .windows
+    → Agree FlushedIndex (one .cache) (other .cache)
+    → Ready plan one
+    → Ready plan other
+ready-alike plan {one} {other} windows same ready =
+    record {
+      whole = sym (same .len) ∙ ready .whole;
+      dirty = λ index below.
+          subst (λ number. isDirty number ≡ true → lineAllowed plan (windowOwner plan (other .state .windows)) (dirtyLine number) ≡ true)
+          (same .at index (l1 (record { from = omega arith; below = omega arith })))
+          (subst (λ window.
+          isDirty (getD (one .cache) index 0) ≡ true
+          → lineAllowed plan (windowOwner plan window) (dirtyLine (getD (one .cache) index 0)) ≡ true)
+          windows (ready .dirty index below));
+    }
+
 -- tables that agree at a domain's own indices and at those that a switch empties agree wherever its ops touch
-both-indices : (plan : Plan) (domain : ℕ) {one other : List ℕ} → Agree (OwnIndex plan domain) one other
+pub both-indices : (plan : Plan) (domain : ℕ) {one other : List ℕ} → Agree (OwnIndex plan domain) one other
     → Agree FlushedIndex one other
     → Agree (WorkIndex plan domain) one other
 both-indices plan domain {one} {other} a b = record { len = a .len; at = go }
@@ -48,13 +74,13 @@ module _ (plan : Plan) (quota domain : ℕ) where
   -- ---- its own op
 
   module _ {Kept : ℕ → Type 0} (to : (sender : ℕ) → sender < mostDomains → Kept (boxIndex sender domain)) where
-    pub op-alike : {one other : World} (op : Op) → OpWithinLimits op → Whole one
+    pub op-alike : {one other : World} (op : Op) → OpWithinLimits op → Whole one → DirtyAllowed plan domain (one .cache)
         → Close plan quota domain Kept one other
         → Close plan quota domain Kept (opStepOf plan quota domain op one) (opStepOf plan quota domain op other)
     unfolding opStepOf
-    op-alike {one} {other} op good whole a =
+    op-alike {one} {other} op good whole dirty a =
         let effect =
-        effect-alike plan domain whole (both-indices plan domain (a .outside .sets) (a .flushed)) op good to
+        effect-alike plan domain whole dirty (both-indices plan domain (a .outside .sets) (a .flushed)) op good to
         (a .boxes) in
         let clock = ap₂ (λ (n m : ℕ). n + m) (a .clock) (effect .ticks) in
         record {
@@ -78,15 +104,16 @@ module _ (plan : Plan) (quota domain : ℕ) where
   module _ (possible : planValid plan ≡ true) (declared : domain < plan .domains) where
     pub op-away : (running : ℕ) (op : Op) (world : World) → running < plan .domains → (domain ≡ running → ⊥)
         → Whole world
+        → DirtyAllowed plan running (world .cache)
         → recordsAt (world .state) running < quota
         → Alike plan quota domain world (opStepOf plan quota running op world)
     unfolding opStepOf
-    op-away running op world there other whole room =
+    op-away running op world there other whole dirty room =
         record {
           positions = set-away _ running _ (λ e. other (sym e));
           records = set-away _ running _ (λ e. other (sym e));
           sets =
-              effect-away plan running (world .cache) whole
+              effect-away plan running (world .cache) whole dirty
               (λ index. own-untouched plan possible domain index declared running there other) op (world .boxes);
           log = stored-away quota domain _ running _ _ _ (world .log) room other;
         }

@@ -19,10 +19,11 @@ use Rattle.cache.specs.Access.{accessOf}
 use Rattle.cache.specs.Lines.{tableLength}
 use Rattle.cache.proofs.Laws.{access-length}
 use Rattle.records.specs.declared.Observation.{Observation}
-use Rattle.ops.specs.Ops.{Effect, accessObservation, boxIndex, boxLine, boxObservation, computeOf, effectOf, fullBox}
-use Rattle.ops.specs.Ops.{kernelEntryLine, messageOf, messageTicks, ownsLine, receiveOf, touchOf}
+use Rattle.ops.specs.Ops.{Effect, accessObservation, boxIndex, boxLine, boxObservation, computeOf, effectBy, effectOf}
+use Rattle.ops.specs.Ops.{fullBox, kernelEntryLine, messageBy, messageOf, messageTicks, ownsLine, receiveBy, touchBy, touchOf}
 use Rattle.isolation.proofs.TwoRuns.Access.{AccessAlike, access-alike, access-away}
-use Rattle.isolation.proofs.TwoRuns.Indices.{WorkIndex, box-line, entry-line, own-line}
+use Rattle.isolation.proofs.TwoRuns.Indices.{DirtyAllowed, WorkIndex, accessed-line, box-line, entry-allowed, entry-line}
+use Rattle.isolation.proofs.TwoRuns.Indices.{own-line}
 
 module _ (plan : Plan) (domain : ℕ) where
   -- ---- in two worlds
@@ -30,34 +31,43 @@ module _ (plan : Plan) (domain : ℕ) where
   pub record EffectAlike (Kept : ℕ → Type 0) (one other : Effect) : Type 0 where
     pub ticks : one .ticks ≡ other .ticks
     pub seen : one .seen ≡ other .seen
+    pub first : one .first ≡ other .first
+    pub second : one .second ≡ other .second
     pub cache : Agree (WorkIndex plan domain) (one .cache) (other .cache)
     pub boxes : Agree Kept (one .boxes) (other .boxes)
 
-  module _ {one other : List ℕ} (whole : length one ≡ tableLength)
+  module _ {one other : List ℕ} (whole : length one ≡ tableLength) (dirty : DirtyAllowed plan domain one)
       (tables : Agree (WorkIndex plan domain) one other) where
     entry-alike :
         AccessAlike (WorkIndex plan domain) (accessOf false kernelEntryLine one) (accessOf false kernelEntryLine other)
-    entry-alike = access-alike false kernelEntryLine (entry-line plan domain) whole tables
+    entry-alike =
+        access-alike false kernelEntryLine (accessed-line plan domain kernelEntryLine one dirty (entry-line plan domain)) whole tables
 
     module _ {Kept : ℕ → Type 0} where
       touch-alike : (writes : Bool) (line : ℕ) {boxes boxes′ : List ℕ} → Agree Kept boxes boxes′
           → EffectAlike Kept (touchOf plan domain writes line one boxes) (touchOf plan domain writes line other boxes′)
-      unfolding touchOf
+      unfolding touchBy
       touch-alike writes line {boxes} {boxes′} kept = go (ownsLine plan domain line) refl
         where
           go : (owns : Bool) → ownsLine plan domain line ≡ owns
               → EffectAlike Kept (touchOf plan domain writes line one boxes)
               (touchOf plan domain writes line other boxes′)
           go true e =
-              let access = access-alike writes line (λ index. own-line plan domain line index e) whole tables in
+              let access =
+              access-alike writes line
+              (accessed-line plan domain line one dirty (λ index. own-line plan domain line index e)) whole tables
+              in
               rw e
               (record {
                 ticks = access .ticks;
                 seen = ap (λ (found : AccessKind). accessObservation found line) (access .found);
+                first = access .back;
+                second = refl;
                 cache = access .table;
                 boxes = kept;
               })
-          go false e = rw e (record { ticks = refl; seen = refl; cache = tables; boxes = kept })
+          go false e =
+              rw e (record { ticks = refl; seen = refl; first = refl; second = refl; cache = tables; boxes = kept })
 
       message-alike :
           (sender recipient : ℕ) (denied : Observation) {passed passed′ : Observation} (number : ℕ)
@@ -65,7 +75,7 @@ module _ (plan : Plan) (domain : ℕ) where
           → passed ≡ passed′ → Agree Kept boxes boxes′
           → EffectAlike Kept (messageOf plan sender recipient denied passed number one boxes)
           (messageOf plan sender recipient denied passed′ number other boxes′)
-      unfolding messageOf
+      unfolding messageBy
       message-alike sender recipient denied {passed} {passed′} number {boxes} {boxes′} shown kept =
           go (maySend plan sender recipient) refl
         where
@@ -74,13 +84,17 @@ module _ (plan : Plan) (domain : ℕ) where
               (messageOf plan sender recipient denied passed′ number other boxes′)
           go true e =
               let access =
-              access-alike true (boxLine sender recipient) (box-line plan domain sender recipient)
+              access-alike true (boxLine sender recipient)
+              (accessed-line plan domain (boxLine sender recipient) _ (entry-allowed plan domain one whole dirty)
+              (box-line plan domain sender recipient))
               (access-length false kernelEntryLine one ∙ whole) (entry-alike .table)
               in
               rw e
               (record {
                 ticks = ap₂ (λ (n m : ℕ). messageTicks + n + m) (entry-alike .ticks) (access .ticks);
                 seen = shown;
+                first = entry-alike .back;
+                second = access .back;
                 cache = access .table;
                 boxes = set-alike (boxIndex sender recipient) number (agree-fewer (λ index p. p .0) kept);
               })
@@ -89,6 +103,8 @@ module _ (plan : Plan) (domain : ℕ) where
               (record {
                 ticks = ap (λ (n : ℕ). messageTicks + n) (entry-alike .ticks);
                 seen = refl;
+                first = entry-alike .back;
+                second = refl;
                 cache = entry-alike .table;
                 boxes = kept;
               })
@@ -97,38 +113,42 @@ module _ (plan : Plan) (domain : ℕ) where
           → ((sender : ℕ) → sender < mostDomains → Kept (boxIndex sender domain))
           → Agree Kept boxes boxes′
           → EffectAlike Kept (effectOf plan domain op one boxes) (effectOf plan domain op other boxes′)
-      unfolding effectOf receiveOf computeOf OpWithinLimits
+      unfolding effectBy receiveBy computeOf OpWithinLimits
       effect-alike (Read line) good to kept = touch-alike false line kept
       effect-alike (Write line) good to kept = touch-alike true line kept
       effect-alike (Send recipient word) good to kept = message-alike domain recipient _ (fullBox word) refl kept
       effect-alike (Receive sender) good to kept =
           message-alike sender domain _ 0 (ap (boxObservation sender) (kept .at _ (to sender (omega arith)))) kept
-      effect-alike (Compute ticks) good to kept = record { ticks = refl; seen = refl; cache = tables; boxes = kept }
+      effect-alike (Compute ticks) good to kept =
+          record { ticks = refl; seen = refl; first = refl; second = refl; cache = tables; boxes = kept }
 
   -- ---- in one: the indices that the op does not touch
 
-  module _ {Named : ℕ → Type 0} (table : List ℕ) (whole : length table ≡ tableLength)
+  module _ {Named : ℕ → Type 0} (table : List ℕ) (whole : length table ≡ tableLength) (dirty : DirtyAllowed plan domain table)
       (untouched : (index : ℕ) → Named index → WorkIndex plan domain index → ⊥) where
     touch-away : (writes : Bool) (line : ℕ) (boxes : List ℕ)
         → Agree Named table (touchOf plan domain writes line table boxes .cache)
-    unfolding touchOf
+    unfolding touchBy
     touch-away writes line boxes = go (ownsLine plan domain line) refl
       where
         go : (owns : Bool) → ownsLine plan domain line ≡ owns
             → Agree Named table (touchOf plan domain writes line table boxes .cache)
         go true e =
             rw e
-            (access-away writes line table whole (λ index h p. untouched index p (own-line plan domain line index e h)))
+            (access-away writes line table whole
+            (λ index h p.
+            untouched index p (accessed-line plan domain line table dirty (λ i. own-line plan domain line i e) index h)))
         go false e = rw e (agree-refl Named table)
 
     entry-away : Agree Named table (accessOf false kernelEntryLine table .table)
     entry-away =
-        access-away false kernelEntryLine table whole (λ index h p. untouched index p (entry-line plan domain index h))
+        access-away false kernelEntryLine table whole
+        (λ index h p. untouched index p (accessed-line plan domain kernelEntryLine table dirty (entry-line plan domain) index h))
 
     -- whatever the rights say
     message-away : (sender recipient : ℕ) (denied passed : Observation) (number : ℕ) (boxes : List ℕ)
         → Agree Named table (messageOf plan sender recipient denied passed number table boxes .cache)
-    unfolding messageOf
+    unfolding messageBy
     message-away sender recipient denied passed number boxes = go (maySend plan sender recipient) refl
       where
         go : (may : Bool) → maySend plan sender recipient ≡ may
@@ -137,11 +157,14 @@ module _ (plan : Plan) (domain : ℕ) where
             rw e
             (agree-trans entry-away
             (access-away true (boxLine sender recipient) _ (access-length false kernelEntryLine table ∙ whole)
-            (λ index h p. untouched index p (box-line plan domain sender recipient index h))))
+            (λ index h p.
+            untouched index p
+            (accessed-line plan domain (boxLine sender recipient) _ (entry-allowed plan domain table whole dirty)
+            (box-line plan domain sender recipient) index h))))
         go false e = rw e entry-away
 
     pub effect-away : (op : Op) (boxes : List ℕ) → Agree Named table (effectOf plan domain op table boxes .cache)
-    unfolding effectOf receiveOf computeOf
+    unfolding effectBy receiveBy computeOf
     effect-away (Read line) boxes = touch-away false line boxes
     effect-away (Write line) boxes = touch-away true line boxes
     effect-away (Send recipient word) boxes = message-away domain recipient _ _ _ boxes

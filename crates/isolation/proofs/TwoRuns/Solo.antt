@@ -34,11 +34,11 @@ use Rattle.isolation.proofs.TwoRuns.Indices.{FlushedIndex, kernel, l1, 
 use Rattle.isolation.proofs.TwoRuns.Log.{part-of-log}
 use Rattle.isolation.proofs.TwoRuns.Near.{Locked, Near, Paired, locked-step, near-both, near-refl, near-switch, switched, worked}
 use Rattle.isolation.proofs.TwoRuns.OpCounts.{ops-so-far, past-the-last}
-use Rattle.isolation.proofs.TwoRuns.OpStep.{Whole, switch-flushed}
+use Rattle.isolation.proofs.TwoRuns.OpStep.{Whole, ready-alike, switch-flushed}
 use Rattle.isolation.proofs.TwoRuns.Positions.{position-is-ops}
 use Rattle.isolation.proofs.TwoRuns.Progress.{first-start, lasts, stays-ended}
 use Rattle.isolation.proofs.TwoRuns.Relations.{same-position, same-records}
-use Rattle.isolation.proofs.TwoRuns.Windows.{Began, BoxTo, Completed, Watched, began, completed, next-world, stays-near, whole}
+use Rattle.isolation.proofs.TwoRuns.Windows.{Began, BoxTo, Completed, Watched, began, completed, next-world, ready, stays-near, whole}
 
 -- ---- waiting
 
@@ -237,8 +237,8 @@ module _ (input : SoloInput) (scripts log : List ℕ) (count : ℕ) (possible : 
   both-next window at other named here lock =
       rw (next-world run watched quota quota-is at)
       (locked-step plan quota Named possible (m .declared) scripts (input .scripts) (m .scriptsAre) (watched .to)
-      (windowOwner plan window) (worldAfter run at) other named (ap (windowOwner plan) here) (full at)
-      (sym (lock .close .flushed .len) ∙ full at) lock)
+      (windowOwner plan window) (worldAfter run at) other named (ap (windowOwner plan) here) (ready run possible at)
+      (ready-alike plan (lock .close .windows) (lock .close .flushed) (ready run possible at)) lock)
 
   -- so both complete as many windows
   same-next : (window at : ℕ) (other : World) → Named (windowOwner plan window) → windowsAfter run at ≡ window

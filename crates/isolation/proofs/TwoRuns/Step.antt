@@ -23,7 +23,7 @@ use Rattle.machine.specs.Switch.{switchOf}
 use Rattle.machine.proofs.Fetched.{fetched-within}
 use Rattle.machine.proofs.Invariant.{op-next, step-cases}
 use Rattle.machine.proofs.Runs.{step-active, step-ended}
-use Rattle.isolation.proofs.TwoRuns.OpStep.{Whole, op-alike, op-away, switch-away}
+use Rattle.isolation.proofs.TwoRuns.OpStep.{Ready, op-alike, op-away, switch-away}
 use Rattle.isolation.proofs.TwoRuns.Relations.{Alike, Close, alike-refl, same-position, same-records}
 
 -- ---- two worlds in the domain's own window
@@ -88,17 +88,17 @@ module _ (plan : Plan) (quota domain : ℕ) {Kept : ℕ → Type 0} (to : (sende
   -- two worlds that pass the same tests take the same way
   pub step-alike : (scripts scripts′ : List ℕ)
       → ((index : ℕ) → index < mostOps → getD scripts (mostOps * domain + index) 0 ≡ getD scripts′ (mostOps * domain + index) 0)
-      → Whole one
+      → Ready plan one
       → Together plan quota domain Kept one other (stepOf plan scripts quota one) (stepOf plan scripts′ quota other)
   unfolding activeStep
-  step-alike scripts scripts′ same whole = by-end (endedOf plan (one .state)) refl
+  step-alike scripts scripts′ same ready = by-end (endedOf plan (one .state)) refl
     where
       by-next : (next : ScriptItem) → nextStepOf scripts (turnOf plan quota (one .state)) ≡ next
           → Together plan quota domain Kept one other (activeStep plan quota next one) (activeStep plan quota next other)
       by-next End is = both refl refl
       by-next (Fetch op) is =
           rw (running, same-running)
-          (still (op-alike plan quota domain to op (fetched-within scripts _ (positionAt (one .state) _) op (op-next scripts _ op is .next)) whole a))
+          (still (op-alike plan quota domain to op (fetched-within scripts _ (positionAt (one .state) _) op (op-next scripts _ op is .next)) (ready .whole) (rw running at (ready .dirty)) a))
 
       by-end : (ended : Bool) → endedOf plan (one .state) ≡ ended
           → Together plan quota domain Kept one other (stepOf plan scripts quota one) (stepOf plan scripts′ quota other)
@@ -111,10 +111,11 @@ module _ (plan : Plan) (quota domain : ℕ) {Kept : ℕ → Type 0} (to : (sende
 
 pub step-away : (plan : Plan) (scripts : List ℕ) (quota domain : ℕ) (world : World) → planValid plan ≡ true
     → domain < plan .domains
-    → (domain ≡ runningOf plan (world .state) → ⊥) → Whole world
+    → (domain ≡ runningOf plan (world .state) → ⊥) → Ready plan world
     → Alike plan quota domain world (stepOf plan scripts quota world)
-step-away plan scripts quota domain world possible declared other whole =
+step-away plan scripts quota domain world possible declared other ready =
     step-cases plan scripts quota world (Alike plan quota domain world) (λ ended. alike-refl plan quota domain world)
-    (λ room. switch-away plan quota domain possible declared world whole)
+    (λ room. switch-away plan quota domain possible declared world (ready .whole))
     (λ op begins.
-    op-away plan quota domain possible declared _ op world (owner-declared plan (world .state .windows) possible) other whole (begins .room))
+    op-away plan quota domain possible declared _ op world (owner-declared plan (world .state .windows) possible) other (ready .whole) (ready .dirty)
+    (begins .room))

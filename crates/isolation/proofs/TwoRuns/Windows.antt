@@ -16,12 +16,12 @@ use Rattle.records.specs.Records.{partRecords}
 use Rattle.ops.specs.Ops.{boxIndex}
 use Rattle.machine.specs.Steps.{stepOf}
 use Rattle.machine.specs.Switch.{switchOf}
-use Rattle.reachable.proofs.Reached.{cache-length}
+use Rattle.reachable.proofs.Reached.{cache-length, dirty-allowed}
 use Rattle.machine.specs.Fresh.{freshWorld}
 use Rattle.isolation.specs.Points.{FreshRun, Starts, windowsAfter, worldAfter}
 use Rattle.isolation.specs.Statement.{StartedOnTime}
 use Rattle.isolation.proofs.TwoRuns.Near.{Near, near-refl, near-step, near-trans}
-use Rattle.isolation.proofs.TwoRuns.OpStep.{Whole}
+use Rattle.isolation.proofs.TwoRuns.OpStep.{Ready, Whole}
 use Rattle.isolation.proofs.TwoRuns.Progress.{before, lasts, no-fewer, one-more, one-start}
 
 -- a run by its parts
@@ -101,6 +101,12 @@ pub whole : (run : FreshRun) → planValid (run .plan) ≡ true → (count : ℕ
 unfolding worldAfter freshWorld
 whole run possible count = cache-length (run .plan) (run .scripts) (run .log) count possible
 
+-- and an op may begin on it
+pub ready : (run : FreshRun) → planValid (run .plan) ≡ true → (count : ℕ) → Ready (run .plan) (worldAfter run count)
+unfolding worldAfter freshWorld
+ready run possible count =
+    record { whole = whole run possible count; dirty = dirty-allowed (run .plan) (run .scripts) (run .log) count possible }
+
 module _ {Named Kept : ℕ → Type 0} (run : FreshRun) (w : Watched (run .plan) Named Kept) (quota : ℕ)
     (quotaIs : partRecords (run .plan) (length (run .log)) ≡ quota) where
   pub next-world : (count : ℕ)
@@ -118,5 +124,5 @@ module _ {Named Kept : ℕ → Type 0} (run : FreshRun) (w : Watched (run .plan)
       rw (add-suc, next-world (start + more))
       (near-trans (run .plan) quota Named (worldAfter run start) last (stepOf (run .plan) (run .scripts) quota last)
       (stays-near window start unnamed here more earlier)
-      (near-step (run .plan) quota Named (w .possible) (w .declared) (run .scripts) last (whole run (w .possible) (start + more))
+      (near-step (run .plan) quota Named (w .possible) (w .declared) (run .scripts) last (ready run (w .possible) (start + more))
       (λ n. unnamed (rw earlier at n))))

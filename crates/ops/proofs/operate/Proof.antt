@@ -1,7 +1,7 @@
 -- `ops::operate` meets its contract. Assumes nothing.
 use mathlib.Core.Path.{refl, subst}
 use borrow.Author.Needs.{needs}
-use Rattle.ops.specs.Ops.{computeOf, effectOf}
+use Rattle.ops.specs.Ops.{computeOf, effectBy}
 use Rattle.script.specs.Limits.{OpWithinLimits}
 use Rattle.ops.proofs.Operations.{receive-below, send-below}
 use Rattle.ops.proofs.operate.Statement.{statement}
@@ -20,31 +20,31 @@ receive-requires c κs =
     (start .pre .0, below, start .pre .2, start .pre .3)
 
 returns : tie.Need-returns
-unfolding effectOf
+unfolding effectBy
 returns c =
     λ plan rights masks.
     rw (c .before .before .before .before .before .op .given .1) (c .before .before .touch .ensures plan _ masks)
 
 returns-2 : tie.Need-returns-2
-unfolding effectOf
+unfolding effectBy
 returns-2 c =
     λ plan rights masks.
     rw (c .before .before .before .before .before .op2 .given .1) (c .before .before .touch2 .ensures plan _ masks)
 
 returns-3 : tie.Need-returns-3
-unfolding effectOf
+unfolding effectBy
 returns-3 c =
     let call = c .before .before .before .before in
     λ plan rights masks. rw (call .before .before .before .before .op3 .given .1) (call .send .ensures plan rights)
 
 returns-4 : tie.Need-returns-4
-unfolding effectOf
+unfolding effectBy
 returns-4 c =
     let call = c .before .before .before .before in
     λ plan rights masks. rw (call .before .before .before .before .op4 .given .1) (call .receive .ensures plan rights)
 
 returns-5 : tie.Need-returns-5
-unfolding effectOf computeOf
+unfolding effectBy computeOf
 returns-5 c = λ plan rights masks. rw (c .before .op5 .given .1) refl
 
 pub operate-spec : {M : Type 1} → statement M

@@ -21,9 +21,10 @@ returns-2 c =
     let test = c .before .before .before .before .before in
     let access = c .before .before .before .access in
     λ plan boxes handed.
-    touch-access _ _ _ _ _ boxes _ _ _ _
+    touch-access _ _ _ _ _ boxes _ _ _ _ _
     (sym (test .before .owns-line .ensures .1 plan handed) ∙ not-false _ (test .if1 .left))
-    (access .ensures .1) (access .ensures .0) (c .access-observation .ensures) (access .ensures .2)
+    (access .ensures .1) (access .ensures .0) (c .access-observation .ensures)
+    (access .ensures .2) (access .ensures .3)
 
 pub touch-spec : {M : Type 1} → statement M
 touch-spec =

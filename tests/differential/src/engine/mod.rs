@@ -8,6 +8,7 @@ mod frame_maker;
 mod lateness_finder;
 #[cfg(linked)]
 mod linked;
+mod old_board;
 mod reference;
 mod writer;
 
@@ -16,6 +17,7 @@ pub use frame_maker::{frame_maker_under_test, FrameMaker, FRAME, WEIGHTS};
 pub use lateness_finder::{lateness_finder_under_test, LatenessFinder, SCRIPT};
 #[cfg(linked)]
 use linked::Linked;
+pub use old_board::OldBoard;
 pub use reference::Reference;
 pub use writer::{writer_under_test, Writer};
 

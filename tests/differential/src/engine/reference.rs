@@ -152,7 +152,7 @@ fn start(
     Ok(())
 }
 
-fn advance(
+pub(super) fn advance(
     tables: Tables,
     answer: &mut [u64],
     go: impl FnOnce(&Plan, &[u32], &mut reference::State, Lent) -> Result<Progress, Refusal>,

@@ -13,6 +13,8 @@ pub mod latest;
 pub mod lists;
 pub mod mutate;
 pub mod pairs;
+pub mod put_out;
+pub mod rivals;
 pub mod scatter;
 pub mod shares;
 pub mod sized;

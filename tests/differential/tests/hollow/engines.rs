@@ -63,11 +63,22 @@ impl Fault {
 pub struct Hollow(pub Fault);
 
 /// What a step may change, as it was before it.
-struct Before {
-    state: Vec<u64>,
-    cache: Vec<u16>,
-    boxes: Vec<u32>,
-    log: Vec<u8>,
+pub struct Before {
+    pub state: Vec<u64>,
+    pub cache: Vec<u16>,
+    pub boxes: Vec<u32>,
+    pub log: Vec<u8>,
+}
+
+impl Before {
+    pub fn of(tables: &Tables) -> Self {
+        Before {
+            state: tables.state.to_vec(),
+            cache: tables.cache.to_vec(),
+            boxes: tables.boxes.to_vec(),
+            log: tables.log.to_vec(),
+        }
+    }
 }
 
 impl Engine for Hollow {
@@ -113,12 +124,7 @@ impl Engine for Hollow {
             _ => limit,
         };
         while number == 0 && steps < most && answer[3] == 0 {
-            let before = Before {
-                state: tables.state.to_vec(),
-                cache: tables.cache.to_vec(),
-                boxes: tables.boxes.to_vec(),
-                log: tables.log.to_vec(),
-            };
+            let before = Before::of(&tables);
             if Reference.step(again(&mut tables), answer) != 0 {
                 // A fault has made the world impossible; that is difference enough.
                 break;
@@ -210,7 +216,7 @@ impl Hollow {
 }
 
 /// The same tables, lent once more.
-fn again<'a>(tables: &'a mut Tables) -> Tables<'a> {
+pub fn again<'a>(tables: &'a mut Tables) -> Tables<'a> {
     Tables {
         plan: tables.plan,
         scripts: tables.scripts,

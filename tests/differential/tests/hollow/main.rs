@@ -2,6 +2,8 @@
 //! the comparison proves little. Document 01, "Four questions put to each
 //! contract" and "Mistakes that look like savings".
 
+mod board_faults;
+mod boards;
 mod bounders;
 mod bounds;
 mod canonical;
@@ -14,6 +16,7 @@ mod frames;
 mod lateness_faults;
 mod lateness_finders;
 mod latest;
+mod put_out;
 mod write_faults;
 mod writer_texts;
 mod writers;

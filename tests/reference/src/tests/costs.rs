@@ -2,7 +2,7 @@
 //! "What a domain sees".
 
 use super::desk::Desk;
-use crate::cache::{Access, Cache, Found};
+use crate::cache::{Access, Accessed, Cache, Found, PutOut};
 use crate::geometry::Line;
 use crate::op::Op;
 
@@ -38,7 +38,12 @@ fn a_hit_in_l1_moves_nothing_in_l2() {
     table[17] = second.tag();
     let before = table.clone();
     let mut cache = Cache::over(&mut table).unwrap();
-    assert_eq!(cache.access(second, Access::Read), (Found::InL1, 1));
+    let hit = Accessed {
+        found: Found::InL1,
+        ticks: 1,
+        put_out: PutOut::Nothing,
+    };
+    assert_eq!(cache.access(second, Access::Read), hit);
     assert_eq!(table, before);
 }
 
@@ -64,8 +69,9 @@ fn a_dirty_line_replaced_adds_4_ticks() {
     assert_eq!(ticks(&mut Desk::alone(&ops), 0), expected);
 }
 
+/// From a fresh start a line that is put out is in front of its set already.
 #[test]
-fn a_write_back_changes_nothing_in_l2() {
+fn a_write_back_moves_nothing() {
     let mut desk = Desk::alone(&[Op::Write(0), Op::Read(16)]);
     desk.run(1).unwrap();
     assert_eq!(desk.cache[0], 32_769);

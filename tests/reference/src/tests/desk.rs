@@ -1,7 +1,8 @@
 //! A plan and all the tables lent with it, and short ways to make texts.
 
+use crate::cache::Board;
 use crate::journal::{log_of, Part, Record, RECORD};
-use crate::machine::{fresh_start, run, step, Lent, Progress};
+use crate::machine::{fresh_start, run, run_watched, step, Lent, Progress};
 use crate::op::Op;
 use crate::{cache, mail, read_plan, scripts, Plan, Refusal, State};
 
@@ -78,6 +79,11 @@ impl Desk {
     pub fn run(&mut self, limit: u64) -> Result<Progress, Refusal> {
         let (plan, scripts, state, lent) = self.lend();
         run(plan, scripts, state, lent, limit)
+    }
+
+    pub fn run_on(&mut self, board: Board, limit: u64) -> Result<Progress, Refusal> {
+        let (plan, scripts, state, lent) = self.lend();
+        run_watched(board, plan, scripts, state, lent, limit, |_, _| ())
     }
 
     pub fn log_of(&self, domain: u32) -> Result<Part, Refusal> {

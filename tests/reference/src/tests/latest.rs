@@ -5,6 +5,7 @@
 //! each dirty line of L1.
 
 use super::desk::{Desk, WORKED};
+use super::drawn::Drawn;
 use crate::cache::TABLE;
 use crate::latest::{finished_windows, stored, timed, Finished};
 use crate::op::Op;
@@ -134,7 +135,7 @@ fn by_first_colour() {
 
 /// Plans and a domain of each: with every number of colours before the domain and of
 /// its own, and with every number of boxes to send through and to receive through.
-fn many_plans() -> Vec<(Plan, u32)> {
+pub fn many_plans() -> Vec<(Plan, u32)> {
     let spans = (0..15).flat_map(|first| (1..=15 - first).map(move |holding| (first, holding)));
     let by_colours = spans.flat_map(|(first, holding)| {
         let rights = [["", ""], ["1", ""], ["1", "0"]].into_iter();
@@ -351,7 +352,7 @@ fn no_table_is_later() {
     while let Some(table) = tables.pop() {
         for op in OPS.iter().chain(&more) {
             let mut after = table;
-            let busy = tenant.play(&mut after, *op);
+            let busy = tenant.play(&mut after, *op).ticks;
             latest = latest.max(busy - 1 + flush(&after));
             if met.insert(after) {
                 tables.push(after);
@@ -369,20 +370,14 @@ fn no_random_script_is_later() {
     let mut plan = plan_of_colour_3();
     plan.run = 9;
     let told = ticks(&plan, 1);
-    let mut drawn = 6_u64;
-    let mut below = |bound: u64| {
-        drawn = drawn
-            .wrapping_mul(6_364_136_223_846_793_005)
-            .wrapping_add(99);
-        (drawn >> 33) % bound
-    };
+    let mut drawn = Drawn(6);
     let mut latest = 0;
     for _ in 0..2_000 {
         let ops: Vec<Op> = (0..256)
-            .map(|_| match below(4) {
-                0 => Op::Write(14 + below(2) as u16),
-                1 => Op::Compute(1 + below(200) as u16),
-                _ => OPS[below(10) as usize],
+            .map(|_| match drawn.below(4) {
+                0 => Op::Write(14 + drawn.below(2)),
+                1 => Op::Compute(1 + drawn.below(200)),
+                _ => OPS[usize::from(drawn.below(10))],
             })
             .collect();
         let windows = late(&plan, &store(1, &stored(&ops)), 1);

@@ -1,5 +1,6 @@
 //! Tests of the reference against documents 01 and 02.
 
+mod boards;
 mod bound;
 mod canonical;
 mod colour_totals;
@@ -7,6 +8,7 @@ mod colours;
 mod costs;
 mod damage;
 mod desk;
+mod drawn;
 mod flat;
 mod frame;
 mod impossible_plans;
@@ -14,6 +16,7 @@ mod impossible_states;
 mod latest;
 mod limits;
 mod order;
+mod put_out;
 mod readings;
 mod running;
 mod steps;

@@ -21,6 +21,11 @@ add-after c =
       pre,
     )
 
+add-store-record : tie.Need-add-store-record
+add-store-record c =
+    let at = c .before .before .before .before .before .before .before in
+    omega (arith, start at .good, start at .pre .5)
+
 returns : tie.Need-returns
 returns c =
     let at = c .before .before .before .before .before .before .before .before .before .before in
@@ -31,5 +36,5 @@ pub op-step-spec : {M : Type 1} → statement M
 op-step-spec =
     tie.close
     (tie.spec
-    (λ c κs. search needs) add-after (λ c. search needs) (λ c κs. search needs) (λ c. search needs)
+    (λ c κs. search needs) add-after add-store-record (λ c κs. search needs) (λ c. search needs)
     (λ c. search needs) (λ c. search needs) returns)

@@ -1,0 +1,74 @@
+-- Document 02, E7: what its write-back changes. Document 01's own machine is that of the old board,
+-- on which a dirty line that is replaced changes nothing in L2. It is defined here to say that no run
+-- from a fresh start shows which of the two boards it ran on. Assumes nothing.
+use Prim.Native.Nat.{ℕ, zero, suc, _≤_}
+use mathlib.Core.Bool.{true, false}
+use mathlib.Core.List.{List}
+use mathlib.Core.Path.{_≡_}
+use lib.ListN.{getD, length}
+use Rattle.plan.specs.declared.Plan.{Plan}
+use Rattle.plan.specs.Validity.{planValid}
+use Rattle.script.specs.declared.Op.{Op}
+use Rattle.script.specs.declared.ScriptItem.{ScriptItem}
+use Rattle.script.specs.declared.ScriptItem.the-variants.{Op as Fetch, End}
+use Rattle.cache.specs.Access.{oldAccessOf}
+use Rattle.cache.specs.Lines.{cleanEntry, holdsLine, l1Index, mostLine, setIndex, setOf}
+use Rattle.records.specs.Records.{partRecords}
+use Rattle.ops.specs.Ops.{Effect, effectBy}
+use Rattle.state.specs.World.{World, endedOf, runningOf}
+use Rattle.machine.specs.Fresh.{freshWorld, reachedWorld}
+use Rattle.machine.specs.Steps.{RunEffect, afterEffect, nextStepOf, oneMore, runOf, turnOf}
+use Rattle.machine.specs.Switch.{switchOf}
+
+-- ---- the machine of the old board
+
+-- an op of a domain
+abbrev pub oldEffectOf : Plan → ℕ → Op → List ℕ → List ℕ → Effect
+oldEffectOf = effectBy oldAccessOf
+
+-- what the next step in a window leaves
+unfoldable pub oldActiveStep : Plan → ℕ → ScriptItem → World → World
+oldActiveStep plan quota (Fetch op) world =
+    let domain = runningOf plan (world .state) in
+    afterEffect quota domain (oldEffectOf plan domain op (world .cache) (world .boxes)) world
+oldActiveStep plan quota End world = switchOf plan world
+
+-- one step; an ended run stays as it is
+unfoldable pub oldStepOf : Plan → List ℕ → ℕ → World → World
+oldStepOf plan scripts quota world =
+    elim (endedOf plan (world .state)) [
+      | true ↦ world
+      | false ↦ oldActiveStep plan quota (nextStepOf scripts (turnOf plan quota (world .state))) world
+    ]
+
+-- what a run under a limit leaves, with the number of steps done
+unfoldable pub oldRunOf : Plan → List ℕ → ℕ → ℕ → World → RunEffect
+oldRunOf plan scripts quota zero world = record { done = 0; world = world }
+oldRunOf plan scripts quota (suc limit) world =
+    elim (endedOf plan (world .state)) [
+      | true ↦ record { done = 0; world = world }
+      | false ↦ oneMore (oldRunOf plan scripts quota limit (oldStepOf plan scripts quota world))
+    ]
+
+-- ---- what holds of the two
+
+-- every line that L1 holds is the most recent of its set
+abbrev pub InFront : List ℕ → Type 0
+InFront cache =
+    (line : ℕ) → line ≤ mostLine
+    → holdsLine (getD cache (l1Index line) 0) line ≡ true
+    → getD cache (setIndex (setOf line)) 0 ≡ cleanEntry line
+
+-- so it is wherever a run comes to from a fresh start
+abbrev pub LinesInFront : Type 0
+LinesInFront =
+    (plan : Plan) (scripts log : List ℕ) (count : ℕ) → planValid plan ≡ true
+    → InFront (reachedWorld plan scripts log count .cache)
+
+-- and no run from a fresh start, under any limit, shows the board: it does as many steps on both, and leaves the same
+-- state, cache table, boxes and log
+abbrev pub NothingShown : Type 0
+NothingShown =
+    (plan : Plan) (scripts log : List ℕ) (limit : ℕ) → planValid plan ≡ true
+    → runOf plan scripts (partRecords plan (length log)) limit (freshWorld log)
+    ≡ oldRunOf plan scripts (partRecords plan (length log)) limit (freshWorld log)
