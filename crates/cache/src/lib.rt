@@ -70,8 +70,8 @@ fn use_line(table: &mut [u16], line: u16) -> bool
     sets::move_to_front(&mut table[from..to], line + 1)
 }
 
-// What is written back where another line takes the place of an L1 number: its line, if dirty.
-fn write_back(held: u16) -> WriteBack
+// What is put out where another line takes the place of an L1 number: its line, if dirty.
+fn put_out(held: u16) -> WriteBack
     ensures { λ r. ⌜ r ≡ writeBackOf held ⌝ }
 {
     if held <= DIRTY_MARK {
@@ -81,7 +81,21 @@ fn write_back(held: u16) -> WriteBack
     }
 }
 
-// Seeks a line that L1 lacks: the line that it puts out is used first, if there is one.
+// Writes back what is put out.
+fn write_back(table: &mut [u16], back: WriteBack)
+    requires { ⌜ (length (now table) ≡ tableLength)
+        × ((other : ℕ) → back ≡ Line other → other < dirtyMark) ⌝ }
+    ensures { λ _. ⌜ now (table .exit) ≡ writtenBack back (now (table .entry)) ⌝ }
+{
+    match back {
+        WriteBack::Nothing => {}
+        WriteBack::Line(other) => {
+            use_line(table, other);
+        }
+    }
+}
+
+// Seeks a line that L1 lacks: what it puts out is written back first.
 fn seek(table: &mut [u16], back: WriteBack, line: u16) -> bool
     requires { ⌜ (length (now table) ≡ tableLength)
         × (line < dirtyMark)
@@ -91,13 +105,8 @@ fn seek(table: &mut [u16], back: WriteBack, line: u16) -> bool
         (part (setIndex (setOf line)) waysPerSet (writtenBack back (now (table .entry)))))
         × (now (table .exit) ≡ lineUsed line (writtenBack back (now (table .entry)))) ⌝ }
 {
-    match back {
-        WriteBack::Nothing => use_line(table, line),
-        WriteBack::Line(other) => {
-            use_line(table, other);
-            use_line(table, line)
-        }
-    }
+    write_back(table, back);
+    use_line(table, line)
 }
 
 // An access of a line. L2 is touched only where L1 lacks the line: a dirty line in its place is
@@ -123,7 +132,7 @@ pub fn access(table: &mut [u16], line: u16, writes: bool) -> AccessResult
             back: WriteBack::Nothing,
         };
     }
-    let back = write_back(held);
+    let back = put_out(held);
     let known = seek(table, back, line);
     table[index] = choose_entry(writes, dirty, clean);
     let replaced = choose_number(DIRTY_MARK < held, DIRTY_TICKS, 0);

@@ -24,7 +24,7 @@ seek-requires c κs =
     let known = c .before .before .before .before .slice-known .given (l1Index (start .args .line)) in (
       start .pre .0,
       omega (arith, start .pre .1),
-      λ other is. back-small _ (omega (arith, known)) other (sym (c .before .write-back .ensures) ∙ is),
+      λ other is. back-small _ (omega (arith, known)) other (sym (c .before .put-out .ensures) ∙ is),
     )
 
 add-t27 : tie.Need-add-t27
@@ -52,7 +52,7 @@ same-length-3 c =
 returns-2 : tie.Need-returns-2
 returns-2 c =
     let sought = c .before .before .before .before .before .seek in
-    let out = c .before .before .before .before .before .before .before .write-back in
+    let out = c .before .before .before .before .before .before .before .put-out in
     let lacked = c .before .before .before .before .before .before .before .before in
     let start = lacked .before .before .before in
     lacked-outcome (start .args .writes) (start .args .line) (start .args .table .now) (start .pre .0) (lacked .if1 .left)
@@ -62,7 +62,7 @@ returns-2 c =
 returns-3 : tie.Need-returns-3
 returns-3 c =
     let sought = c .before .before .before .before .before .seek in
-    let out = c .before .before .before .before .before .before .before .write-back in
+    let out = c .before .before .before .before .before .before .before .put-out in
     let lacked = c .before .before .before .before .before .before .before .before in
     let start = lacked .before .before .before in
     lacked-outcome (start .args .writes) (start .args .line) (start .args .table .now) (start .pre .0) (lacked .if1 .left)
