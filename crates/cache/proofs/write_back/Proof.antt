@@ -7,8 +7,8 @@ use Rattle.cache.proofs.write_back.Tie as tie
 
 use-line-requires : tie.Need-use-line-requires
 use-line-requires c κs =
-    let pre = c .before .before .before .before .before .pre in
-    (pre .0, pre .1 _ (c .before .before .back .given .1))
+    let small = c .before .before .before .before .before .pre .1 _ (c .before .before .back .given .1) in
+    search (needs, small)
 
 returns : tie.Need-returns
 unfolding writtenBack
