@@ -7,7 +7,7 @@ use mathlib.Core.List.{List}
 use native.Mathlib.Omega.{arith}
 use lib.ListN.{getD, length}
 use Rattle.lists.specs.Part.{part, splice}
-use Rattle.lists.proofs.Parts.{part-at, splice-before, splice-length, splice-part}
+use Rattle.lists.proofs.Parts.{part-at, part-length, splice-before, splice-length, splice-part}
 use Rattle.cache.specs.declared.WriteBack.{WriteBack}
 use Rattle.cache.specs.declared.WriteBack.the-variants.{Line, Nothing}
 use Rattle.cache.specs.Lines.{cleanEntry, holdsLine, isDirty, l1Index, l1Length, setIndex, setOf, tableLength}
@@ -67,7 +67,13 @@ back-dirty line other table is = go (inL1 line table) (isDirty (getD table (l1In
 
 -- ---- the table once it is written back
 
--- its length is kept
+-- a line's set has as many ways once the line is in front
+pub used-ways : (line : ℕ) (table : List ℕ) → length table ≡ tableLength
+    → length (moveToFront (cleanEntry line) (waysOf line table)) ≡ waysPerSet
+used-ways line table whole =
+    moved-length (cleanEntry line) (waysOf line table) ∙ part-length (setIndex (setOf line)) waysPerSet table (omega arith)
+
+-- the table's length is kept
 pub used-length : (line : ℕ) (table : List ℕ) → length (lineUsed line table) ≡ length table
 used-length line table =
     splice-length (setIndex (setOf line)) waysPerSet (moveToFront (cleanEntry line) (waysOf line table)) table

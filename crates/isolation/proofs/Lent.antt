@@ -1,9 +1,9 @@
 -- The guarantee of a single step, on any lent world: from what the statement says of two worlds to what the laws of one op
 -- and one step ask, and back. Assumes nothing.
 use Prim.Native.Nat.{ℕ, _+_, _-_, _/_, _%_, _<_}
-use mathlib.Core.Bool.{Bool, true, false}
+use mathlib.Core.Bool.{true}
 use mathlib.Core.List.{List}
-use mathlib.Core.Path.{_≡_, refl, sym, ap, _∙_}
+use mathlib.Core.Path.{_≡_, refl, sym, _∙_}
 use native.Mathlib.Omega.{arith}
 use lib.ListN.{getD, length}
 use Rattle.lists.proofs.Agree.{Agree}
@@ -12,10 +12,9 @@ use Rattle.plan.specs.Limits.{mostDomains}
 use Rattle.plan.specs.Validity.{planValid}
 use Rattle.plan.proofs.Masks.{owned-below}
 use Rattle.plan.proofs.Windows.{owner-declared}
-use Rattle.cache.specs.Lines.{kernelColour, kernelIndex, l1Length, setColour, setCount, setIndex, waysPerSet}
+use Rattle.cache.specs.Lines.{l1Length, setIndex, waysPerSet}
 use Rattle.ops.specs.Ops.{boxIndex}
 use Rattle.state.specs.World.{World, runningOf}
-use Rattle.reachable.specs.Lent.{TablesSound}
 use Rattle.reachable.proofs.Lent.{sound-lent}
 use Rattle.reachable.proofs.Lines.{dirty-line}
 use Rattle.isolation.specs.Lent.{LentWorld, OpsAlike, RivalsKept, SameInside, SameOutside}
@@ -23,7 +22,7 @@ use Rattle.isolation.specs.Statement.{Only, SameKernelSets, SameL1, Same
 use Rattle.isolation.proofs.TwoRuns.Indices.{FlushedIndex, OwnIndex, kernel, l1, own-set}
 use Rattle.isolation.proofs.TwoRuns.Ops.{effect-alike}
 use Rattle.isolation.proofs.TwoRuns.OpStep.{Ready, both-indices, op-alike}
-use Rattle.isolation.proofs.TwoRuns.Relations.{Alike, Close, LogIndex}
+use Rattle.isolation.proofs.TwoRuns.Relations.{Alike, Close}
 use Rattle.isolation.proofs.TwoRuns.Step.{step-away}
 use Rattle.isolation.proofs.TwoRuns.Windows.{BoxTo}
 

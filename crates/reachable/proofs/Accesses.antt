@@ -18,8 +18,7 @@ use Rattle.cache.specs.Lines.{cleanEntry, dirtyEntry, holdsLine, l1Index, l1Len
 use Rattle.cache.specs.Lines.{tableLength, waysPerSet}
 use Rattle.cache.specs.Sets.{moveToFront}
 use Rattle.cache.proofs.Laws.{lookup-ways}
-use Rattle.cache.proofs.Ways.{moved-length}
-use Rattle.cache.proofs.WriteBacks.{written-l1, written-length}
+use Rattle.cache.proofs.WriteBacks.{used-ways, written-l1, written-length}
 use Rattle.state.specs.TableValidity.{setValid, waysValid}
 use Rattle.reachable.proofs.Cells.{cell-holds}
 use Rattle.reachable.proofs.Ways.{moved-valid}
@@ -87,12 +86,6 @@ other-set rewritten ways table long many set there below differs =
     go cell inside false test =
         let more = ltb-false set rewritten test in
         splice-after (setIndex rewritten) waysPerSet ways table (omega arith) (setIndex set + cell) many (omega arith)
-
--- a used line leaves its set as many ways
-used-ways : (line : ℕ) (table : List ℕ) → length table ≡ tableLength
-    → length (moveToFront (cleanEntry line) (part (setIndex (setOf line)) waysPerSet table)) ≡ waysPerSet
-used-ways line table long =
-    moved-length (cleanEntry line) _ ∙ part-length (setIndex (setOf line)) waysPerSet table (omega arith)
 
 -- ---- a line sought in a whole table
 

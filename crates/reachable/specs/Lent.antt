@@ -1,4 +1,5 @@
--- Document 01, "The plan text", 13, and document 02, E7: a world that is lent and not refused for its tables. Assumes nothing.
+-- Document 01, "The plan text", 13, and document 02, E7: a world that is lent and not refused for
+-- its tables. Assumes nothing.
 use Prim.Native.Nat.{ℕ}
 use mathlib.Core.Bool.{true}
 use mathlib.Core.List.{List}
@@ -18,8 +19,8 @@ pub record TablesSound (plan : Plan) (world : World) : Type 0 where
   pub boxes-long : length (world .boxes) ≡ boxesLength
   pub valid : tablesValid plan (world .state) (world .cache) (world .boxes) ≡ true
 
--- no number of steps damages them, from whatever world: a line that is written back goes into its own set, once, and
--- with no empty before it
+-- no number of steps damages them, from whatever world: a line that is written back goes into its
+-- own set, once, and with no empty before it
 abbrev pub LentStaysSound : Type 0
 LentStaysSound =
     (plan : Plan) (scripts : List ℕ) (quota count : ℕ) (world : World) → planValid plan ≡ true

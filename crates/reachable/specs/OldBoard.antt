@@ -65,8 +65,8 @@ LinesInFront =
     (plan : Plan) (scripts log : List ℕ) (count : ℕ) → planValid plan ≡ true
     → InFront (reachedWorld plan scripts log count .cache)
 
--- and no run from a fresh start, under any limit, shows the board: it does as many steps on both, and leaves the same
--- state, cache table, boxes and log
+-- and no run from a fresh start, under any limit, shows the board: it does as many steps on both,
+-- and leaves the same state, cache table, boxes and log
 abbrev pub NothingShown : Type 0
 NothingShown =
     (plan : Plan) (scripts log : List ℕ) (limit : ℕ) → planValid plan ≡ true

@@ -10,15 +10,13 @@ use lib.ListN.{length, set}
 use lib.Seq.{sets}
 use Rattle.lists.proofs.Agree.{Agree, InRange, agree-fewer, agree-refl, agree-trans, part-alike, set-alike, set-away}
 use Rattle.lists.proofs.Agree.{sets-alike, sets-away, splice-sets}
-use Rattle.lists.proofs.Parts.{part-length}
 use Rattle.cache.specs.declared.WriteBack.{WriteBack}
 use Rattle.cache.specs.declared.WriteBack.the-variants.{Line, Nothing}
 use Rattle.cache.specs.Access.{AccessOutcome, Lookup, accessOf, lookupAt, lookupOf, seekOf, writeBackAt, writtenBack}
 use Rattle.cache.specs.Lines.{cleanEntry, l1Index, setOf, setIndex, tableLength, waysPerSet}
 use Rattle.cache.specs.Sets.{moveToFront}
 use Rattle.cache.proofs.Laws.{lookup-ways}
-use Rattle.cache.proofs.Ways.{moved-length}
-use Rattle.cache.proofs.WriteBacks.{back-alike, waysOf, written-length}
+use Rattle.cache.proofs.WriteBacks.{back-alike, used-ways, waysOf, written-length}
 
 -- the indices that are touched where a line is sought: its L1 index and the ways of its set
 pub data SoughtIndex (line index : ℕ) : Type 0 where
@@ -41,16 +39,11 @@ pub record AccessAlike (Named : ℕ → Type 0) (one other : AccessOutcome) : Ty
 -- ---- a line written back
 
 -- the table that it leaves, as stores: the ways of its set
-back-ways : (line : ℕ) (table : List ℕ) → length table ≡ tableLength
-    → length (moveToFront (cleanEntry line) (waysOf line table)) ≡ waysPerSet
-back-ways line table whole =
-    moved-length (cleanEntry line) (waysOf line table) ∙ part-length (setIndex (setOf line)) waysPerSet table (omega arith)
-
 back-stores : (line : ℕ) (table : List ℕ) → length table ≡ tableLength
     → writtenBack (Line line) table ≡ sets table (setIndex (setOf line)) (moveToFront (cleanEntry line) (waysOf line table))
 unfolding writtenBack
 back-stores line table whole =
-    splice-sets (setIndex (setOf line)) waysPerSet _ table (back-ways line table whole) (omega arith)
+    splice-sets (setIndex (setOf line)) waysPerSet _ table (used-ways line table whole) (omega arith)
 
 back-keeps : {Named : ℕ → Type 0} (back : WriteBack)
     → ((line index : ℕ) → back ≡ Line line → InRange (setIndex (setOf line)) waysPerSet index → Named index)
@@ -74,7 +67,7 @@ back-away (Line line) table whole untouched =
     rw (back-stores line table whole)
     (sets-away table first (moveToFront (cleanEntry line) (waysOf line table))
     (λ index h.
-    untouched line index refl (subst (λ (n : ℕ). InRange first n index) (back-ways line table whole) h)))
+    untouched line index refl (subst (λ (n : ℕ). InRange first n index) (used-ways line table whole) h)))
 
 -- ---- a line sought
 

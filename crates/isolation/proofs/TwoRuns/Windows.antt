@@ -11,7 +11,7 @@ use lib.ListN.{length}
 use Rattle.plan.specs.declared.Plan.{Plan}
 use Rattle.plan.specs.Limits.{mostDomains}
 use Rattle.plan.specs.Validity.{planValid}
-use Rattle.plan.specs.Windows.{windowOwner, windowStart, windowsTotal}
+use Rattle.plan.specs.Windows.{windowOwner, windowsTotal}
 use Rattle.records.specs.Records.{partRecords}
 use Rattle.ops.specs.Ops.{boxIndex}
 use Rattle.machine.specs.Steps.{stepOf}
@@ -22,7 +22,7 @@ use Rattle.isolation.specs.Points.{FreshRun, Starts, windowsAfter, world
 use Rattle.isolation.specs.Statement.{StartedOnTime}
 use Rattle.isolation.proofs.TwoRuns.Near.{Near, near-refl, near-step, near-trans}
 use Rattle.isolation.proofs.TwoRuns.OpStep.{Ready, Whole}
-use Rattle.isolation.proofs.TwoRuns.Progress.{before, lasts, no-fewer, one-more, one-start}
+use Rattle.isolation.proofs.TwoRuns.Progress.{before, lasts, no-fewer, one-more}
 
 -- a run by its parts
 abbrev pub runBy : Plan → List ℕ → List ℕ → FreshRun
