@@ -1,7 +1,8 @@
 /* A whole list of calls: a plan is read, started, run in parts and to its end, and each domain's
  * log is asked for; then runs limited by the step bound; then calls that are refused, which change
  * nothing; then frames by weights; then a plan written back; then how late a domain can finish, with
- * a run that does so. tests/host/expected.txt is what it prints. */
+ * a run that does so; then steps on cache tables of the host's own. tests/host/expected.txt is what it
+ * prints. */
 #include <inttypes.h>
 #include <stdio.h>
 #include <string.h>
@@ -44,6 +45,15 @@ static const char *const long_windows =
     "(window 0 (length 4000))\n"
     "(window 1 (length 20000))\n"
     "(run 1)\n";
+
+/* Two lines of set 0, which has four ways. */
+static const char *const reads =
+    "(pad 276)\n"
+    "(domain 0 (share 400) (may))\n"
+    "(window 0 (length 400))\n"
+    "(run 1)\n"
+    "(op 0 (read 256))\n"
+    "(op 0 (read 64))\n";
 
 /* What was called, what it returned, and its answer. */
 static void print_call(const char *call, uint32_t number)
@@ -403,6 +413,32 @@ static void latest_finishes(void)
     late_run();
 }
 
+/* A step on a fresh start but for what the host lends: the position in the script, line 0 dirty in L1,
+ * and the lines 64, 128, 192 and one more number in set 0. Line 0 goes back to the front of its set
+ * before the line that is read is sought there. */
+static void lent_step(const char *call, uint64_t position, uint16_t last)
+{
+    print_call("fresh_start", start());
+    state[2] = position;
+    cache[0] = 32769;
+    cache[16] = 65;
+    cache[17] = 129;
+    cache[18] = 193;
+    cache[19] = last;
+    print_call(call, step());
+    printf("set 0: %u %u %u %u\n", cache[16], cache[17], cache[18], cache[19]);
+    print_log(0);
+}
+
+static void lent_tables(void)
+{
+    print_call("read_plan, reads", read_text(reads));
+    lent_step("step, the set full", 0, 257);
+    lent_step("step, an empty way", 1, 0);
+    lent_step("step, the line there already", 1, 1);
+    lent_step("step, a line of another set", 0, 2);
+}
+
 int main(void)
 {
     static struct tables before, after;
@@ -416,5 +452,6 @@ int main(void)
     frames();
     writings();
     latest_finishes();
+    lent_tables();
     return 0;
 }
