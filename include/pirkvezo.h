@@ -17,7 +17,8 @@
 extern "C" {
 #endif
 
-/* How many elements the lent arrays have. A text, a log and an `out` have any length. */
+/* How many elements the lent arrays have. A text, a log and an `out` have any length; a `kept` has
+ * 8 * `part` bytes. */
 #define PIRKVEZO_PLAN 92
 #define PIRKVEZO_STATE 18
 #define PIRKVEZO_ANSWER 4
@@ -120,6 +121,30 @@ uint32_t pirkvezo_latest(const uint32_t *plan, size_t plan_length,
                          uint32_t domain,
                          uint32_t *script, size_t script_length,
                          uint64_t *answer, size_t answer_length);
+
+/* A run that keeps one domain's log alone: at most `limit` steps, just as pirkvezo_run makes them.
+ * `part` says how many records each domain has room for: with a full log of L bytes that is
+ * L / (8 * domains), rounded down. `kept` is the part of `domain` alone, of exactly 8 * `part` bytes,
+ * with its record k at byte 8 * k. Records of other domains are stored nowhere, but such a domain
+ * too goes idle when it has `part` of them.
+ * Accepted: state, cache table, boxes and answer are what pirkvezo_run gives with a full log of that
+ * `part`, and `kept` is what it leaves in this domain's part of it. The domain's log so far is the
+ * first 8 * state[10 + domain] bytes of `kept`; the bytes behind it stay.
+ * Refused, in this order; all but the answer stays:
+ *   - 11: an array of another length than pirkvezo_run takes, or a `kept` of another length than
+ *     8 * `part` (any length, where that number is over 64 bits);
+ *   - 12, 13, 14: as pirkvezo_run; of 14, a domain may have at most `part` records;
+ *   - 4, with 0 as companion: the domain is not declared.
+ * answer: number, companion, the steps done, and 1 where the run has ended, 0 where the limit came
+ * first. */
+uint32_t pirkvezo_run_kept(const uint32_t *plan, size_t plan_length,
+                           const uint32_t *scripts, size_t scripts_length,
+                           uint64_t *state, size_t state_length,
+                           uint16_t *cache, size_t cache_length,
+                           uint32_t *boxes, size_t boxes_length,
+                           uint8_t *kept, size_t kept_length,
+                           uint32_t domain, uint64_t part, uint64_t limit,
+                           uint64_t *answer, size_t answer_length);
 
 #ifdef __cplusplus
 }

@@ -1,5 +1,6 @@
-"""Pirkvezo from Python: read a plan, run it, look at what each domain saw; say how many steps a run
-can take, and how late a domain can finish; write a plan's canonical text; make windows by weights.
+"""Pirkvezo from Python: read a plan, run it, look at what each domain saw, or store what one saw; say
+how many steps a run can take, and how late a domain can finish; write a plan's canonical text; make
+windows by weights.
 
     >>> import pirkvezo
     >>> plan = pirkvezo.read(b"(pad 276)\\n(domain 0 (share 400) (may))\\n"
@@ -13,6 +14,11 @@ can take, and how late a domain can finish; write a plan's canonical text; make 
     Run(steps=2, ended=True)
     >>> [str(record) for record in world.log(0)]
     ['(miss 3)']
+    >>> kept = pirkvezo.KeptWorld.fresh(plan, 0, 256)
+    >>> kept.run()
+    Run(steps=2, ended=True)
+    >>> kept.log(0) == world.log(0)
+    True
     >>> pirkvezo.frame(5, [3, 2, 2]).owners
     (0, 1, 2, 0, 1)
 
@@ -23,7 +29,7 @@ from .frames import Frame, frame
 from .library import Fault, LibraryMissing
 from .plans import Latest, Op, Plan, Window, read
 from .refusals import Refused
-from .worlds import Record, Run, World
+from .worlds import KeptWorld, Record, Run, World
 
-__all__ = ["read", "Plan", "Op", "Window", "Latest", "Refused", "World", "Record", "Run", "frame", "Frame",
-           "Fault", "LibraryMissing"]
+__all__ = ["read", "Plan", "Op", "Window", "Latest", "Refused", "World", "KeptWorld", "Record", "Run", "frame",
+           "Frame", "Fault", "LibraryMissing"]

@@ -1,5 +1,6 @@
 """The command line. A command is a module of pirkvezo/commands with NAME, HELP,
-add_arguments(parser) and run(args) -> exit status, and perhaps EXAMPLE for its help."""
+add_arguments(parser) and run(args) -> exit status; perhaps EXAMPLE for its help, and
+wrong_together(args) -> what is wrong with arguments that each are good, or None."""
 import argparse
 import importlib
 import os
@@ -47,8 +48,21 @@ def parser():
         sub = chosen.add_parser(module.NAME, help=module.HELP, description=module.HELP,
                                 epilog="\n\n".join(filter(None, [example, EXIT])), prog=f"pirkvezo {module.NAME}")
         module.add_arguments(sub)
-        sub.set_defaults(run_command=module.run)
+        sub.set_defaults(run_command=module.run, parser=sub,
+                         wrong_together=getattr(module, "wrong_together", lambda args: None))
     return top
+
+
+def parsed(arguments):
+    """The arguments; an exit with one line where one of them is bad, or all of them together are."""
+    top = parser()
+    args = top.parse_args(arguments)
+    if not args.command:
+        top.error("a command is missing: " + ", ".join(module.NAME for module in modules()))
+    wrong = args.wrong_together(args)
+    if wrong:
+        args.parser.error(wrong)
+    return args
 
 
 def main(arguments=None):
@@ -75,11 +89,8 @@ def main(arguments=None):
 
 
 def _main(arguments):
-    top = parser()
     try:
-        args = top.parse_args(arguments)
-        if not args.command:
-            top.error("a command is missing: " + ", ".join(module.NAME for module in modules()))
+        args = parsed(arguments)
     except SystemExit as left:
         return left.code
     try:

@@ -11,8 +11,11 @@ from .worlds import Record, World
 
 @dataclasses.dataclass(frozen=True)
 class Event:
-    """An op that was done: its record, the clock before and after it, and its script position."""
-    record: Record
+    """An op that was done: its record, the clock before and after it, and its script position.
+
+    There is no record where the log of the op's domain is not kept.
+    """
+    record: Optional[Record]
     begin: int
     end: int
     position: int
@@ -43,7 +46,21 @@ def history(plan: Plan, log_length: int = 16384, windows: Optional[int] = None) 
         >>> second.ops[0]
         Event(record=Record(kind='got', value=77, clock=881), begin=676, end=881, position=0)
     """
-    world, found = World.fresh(plan, log_length), []
+    return history_of(World.fresh(plan, log_length), windows)
+
+
+def history_of(world: World, windows: Optional[int] = None) -> List[WindowHistory]:
+    """The windows of a run that is at its fresh start; at most the first `windows` of them.
+
+        >>> from pirkvezo import KeptWorld
+        >>> plan = read(open("examples/worked_example.plan", "rb").read())
+        >>> first, second = history_of(KeptWorld.fresh(plan, 1, 1024))
+        >>> first.ops[0]
+        Event(record=None, begin=0, end=100, position=0)
+        >>> second.ops == history(plan)[1].ops
+        True
+    """
+    plan, found = world.plan, []
     limit = plan.windows_total if windows is None else min(windows, plan.windows_total)
     boxes = world.boxes
     while world.windows < limit:
@@ -57,7 +74,8 @@ def history(plan: Plan, log_length: int = 16384, windows: Optional[int] = None) 
             world.step()
             if world.windows != index:
                 break
-            ops.append(Event(world.last_record(window.owner), begin, world.clock, position))
+            record = world.last_record(window.owner) if window.owner in world.logged else None
+            ops.append(Event(record, begin, world.clock, position))
         end = start + window.length
         found.append(WindowHistory(index, window.owner, start, end, end + plan.pad, ops, boxes,
                                    world.steps - before))

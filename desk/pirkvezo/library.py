@@ -36,6 +36,9 @@ _ENTRY_POINTS = {
     "pirkvezo_step_bound": [PlanNumbers, _SIZE, Scripts, _SIZE],
     "pirkvezo_write_plan": [PlanNumbers, _SIZE, Scripts, _SIZE, ctypes.c_void_p, _SIZE],
     "pirkvezo_latest": [PlanNumbers, _SIZE, ctypes.c_uint32, ScriptNumbers, _SIZE],
+    "pirkvezo_run_kept": [PlanNumbers, _SIZE, Scripts, _SIZE, StateNumbers, _SIZE, CacheTable, _SIZE,
+                          Boxes, _SIZE, ctypes.c_void_p, _SIZE, ctypes.c_uint32, ctypes.c_uint64,
+                          ctypes.c_uint64],
 }
 
 
@@ -45,6 +48,12 @@ class LibraryMissing(Exception):
 
 class Fault(Exception):
     """What is proved never to happen has happened: the desk or its library is at fault."""
+
+
+def fault(words):
+    """The Fault to raise where these words are true, so that it cannot pass unseen."""
+    return Fault(f"THIS MUST NOT HAPPEN: {words}. It is proved not to, so the desk or its library is at "
+                 "fault.")
 
 
 def path():
@@ -135,4 +144,12 @@ def latest(plan, domain, script):
     """How late a domain can finish a window, and a script that does so; the answer's four numbers."""
     answer = Answer()
     load().pirkvezo_latest(plan, PLAN, domain, script, SCRIPT, answer, ANSWER)
+    return tuple(answer)
+
+
+def run_kept(plan, scripts, state, cache, boxes, kept, kept_length, domain, part, limit):
+    """At most `limit` steps, with the records of one domain alone; the answer's four numbers."""
+    answer = Answer()
+    load().pirkvezo_run_kept(plan, PLAN, scripts, SCRIPTS, state, STATE, cache, CACHE, boxes, BOXES,
+                             kept, kept_length, domain, part, limit, answer, ANSWER)
     return tuple(answer)

@@ -206,9 +206,9 @@ class Plan:
             raise Refused(number, companion, self.text if _given_by(self.text)[1] == self.numbers else None)
         found = Latest(domain, ticks, tuple(script))
         if ticks > self.numbers[0]:
-            raise _broken(f"domain {domain} finishes {ticks} ticks late, and the pad has {self.numbers[0]}")
+            raise library.fault(f"domain {domain} finishes {ticks} ticks late, and the pad has {self.numbers[0]}")
         if any(script[len(found.ops):]):
-            raise _broken(f"the script for domain {domain} has a number behind its ops")
+            raise library.fault(f"the script for domain {domain} has a number behind its ops")
         return found
 
     @property
@@ -247,12 +247,6 @@ class Plan:
         if not 0 <= domain < self.domains:
             raise IndexError(f"domain {domain} of {self.domains}")
         return decode_script(self.scripts[SCRIPT_LENGTH * domain:SCRIPT_LENGTH * (domain + 1)])
-
-
-def _broken(words):
-    # proved not to happen: raised so that a fault of the desk itself cannot pass unseen
-    return library.Fault(f"THIS MUST NOT HAPPEN: {words}. It is proved not to, so the desk or its library "
-                         "is at fault.")
 
 
 def _given_by(text):

@@ -1,7 +1,7 @@
 """Words for a refusal: where in the text it is, what is wrong there, and what would fix it.
 
 The library says the number and its companion. What is here looks at the plan's text beside them, or at
-the numbers that a frame was asked for with, and only puts them into words; it never judges by itself.
+what was asked for (a frame, a domain's log), and only puts them into words; it never judges by itself.
 """
 import dataclasses
 import difflib
@@ -12,6 +12,8 @@ from .layout import count
 from .shares import COLOURS, SHARES, colours_of, least_share, mended
 
 TEXT_BYTES, TICKS, WINDOWS, OPS, LEAST_SHARE = 32768, 4294967295, 32, 256, least_share(1)
+# of a log that was asked for, where the plan declares no such domain
+NO_DOMAIN = 4
 
 CALLS = {
     4: "the plan does not declare that domain",
@@ -101,7 +103,8 @@ class Explanation:
 
 class Refused(Exception):
     """A call that the library refused: its number and companion, with words for the plan's text, or for
-    what a frame was asked for with: the window count and the weights.
+    what was asked for: a frame's window count and weights (15), or the domain whose log it was and how
+    many domains the plan declares (4).
 
         >>> refused = Refused(7, 1100, b"(domain 0 (share 600) (may))\\n(domain 1 (share 500) (may))")
         >>> refused.line, refused.column, refused.words
@@ -110,10 +113,12 @@ class Refused(Exception):
         'sell 100 thousandths less'
         >>> str(Refused(15, 0, asked=(33, (3, 2, 2))))
         'the window count is 33; it is at most 32 [15]'
+        >>> str(Refused(4, 0, asked=(7, 2)))
+        'the plan does not declare domain 7 [4]'
     """
 
     def __init__(self, number: int, companion: int, text: Optional[bytes] = None,
-                 asked: Optional[Tuple[int, Tuple[int, ...]]] = None):
+                 asked: Optional[tuple] = None):
         self.number, self.companion, self.text = number, companion, text
         said = explain(number, companion, text, asked)
         self.offset, self.line, self.column = said.offset, said.line, said.column
@@ -171,10 +176,10 @@ def excerpt(text: bytes, offset: int, width: int = 96) -> Tuple[str, str]:
 
 
 def explain(number: int, companion: int, text: Optional[bytes],
-            asked: Optional[Tuple[int, Tuple[int, ...]]] = None) -> Explanation:
-    """Words for a refusal; without a text, for a frame or for a call that was lent tables."""
-    if number == 15 and asked is not None:
-        return Explanation(None, None, None, *_no_frame(*asked))
+            asked: Optional[tuple] = None) -> Explanation:
+    """Words for a refusal; without a text, for what was asked for or for a call that was lent tables."""
+    if asked is not None and number in _BY_REQUEST:
+        return Explanation(None, None, None, *_BY_REQUEST[number](*asked))
     if text is None or number not in _BY_TEXT:
         return Explanation(None, None, None, *_lent(number, companion))
     offset, words, fix = _BY_TEXT[number](companion, text)
@@ -444,12 +449,19 @@ def _no_frame(count, weights):
     return CALLS[15], ""
 
 
+def _no_domain(domain, declared):
+    """Cause and fix for a domain that was asked for where fewer are declared."""
+    if domain < declared:
+        return CALLS[NO_DOMAIN], ""
+    others = "domain 0" if declared == 1 else f"one of the domains 0 to {declared - 1}"
+    return f"the plan does not declare domain {domain}", f"ask for {others}"
+
+
 def _no_latest(domain, text):
     """Offset, cause and fix where a domain's latest finish is not told; no offset where no line is at fault."""
     declared, limits = forms(text, "domain"), f"{LATEST_LENGTH.low} to {LATEST_LENGTH.high}"
     if domain >= len(declared):
-        others = "domain 0" if len(declared) == 1 else f"one of the domains 0 to {len(declared) - 1}"
-        return None, f"the plan does not declare domain {domain}", f"ask for {others}"
+        return (None,) + _no_domain(domain, len(declared))
     lengths = [line[5] for line in forms(text, "window") if int(line[2].text) == domain]
     if not lengths:
         return declared[domain][0].offset, f"domain {domain} has no window", f"give it one of {limits} ticks"
@@ -460,6 +472,9 @@ def _no_latest(domain, text):
                 f"give each of its windows {limits} ticks"
     return None, CALLS[18], ""
 
+
+# those whose cause is in what was asked for
+_BY_REQUEST = {NO_DOMAIN: _no_domain, 15: _no_frame}
 
 # those of a reading, and 18, whose cause stands in the text too
 _BY_TEXT = {

@@ -1,8 +1,8 @@
 /* A whole list of calls: a plan is read, started, run in parts and to its end, and each domain's
  * log is asked for; then runs limited by the step bound; then calls that are refused, which change
  * nothing; then frames by weights; then a plan written back; then how late a domain can finish, with
- * a run that does so; then steps on cache tables of the host's own. tests/host/expected.txt is what it
- * prints. */
+ * a run that does so; then steps on cache tables of the host's own; then runs that keep one domain's
+ * log. tests/host/expected.txt is what it prints. */
 #include <inttypes.h>
 #include <stdio.h>
 #include <string.h>
@@ -11,6 +11,8 @@
 
 #define LOG 16384
 #define OUT 210
+#define PART 4
+#define KEPT (8 * PART)
 
 /* All that a host lends. */
 static uint32_t scripts[PIRKVEZO_SCRIPTS];
@@ -23,6 +25,7 @@ static uint64_t answer[PIRKVEZO_ANSWER];
 static uint32_t frame[PIRKVEZO_FRAME];
 static uint8_t out[OUT];
 static uint32_t script[PIRKVEZO_SCRIPT];
+static uint8_t kept[KEPT + 1];
 
 static const char *const settled =
     "(pad 276)\n"
@@ -439,6 +442,115 @@ static void lent_tables(void)
     lent_step("step, a line of another set", 0, 2);
 }
 
+static uint32_t keep(size_t kept_length, uint32_t domain, uint64_t part, uint64_t limit)
+{
+    return pirkvezo_run_kept(plan, PIRKVEZO_PLAN, scripts, PIRKVEZO_SCRIPTS, state, PIRKVEZO_STATE,
+                             cache, PIRKVEZO_CACHE, boxes, PIRKVEZO_BOXES, kept, kept_length,
+                             domain, part, limit, answer, PIRKVEZO_ANSWER);
+}
+
+/* A run of one step with a part that is right. */
+static uint32_t keep_step(uint32_t domain)
+{
+    return keep(KEPT, domain, PART, 1);
+}
+
+/* Another length of the part first, whatever else is wrong, and an undeclared domain last. The bytes
+ * of 2^61 records are 0 in 64 bits. */
+static void refused_keeping(void)
+{
+    print_call("run_kept, one byte short", keep(KEPT - 1, 0, PART, 1));
+    print_call("run_kept, one byte more", keep(KEPT + 1, 0, PART, 1));
+    print_call("run_kept, no bytes for 2^61 records", keep(0, 0, UINT64_C(1) << 61, 1));
+    print_call("run_kept, 32 bytes for 2^61 + 4 records", keep(KEPT, 0, (UINT64_C(1) << 61) + PART, 1));
+    print_call("run_kept, the most records", keep(KEPT, 2, UINT64_MAX, 1));
+    print_call("run_kept, scripts of 2,047 numbers",
+               pirkvezo_run_kept(plan, PIRKVEZO_PLAN, scripts, PIRKVEZO_SCRIPTS - 1, state, PIRKVEZO_STATE,
+                                 cache, PIRKVEZO_CACHE, boxes, PIRKVEZO_BOXES, kept, KEPT,
+                                 0, PART, 1, answer, PIRKVEZO_ANSWER));
+    memset(answer, 255, sizeof answer);
+    print_call("run_kept, an answer of 3 numbers",
+               pirkvezo_run_kept(plan, PIRKVEZO_PLAN, scripts, PIRKVEZO_SCRIPTS, state, PIRKVEZO_STATE,
+                                 cache, PIRKVEZO_CACHE, boxes, PIRKVEZO_BOXES, kept, KEPT,
+                                 0, PART, 1, answer, PIRKVEZO_ANSWER - 1));
+
+    state[11] = PART + 1;
+    boxes[0] = 5;
+    plan[84] += 65536;
+    print_call("run_kept, everything wrong", keep(KEPT - 1, 2, PART, 1));
+    print_call("run_kept, all but the length", keep_step(2));
+    plan[84] -= 65536;
+    print_call("run_kept, all but length and plan", keep_step(2));
+    boxes[0] = 0;
+    print_call("run_kept, records over the part and no such domain", keep_step(2));
+    print_call("run_kept, records over another domain's part", keep_step(0));
+    state[11] = 0;
+    print_call("run_kept, a domain that is not declared", keep_step(2));
+    print_call("run_kept, the largest number of a domain", keep_step(UINT32_MAX));
+}
+
+/* Whether the part holds from here on what it was filled with, a byte that no record begins with. */
+static int is_unwritten(size_t at)
+{
+    while (at < sizeof kept && kept[at] == '#') {
+        at++;
+    }
+    return at == sizeof kept;
+}
+
+/* A fresh start, a kept run to the end, the kept domain's records and whether the rest is as it was. */
+static void kept_run(const char *call, uint32_t domain, uint64_t part)
+{
+    size_t at = 0;
+    memset(kept, '#', sizeof kept);
+    start();
+    print_call(call, keep(8 * part, domain, part, 1000));
+    for (; at < 8 * state[10 + domain]; at += 8) {
+        print_record(domain, kept + at);
+    }
+    printf("the other %zu bytes: %s\n", sizeof kept - at, is_unwritten(at) ? "untouched" : "changed");
+    printf("records %" PRIu64 " and %" PRIu64 "; (end %" PRIu64 " %" PRIu64 ")\n", state[10], state[11],
+           state[0], state[1]);
+}
+
+/* The same run with everyone's log, whose parts hold as many records. */
+static void whole_run_beside(uint32_t domain)
+{
+    static struct tables one, all;
+    copy_tables(&one);
+    start();
+    memset(log_bytes, '#', sizeof log_bytes);
+    print_call("run with everyone's log",
+               pirkvezo_run(plan, PIRKVEZO_PLAN, scripts, PIRKVEZO_SCRIPTS, state, PIRKVEZO_STATE,
+                            cache, PIRKVEZO_CACHE, boxes, PIRKVEZO_BOXES, log_bytes, 2 * KEPT, 1000,
+                            answer, PIRKVEZO_ANSWER));
+    copy_tables(&all);
+    memcpy(one.log, all.log, sizeof one.log);
+    int same = memcmp(&one, &all, sizeof one) == 0 && memcmp(kept, log_bytes + KEPT * domain, KEPT) == 0;
+    printf("state, tables and the domain's part: %s\n", same ? "the same" : "others");
+}
+
+static void kept_runs(void)
+{
+    static struct tables before, after;
+    print_call("read_plan once more", read_text(settled));
+    print_call("fresh_start", start());
+    memset(kept, '#', sizeof kept);
+    copy_tables(&before);
+    refused_keeping();
+    copy_tables(&after);
+    int same = memcmp(&before, &after, sizeof before) == 0 && is_unwritten(0);
+    printf("tables and part after the refused calls: %s\n", same ? "as before" : "changed");
+
+    kept_run("run_kept, domain 0, parts of 4 records", 0, PART);
+    whole_run_beside(0);
+    kept_run("run_kept, domain 1, parts of 4 records", 1, PART);
+    whole_run_beside(1);
+    kept_run("run_kept, domain 1, parts of 2 records: domain 0 is idle before it sends", 1, 2);
+    kept_run("run_kept, domain 1, parts without room", 1, 0);
+    print_call("run_kept after the end", keep(0, 1, 0, 1));
+}
+
 int main(void)
 {
     static struct tables before, after;
@@ -453,5 +565,6 @@ int main(void)
     writings();
     latest_finishes();
     lent_tables();
+    kept_runs();
     return 0;
 }

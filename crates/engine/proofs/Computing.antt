@@ -10,16 +10,17 @@ use Rattle.plan.specs.Windows.{windowOwner, windowLength, windowStart, windowEn
 use Rattle.cache.specs.Access.{lookupL1, lookupL2, lookupOf, lookupAt, writeBackOf, writeBackAt, writtenBack, seekOf, accessOf}
 use Rattle.cache.specs.Flush.{countWhere, dirtyLines, validLines, kernelFlushTicks, l1FlushTicks, kernelFlushed, l1Flushed}
 use Rattle.cache.specs.Sets.{has, moveToFront, without}
-use Rattle.records.specs.Records.{recordBytes, partRecords, recordStored, logPart}
+use Rattle.records.specs.Records.{logPart, onlyOf, partRecords, recordBytes, storedAt}
 use Rattle.ops.specs.Ops.{ownsLine, touchBy, messageBy, boxObservation, receiveBy, computeOf, effectBy}
 use Rattle.state.specs.StateValidity.{clockValid, domainCountsValid, stateValid}
 use Rattle.state.specs.TableValidity.{lineAllowed, l1EntryValid, allEmpty, waysValid, setValid, boxValid, tablesValid}
 use Rattle.state.specs.World.{endedOf, freshState}
 use Rattle.machine.specs.Fresh.{freshWorld}
-use Rattle.machine.specs.Steps.{opStepOf, switchDue, nextStepOf, activeStep, stepOf, runOf}
+use Rattle.machine.specs.Steps.{activeStepBy, nextStepOf, opStepBy, runBy, stepBy, switchDue}
 use Rattle.machine.specs.Switch.{flushedClock, paddedClock, switchOf}
-use Rattle.engine.specs.Checks.{freshVerdict, runVerdict, logVerdict}
+use Rattle.engine.specs.Checks.{freshVerdict, keptVerdict, lentVerdict, logVerdict, runVerdict}
 use Rattle.engine.specs.FreshStart.{freshStartOf}
+use Rattle.engine.specs.Keeping.{keptCallOf}
 use Rattle.engine.specs.LogQuery.{logQueryOf, logStatusOf}
 use Rattle.engine.specs.Running.{ranFrom, runCallOf, stepCallOf}
 
@@ -32,12 +33,12 @@ unfolding
     windowOwner windowLength windowStart windowEnd windowsTotal ticksTotal
     lookupL1 lookupL2 lookupOf lookupAt writeBackOf writeBackAt writtenBack seekOf accessOf has moveToFront without
     countWhere dirtyLines validLines kernelFlushTicks l1FlushTicks kernelFlushed l1Flushed
-    recordBytes partRecords recordStored logPart
+    recordBytes partRecords onlyOf storedAt logPart
     ownsLine touchBy messageBy boxObservation receiveBy computeOf effectBy
     clockValid domainCountsValid stateValid
     lineAllowed l1EntryValid allEmpty waysValid setValid boxValid tablesValid
-    endedOf freshState freshWorld opStepOf switchDue nextStepOf activeStep stepOf runOf
+    endedOf freshState freshWorld opStepBy switchDue nextStepOf activeStepBy stepBy runBy
     flushedClock paddedClock switchOf
-    freshVerdict runVerdict logVerdict freshStartOf logQueryOf logStatusOf
-    ranFrom runCallOf stepCallOf
+    freshVerdict lentVerdict runVerdict keptVerdict logVerdict freshStartOf logQueryOf logStatusOf
+    ranFrom runCallOf stepCallOf keptCallOf
 computing = 0

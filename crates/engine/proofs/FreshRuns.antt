@@ -14,7 +14,7 @@ use Rattle.ops.specs.Ops.{emptyBoxes}
 use Rattle.state.specs.declared.State.{State}
 use Rattle.state.specs.StateValidity.{stateValid}
 use Rattle.state.specs.World.{World}
-use Rattle.machine.specs.Steps.{runOf, steps}
+use Rattle.machine.specs.Steps.{runBy, steps}
 use Rattle.machine.specs.View.{worldWith}
 use Rattle.reachable.proofs.Ending.{ends}
 use Rattle.reachable.proofs.Reached.{boxes-length, cache-length, log-length, state-valid, tables-valid}
@@ -47,7 +47,7 @@ pub record Left (plan : Plan) (log : List ℕ) (world : World) : Type 0 where
 
 pub run-left :
     (plan : Plan) (scripts log : List ℕ) (limit : ℕ) → planValid plan ≡ true → Left plan log (runCallOf plan scripts (freshWorld log) limit .world)
-unfolding runCallOf ranFrom freshWorld runOf
+unfolding runCallOf ranFrom freshWorld runBy
 run-left plan scripts log limit possible = go (runVerdict plan scripts (freshWorld log))
   where
     reached : (count : ℕ) → Left plan log (steps plan scripts (partRecords plan (length log)) count (freshWorld log))
@@ -77,7 +77,7 @@ pub fresh-run-accepted : (plan : Plan) (scripts log : List ℕ)
     → planValid plan ≡ true
     → length scripts ≡ scriptsLength
     → runVerdict plan scripts (freshWorld log) ≡ Accepted
-unfolding runOf
+unfolding runBy
 fresh-run-accepted plan scripts log possible store = reached-accepted plan scripts log 0 possible store
 
 -- and it ends, where its limit is at least the bound

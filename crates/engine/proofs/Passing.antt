@@ -17,7 +17,7 @@ use Rattle.state.specs.StateValidity.{stateValid}
 use Rattle.state.specs.World.{World}
 use Rattle.refusal.specs.declared.Verdict.the-variants.{Accepted}
 use Rattle.engine.specs.LogQuery.{logStatusOf}
-use Rattle.engine.specs.Checks.{logVerdict, runVerdict}
+use Rattle.engine.specs.Checks.{lentVerdict, logVerdict, runVerdict}
 
 -- what a step or a run takes
 pub run-passes : (plan : Plan) (scripts : List ℕ) (world : World)
@@ -28,7 +28,7 @@ pub run-passes : (plan : Plan) (scripts : List ℕ) (world : World)
     → tablesValid plan (world .state) (world .cache) (world .boxes) ≡ true
     → stateValid plan (partRecords plan (length (world .log))) (world .state) ≡ true
     → runVerdict plan scripts world ≡ Accepted
-unfolding runVerdict
+unfolding runVerdict lentVerdict
 run-passes plan scripts world store cache boxes possible sound passes =
     rw (
       eq-eqb (length scripts) scriptsLength store,
@@ -38,6 +38,7 @@ run-passes plan scripts world store cache boxes possible sound passes =
       sound,
       passes,
       runVerdict,
+      lentVerdict,
     )
 
 -- what a query for a declared domain's log takes

@@ -30,10 +30,17 @@ ranFrom plan ran =
     record
     { verdict = Accepted; steps = ran .done; ending = endingOf (endedOf plan (ran .world .state)); world = ran .world }
 
--- a refused run changes nothing, and does no step
+-- what any run answers, by its verdict: a refused one changes nothing, and does no step
+abbrev pub outcomeFrom : Verdict → Plan → RunEffect → World → RunOutcome
+outcomeFrom Accepted plan ran world = ranFrom plan ran
+outcomeFrom (Refused refusal) plan ran world =
+    record { verdict = Refused refusal; steps = 0; ending = Stopped; world = world }
+
+-- a run with the whole log, whose length gives how many records a part holds
 abbrev pub runFrom : Verdict → Plan → List ℕ → World → ℕ → RunOutcome
-runFrom Accepted plan scripts world limit = ranFrom plan (runOf plan scripts (partRecords plan (length (world .log))) limit world)
-runFrom (Refused refusal) plan scripts world limit = record { verdict = Refused refusal; steps = 0; ending = Stopped; world = world }
+runFrom verdict plan scripts world limit =
+    outcomeFrom verdict plan
+    (runOf plan scripts (partRecords plan (length (world .log))) limit world) world
 
 -- running with a limit
 unfoldable pub runCallOf : Plan → List ℕ → World → ℕ → RunOutcome

@@ -1,5 +1,6 @@
 // The entry points of a run: each looks at what it was lent, refuses or does its work, and answers every input.
 pub mod checks;
+pub mod keeping;
 pub mod lending;
 pub mod log_query;
 pub mod running;
@@ -12,6 +13,13 @@ use state::State;
 pub enum Ending {
     Stopped,
     Ended,
+}
+
+// The log that a run is lent: a whole one, which is divided among the declared domains, or one
+// domain's part, with the domain and how many records a part holds.
+pub enum LentLog {
+    Whole,
+    Part(u32, u64),
 }
 
 // What a fresh start answers, beside the cache table and the boxes.

@@ -16,7 +16,7 @@ use Rattle.isolation.proofs.OneRun.Calls.{is-own, left-same, ownLogThings, ownT
 use Rattle.pirkvezo.specs.Answers.{allFit, answerLength, verdictNumber, wrongLength}
 use Rattle.pirkvezo.specs.LogQuery.{LogCall, hostLog, logAnswerOf, logDone}
 use Rattle.pirkvezo.specs.Numbers.{numbersFrom, planLength, planOf, stateLength, stateNumbers, stateOf}
-use Rattle.pirkvezo.specs.Running.{RunCall, hostRun, hostStep, runDone}
+use Rattle.pirkvezo.specs.Running.{RunCall, hostRun, hostRunBy, hostStep, runDone}
 use Rattle.pirkvezo.specs.Theorems.{RunKept}
 use Rattle.pirkvezo.proofs.Calls.{lengths}
 use Rattle.pirkvezo.proofs.Kept.{run-kept}
@@ -190,12 +190,12 @@ module _ (plan scripts : List ℕ) (held : Arrays) where
     ran = runCallOf (planOf plan) scripts (meant held) limit
 
     pub did-is : allFit plan (held .state) answer ≡ true → did ≡ runDone ran answer
-    unfolding hostRun
-    did-is fit = rw (fit, hostRun) refl
+    unfolding hostRun hostRunBy
+    did-is fit = rw (fit, hostRunBy) refl
 
     did-unfit : allFit plan (held .state) answer ≡ false → did .number ≡ verdictNumber wrongLength
-    unfolding hostRun
-    did-unfit unfit = rw (unfit, hostRun) refl
+    unfolding hostRun hostRunBy
+    did-unfit unfit = rw (unfit, hostRunBy) refl
 
     own-run : OwnMirrors (hostRunCall (ownRunArrays answer) limit)
     unfolding numberReturned afterHostCall runReturn verdictOf afterCall runAnswer runDone stateNumbers numbersFrom

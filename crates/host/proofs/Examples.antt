@@ -30,7 +30,7 @@ use Rattle.isolation.proofs.TwoRuns.Progress.{no-fewer, one-start}
 use Rattle.pirkvezo.specs.Answers.{answerLength, answerOf}
 use Rattle.pirkvezo.specs.LogQuery.{hostLog, logAnswerOf, logDone}
 use Rattle.pirkvezo.specs.Numbers.{numbersFrom, planOf, stateLength, stateNumbers, stateOf}
-use Rattle.pirkvezo.specs.Running.{hostRun, hostStep, runDone}
+use Rattle.pirkvezo.specs.Running.{hostRun, hostRunBy, hostStep, runDone}
 use Rattle.pirkvezo.specs.Starting.{freshDone, hostFreshStart}
 use Rattle.host.specs.Calls.{HostCall, HostList, IsHostList, LogArrays, ProperCalls, RunArrays, afterHostCall}
 use Rattle.host.specs.Calls.{afterHostCalls, hostLogCall, hostPointOf, hostRunCall, hostStepCall, hostStepsOf}
@@ -107,7 +107,7 @@ other = listOf (Compute 9 ∷ Send 1 77 ∷ []) 8 (hostRunCall (ownWith (replica
 computing : ℕ
 unfolding
     engine.computing worldAfter opsOf
-    numbersFrom planOf stateOf stateNumbers answerOf hostFreshStart freshDone hostRun hostStep runDone
+    numbersFrom planOf stateOf stateNumbers answerOf hostFreshStart freshDone hostRunBy hostRun hostStep runDone
     hostLog logAnswerOf logDone
     runReturn stepReturn logReturn numberReturned afterHostCall hostStepsCounted afterHostCalls hostStepsOf
     ProperCalls startArrays logShown

@@ -34,7 +34,7 @@ unfolding logQueryOf logStatusOf
 handed-back plan state log domain accepted = ap (λ (verdict : Verdict). logFrom verdict plan state log domain) accepted
 
 -- after a list: the records so far in the world that its steps leave
-log-after : (list : CallList) (is : IsList list) (domain : ℕ) → domain < list .plan .domains
+pub log-after : (list : CallList) (is : IsList list) (domain : ℕ) → domain < list .plan .domains
     → logQueryOf (list .plan) (leavesOf list .state) (leavesOf list .log) domain
     ≡ logPart (partRecords (list .plan) (length (list .log))) domain (recordsAt (worldAfter (runOfList list) (pointOf list) .state) domain)
     (worldAfter (runOfList list) (pointOf list) .log)

@@ -6,3 +6,4 @@ pub mod Examples
 pub mod Texts
 pub mod TextExample
 pub mod Lent
+pub mod Keeping

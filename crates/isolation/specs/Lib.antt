@@ -5,3 +5,4 @@ pub mod Texts
 pub mod Solo
 pub mod StepBounds
 pub mod Lent
+pub mod Keeping

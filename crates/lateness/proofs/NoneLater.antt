@@ -19,7 +19,7 @@ use Rattle.cache.proofs.Laws.{kernel-flush-length}
 use Rattle.records.specs.Records.{partRecords}
 use Rattle.state.specs.World.{World, freshState, positionAt, runningOf}
 use Rattle.machine.specs.Fresh.{freshWorld}
-use Rattle.machine.specs.Steps.{opStepOf, steps}
+use Rattle.machine.specs.Steps.{opStepBy, opStepOf, steps}
 use Rattle.machine.specs.Switch.{flushedClock, paddedClock, switchOf}
 use Rattle.machine.proofs.Fetched.{fetched-within}
 use Rattle.machine.proofs.Invariant.{Begins, steps-hold}
@@ -138,7 +138,7 @@ module _ (plan : Plan) (valid : planValid plan ≡ true) where
       → effectOf plan (runningOf plan (world .state)) op (world .cache) (world .boxes)
       ≡ oldEffectOf plan (runningOf plan (world .state)) op (world .cache) (world .boxes)
       → InTime plan (opStepOf plan quota (runningOf plan (world .state)) op world)
-  unfolding opStepOf
+  unfolding opStepBy
   after-op scripts quota world op timely begins same =
       let running = runningOf plan (world .state) in
       let good = fetched-within scripts running (positionAt (world .state) running) op (begins .next) in
@@ -157,7 +157,7 @@ module _ (plan : Plan) (valid : planValid plan ≡ true) where
 
   pub in-time : (scripts : List ℕ) (quota count : ℕ) (log : List ℕ) → InTime plan (steps plan scripts quota count (freshWorld log))
   in-time scripts quota count log =
-      steps-hold plan scripts quota (λ world. Fronted plan scripts quota (length log) valid world × InTime plan world)
+      steps-hold _ plan scripts quota (λ world. Fronted plan scripts quota (length log) valid world × InTime plan world)
       (λ world held inWindow.
       (switch-fronted plan scripts quota (length log) valid world (held .0) inWindow, after-switch world (held .1) inWindow))
       (λ world op held begins. (

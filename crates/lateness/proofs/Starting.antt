@@ -17,7 +17,7 @@ use Rattle.cache.specs.Lines.{kernelEntries, kernelIndex, l1Length, tableLength
 use Rattle.records.specs.Records.{partRecords}
 use Rattle.state.specs.World.{World, freshState, positionAt, recordsAt}
 use Rattle.machine.specs.Fresh.{freshWorld}
-use Rattle.machine.specs.Steps.{runOf}
+use Rattle.machine.specs.Steps.{runBy}
 use Rattle.machine.specs.Switch.{switchOf}
 use Rattle.machine.proofs.Invariant.{steps-counts}
 use Rattle.reachable.proofs.Cells.{cell-zeros, zeros-length}
@@ -96,7 +96,7 @@ module _ (plan : Plan) (scripts log : List ℕ) (valid : planValid plan ≡ true
     pub kernel : (index : ℕ) → index < kernelEntries → getD (world .cache) (kernelIndex + index) 0 ≡ 0
 
   fresh-emptied : Emptied (worldAfter run 0)
-  unfolding worldAfter runOf freshWorld
+  unfolding worldAfter runBy freshWorld
   fresh-emptied =
       record { l1 = λ index below. cell-zeros tableLength index; kernel = λ index below. cell-zeros tableLength (kernelIndex + index) }
 
@@ -128,22 +128,22 @@ module _ (plan : Plan) (scripts log : List ℕ) (valid : planValid plan ≡ true
         (ready run valid count)))
 
     fresh-position : positionAt (worldAfter run 0 .state) domain ≡ 0
-    unfolding worldAfter runOf freshWorld freshState
+    unfolding worldAfter runBy freshWorld freshState
     fresh-position = cell-zeros mostDomains domain
 
     fresh-records : recordsAt (worldAfter run 0 .state) domain ≡ 0
-    unfolding worldAfter runOf freshWorld freshState
+    unfolding worldAfter runBy freshWorld freshState
     fresh-records = cell-zeros mostDomains domain
 
     fresh-cache : (index : ℕ) → getD (worldAfter run 0 .cache) index 0 ≡ 0
-    unfolding worldAfter runOf freshWorld
+    unfolding worldAfter runBy freshWorld
     fresh-cache index = cell-zeros tableLength index
 
     eights : (count : ℕ) → (length (worldAfter run count .state .positions) ≡ mostDomains)
         × (length (worldAfter run count .state .records) ≡ mostDomains)
     unfolding worldAfter freshWorld freshState
     eights count =
-        let kept = steps-counts plan scripts quota count (freshWorld log) in
+        let kept = steps-counts _ plan scripts quota count (freshWorld log) in
         (kept .0 ∙ zeros-length mostDomains, kept .1 ∙ zeros-length mostDomains)
 
     -- it does start, and so

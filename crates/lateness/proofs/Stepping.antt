@@ -16,7 +16,7 @@ use Rattle.script.specs.declared.ScriptItem.the-variants.{Op as Fetch, End}
 use Rattle.script.specs.Fetch.{fetchOf}
 use Rattle.ops.specs.Ops.{Effect, effectOf}
 use Rattle.state.specs.World.{World, endedOf, positionAt, recordsAt, runningOf}
-use Rattle.machine.specs.Steps.{activeStep, nextItem, nextStepOf, opStepOf, stepOf, switchDue, turnOf}
+use Rattle.machine.specs.Steps.{activeStep, activeStepBy, nextItem, nextStepOf, opStepBy, opStepOf, stepOf, switchDue, turnOf}
 use Rattle.machine.specs.Switch.{switchOf}
 use Rattle.machine.proofs.Runs.{step-active}
 
@@ -61,9 +61,9 @@ module _ (plan : Plan) (scripts : List ℕ) (quota domain window : ℕ) (in-run 
           rw (early, item-is, space) refl
 
       pub op-steps : stepOf plan scripts quota world ≡ opStepOf plan quota domain op world
-      unfolding activeStep
+      unfolding activeStepBy
       op-steps =
-          step-active plan scripts quota world not-ended
+          step-active _ plan scripts quota world not-ended
           ∙ ap (λ item. activeStep plan quota item world) op-is-next
           ∙ ap (λ runs. opStepOf plan quota runs op world) running
 
@@ -71,7 +71,7 @@ module _ (plan : Plan) (scripts : List ℕ) (quota domain window : ℕ) (in-run 
       effect = effectOf plan domain op (world .cache) (world .boxes)
 
       op-stands : Stands plan domain window (suc ops) (ticks + effect .ticks) (opStepOf plan quota domain op world)
-      unfolding opStepOf
+      unfolding opStepBy
       op-stands =
           record {
             windows = stands .windows;
@@ -87,19 +87,19 @@ module _ (plan : Plan) (scripts : List ℕ) (quota domain window : ℕ) (in-run 
           }
 
       op-cache : opStepOf plan quota domain op world .cache ≡ effect .cache
-      unfolding opStepOf
+      unfolding opStepBy
       op-cache = refl
 
     -- ---- the switch
 
     -- once the clock has reached the window's end the next step is the switch
     pub switch-steps : windowLength plan window ≤ ticks → stepOf plan scripts quota world ≡ switchOf plan world
-    unfolding activeStep nextStepOf switchDue
+    unfolding activeStepBy nextStepOf switchDue
     switch-steps over =
         let late : leb (windowEnd plan (world .state .windows)) (world .state .clock) ≡ true =
         le-leb (windowEnd plan (world .state .windows)) (world .state .clock) (omega (arith, end-is, stands .clock)) in
         let due : nextStepOf scripts (turnOf plan quota (world .state)) ≡ End = rw late refl in
-        step-active plan scripts quota world not-ended ∙ ap (λ item. activeStep plan quota item world) due
+        step-active _ plan scripts quota world not-ended ∙ ap (λ item. activeStep plan quota item world) due
 
 -- one op further: where the domain stands, and the cache table
 pub record Stepped (plan : Plan) (domain window ops ticks : ℕ) (cache : List ℕ) (world : World) : Type 0 where

@@ -1,13 +1,15 @@
 -- Laws on a part of a table and on a table with a part rewritten. Assumes nothing.
-use Prim.Native.Nat.{ℕ, zero, suc, _+_, _-_, _≤_, _<_}
-use mathlib.Core.Path.{_≡_, sym, ap, subst, _∙_}
-use mathlib.Core.List.{List, _∷_, _++_}
-use native.Mathlib.Nat.{not-suc-le-zero}
+use Prim.Native.Nat.{ℕ, zero, suc, _+_, _-_, _≤_, _<_, min}
+use mathlib.Core.Path.{_≡_, refl, sym, ap, subst, _∙_}
+use mathlib.Core.List.{List, [], _∷_, _++_}
+use native.Mathlib.Decide.{ℕ-discrete}
+use native.Mathlib.Nat.{add-suc, not-suc-le-zero}
 use native.Mathlib.Numerals.{add-one}
 use native.Mathlib.Omega.{arith}
 use lib.ListN.{drop, getD, length, set, take}
-use lib.ListN.{length-append, length-drop, length-take, take-append-drop, List·getD-append}
-use lib.Seq.{drop-at, drop-cons, drop-set-lt, ext-getD, getD-append-add, getD-drop, getD-take, length-take-le, take-at}
+use lib.ListN.{length-append, length-drop, length-set, length-take, take-append-drop, List·getD-append}
+use lib.Seq.{drop-at, drop-cons, drop-set-lt, ext-getD, getD-append-add, getD-drop, getD-set-other, getD-set-same}
+use lib.Seq.{getD-take, length-take-le, sets, take-at}
 use Rattle.lists.specs.Part.{part, splice}
 
 -- a part has at most as many numbers as are asked for
@@ -138,3 +140,47 @@ pub part-stored-before :
     → part first count (set table index number) ≡ part first count table
 unfolding part
 part-stored-before first count table index number before = ap (take count) (drop-set-lt first table index number before)
+
+-- a store within a part is a store into it
+pub part-stored-within :
+    (first count : ℕ) (table : List ℕ) (index number : ℕ)
+    → index < count
+    → part first count (set table (first + index) number) ≡ set (part first count table) index number
+unfolding part
+part-stored-within first count table index number within =
+    ext-getD 0 _ _ (simp (length-take, length-drop, length-set))
+    (λ at below. here at (simp (length-take, length-drop, length-set) at below) (ℕ-discrete at index))
+  where
+    here : (at : ℕ) → at < min count (length table - first) → Dec (at ≡ index)
+        → getD (take count (drop first (set table (first + index) number))) at 0
+        ≡ getD (set (take count (drop first table)) index number) at 0
+    here at below (yes same) =
+        let short : at < count = omega arith in
+        let inside : first + index < length table = omega arith in
+        let inside′ : index < length (take count (drop first table)) = simp (length-take, length-drop) (omega arith) in
+        getD-take count (drop first (set table (first + index) number)) at 0 short
+        ∙ getD-drop first (set table (first + index) number) at 0
+        ∙ ap (λ (n : ℕ). getD (set table (first + index) number) (first + n) 0) same
+        ∙ getD-set-same table (first + index) number 0 inside
+        ∙ sym (getD-set-same (take count (drop first table)) index number 0 inside′)
+        ∙ ap (λ (n : ℕ). getD (set (take count (drop first table)) index number) n 0) (sym same)
+    here at below (no other) =
+        let short : at < count = omega arith in
+        let apart : first + at ≡ first + index → ⊥ = λ e. other (omega arith) in
+        getD-take count (drop first (set table (first + index) number)) at 0 short
+        ∙ getD-drop first (set table (first + index) number) at 0
+        ∙ getD-set-other table (first + index) (first + at) number 0 apart
+        ∙ sym (getD-drop first table at 0)
+        ∙ sym (getD-take count (drop first table) at 0 short)
+        ∙ sym (getD-set-other (take count (drop first table)) index at number 0 other)
+
+-- and so is a run of stores
+pub part-sets-within :
+    (first count index : ℕ) (numbers table : List ℕ)
+    → index + length numbers ≤ count
+    → part first count (sets table (first + index) numbers) ≡ sets (part first count table) index numbers
+part-sets-within first count index [] table within = refl
+part-sets-within first count index (number ∷ numbers) table within =
+    ap (λ (n : ℕ). part first count (sets (set table (first + index) number) n numbers)) (sym (add-suc first index))
+    ∙ part-sets-within first count (suc index) numbers (set table (first + index) number) (omega arith)
+    ∙ ap (λ (t : List ℕ). sets t (suc index) numbers) (part-stored-within first count table index number (omega arith))

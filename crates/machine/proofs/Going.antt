@@ -14,9 +14,11 @@ use Rattle.plan.specs.Validity.{planValid}
 use Rattle.plan.specs.Windows.{windowEnd, windowLength, windowOwner, slotOf, windowStart, windowsTotal}
 use Rattle.plan.proofs.ValidPlans.{counts}
 use Rattle.plan.proofs.Windows.{length-most, owner-declared, slot-below, start-fits}
+use Rattle.records.specs.declared.Place.{Place}
+use Rattle.ops.specs.Ops.{effectOf}
 use Rattle.state.specs.StateValidity.{stateValid}
 use Rattle.state.specs.World.{World, endedOf}
-use Rattle.machine.specs.Steps.{RunEffect, runOf}
+use Rattle.machine.specs.Steps.{RunEffect, runBy}
 use Rattle.machine.specs.View.{RunsTo, ranWith}
 use Rattle.machine.proofs.Invariant.{steps-counts}
 use Rattle.machine.proofs.Runs.{runs-ended, runs-on}
@@ -70,22 +72,22 @@ goes-on steps limit windows total test =
 
 -- some steps are done, and they lead to what is present
 pub record Going
-    (plan : Plan) (scripts : List ℕ) (quota limit : ℕ) (first present : World)
+    (places : ℕ → Place) (plan : Plan) (scripts : List ℕ) (quota limit : ℕ) (first present : World)
     (steps start slot : ℕ) : Type 0 where
   pub within : steps ≤ limit
-  pub ran : RunsTo plan scripts quota steps first present
+  pub ran : RunsTo places plan scripts quota steps first present
   pub starts : steps < limit → start ≡ windowStart plan (present .state .windows)
   pub slots : steps < limit → slot ≡ slotOf plan (present .state .windows)
   pub cache-long : length (present .cache) ≡ length (first .cache)
   pub boxes-long : length (present .boxes) ≡ length (first .boxes)
   pub log-long : length (present .log) ≡ length (first .log)
 
-module _ (plan : Plan) (scripts : List ℕ) (quota limit : ℕ) (first : World) where
+module _ (places : ℕ → Place) (plan : Plan) (scripts : List ℕ) (quota limit : ℕ) (first : World) where
   -- before the first step
   pub going-first : (start slot : ℕ) → start ≡ windowStart plan (first .state .windows)
       → slot ≡ slotOf plan (first .state .windows)
-      → Going plan scripts quota limit first first 0 start slot
-  unfolding runOf
+      → Going places plan scripts quota limit first first 0 start slot
+  unfolding runBy
   going-first start slot starts is =
       record {
         within = omega arith;
@@ -98,22 +100,22 @@ module _ (plan : Plan) (scripts : List ℕ) (quota limit : ℕ) (first : World) 
       }
 
   module _ (present : World) (steps start slot : ℕ)
-      (going : Going plan scripts quota limit first present steps start slot) where
+      (going : Going places plan scripts quota limit first present steps start slot) where
     -- some steps more
     pub going-on :
         (next : World) (more start′ slot′ : ℕ)
         → more ≤ limit - steps
-        → RunsTo plan scripts quota more present next
+        → RunsTo places plan scripts quota more present next
         → (more < limit - steps → start′ ≡ windowStart plan (next .state .windows))
         → (more < limit - steps → slot′ ≡ slotOf plan (next .state .windows))
         → length (next .cache) ≡ length (present .cache)
         → length (next .boxes) ≡ length (present .boxes)
         → length (next .log) ≡ length (present .log)
-        → Going plan scripts quota limit first next (steps + more) start′ slot′
+        → Going places plan scripts quota limit first next (steps + more) start′ slot′
     going-on next more start′ slot′ fewer ran starts slots cache boxes log =
         record {
           within = omega (arith, going .within);
-          ran = runs-on plan scripts quota steps more first present next (going .ran) ran;
+          ran = runs-on places plan scripts quota steps more first present next (going .ran) ran;
           starts = λ fewer. starts (omega arith);
           slots = λ fewer. slots (omega arith);
           cache-long = cache ∙ going .cache-long;
@@ -122,25 +124,25 @@ module _ (plan : Plan) (scripts : List ℕ) (quota limit : ℕ) (first : World) 
         }
 
     -- the limit is reached, or the run is over: nothing is left to do
-    pub going-done : (ltb steps limit && ltb (present .state .windows) (windowsTotal plan)) ≡ false → ranWith steps present ≡ runOf plan scripts quota limit first
+    pub going-done : (ltb steps limit && ltb (present .state .windows) (windowsTotal plan)) ≡ false → ranWith steps present ≡ runBy effectOf places plan scripts quota limit first
     unfolding endedOf
     going-done stops = go (ltb steps limit) refl stops
       where
         go : (fewer : Bool) → ltb steps limit ≡ fewer → (fewer && ltb (present .state .windows) (windowsTotal plan)) ≡ false
-            → ranWith steps present ≡ runOf plan scripts quota limit first
+            → ranWith steps present ≡ runBy effectOf places plan scripts quota limit first
         go true fewer ended =
-            runs-ended plan scripts quota steps limit first present (going .ran) (going .within)
+            runs-ended places plan scripts quota steps limit first present (going .ran) (going .within)
             (le-leb (windowsTotal plan) (present .state .windows) (ltb-false (present .state .windows) (windowsTotal plan) ended))
         go false reached stops =
             let past : limit ≤ steps = ltb-false steps limit reached in
             let all : steps ≡ limit = omega (arith, going .within) in
-            going .ran ∙ ap (λ (n : ℕ). runOf plan scripts quota n first) all
+            going .ran ∙ ap (λ (n : ℕ). runBy effectOf places plan scripts quota n first) all
 
     -- in a window the clock is near the window's end
     pub going-clock : planValid plan ≡ true → stateValid plan quota (first .state) ≡ true → present .state .windows < windowsTotal plan
         → present .state .clock ≤ windowEnd plan (present .state .windows) + (dearestOp - 1)
     going-clock possible valid inWindow =
-        let on-schedule = steps-scheduled plan scripts quota first possible (valid-scheduled plan quota first possible valid) steps in
+        let on-schedule = steps-scheduled places plan scripts quota first possible (valid-scheduled plan quota first possible valid) steps in
         subst (Scheduled plan) (sym (ap (λ (r : RunEffect). r .world) (going .ran))) on-schedule .soon inWindow
 
     -- and the counts are as many as at first
@@ -150,4 +152,4 @@ module _ (plan : Plan) (scripts : List ℕ) (quota limit : ℕ) (first : World) 
         subst
         (λ (w : World). (length (w .state .positions) ≡ length (first .state .positions)) × (length (w .state .records) ≡ length (first .state .records)))
         (sym (ap (λ (r : RunEffect). r .world) (going .ran)))
-        (steps-counts plan scripts quota steps first)
+        (steps-counts places plan scripts quota steps first)

@@ -2,7 +2,7 @@
 use Prim.Native.Nat.{ℕ, zero, suc, _<_}
 use mathlib.Core.Bool.{Bool, true, false, cond, _||_}
 use mathlib.Core.List.{List}
-use mathlib.Core.Path.{_≡_, refl, sym, subst}
+use mathlib.Core.Path.{_≡_, refl, sym, subst, _∙_}
 use lib.Dec.{leb}
 use lib.ListN.{length, length-set}
 use borrow.Author.Tests.{leb-false}
@@ -12,10 +12,13 @@ use Rattle.script.specs.declared.Op.{Op}
 use Rattle.script.specs.declared.ScriptItem.{ScriptItem}
 use Rattle.script.specs.declared.ScriptItem.the-variants.{Op as Fetch, End}
 use Rattle.script.proofs.ScriptEnd.{end-is-none}
+use Rattle.records.specs.declared.Place.{Place}
+use Rattle.records.proofs.Places.{stored-length}
+use Rattle.ops.specs.Ops.{effectOf}
 use Rattle.state.specs.declared.State.{State}
 use Rattle.state.specs.World.{World, endedOf, recordsAt, runningOf}
 use Rattle.machine.specs.declared.Turn.{Turn}
-use Rattle.machine.specs.Steps.{activeStep, isEnd, nextItem, nextStepOf, opStepOf, runOf, stepOf, steps, switchDue, turnOf}
+use Rattle.machine.specs.Steps.{activeStepBy, isEnd, nextItem, nextStepOf, opStepBy, runBy, stepBy, stepsBy, switchDue, turnOf}
 use Rattle.machine.specs.Switch.{switchOf}
 use Rattle.machine.proofs.Runs.{step-active, step-ended, steps-last}
 
@@ -57,6 +60,7 @@ in-window plan state running = leb-false _ _ running
 
 -- what holds of the world after a step: of the same world where the run has ended, else of the world after a switch, or after an op that begins
 module _
+    (places : ℕ → Place)
     (plan : Plan)
     (scripts : List ℕ)
     (quota : ℕ)
@@ -64,27 +68,28 @@ module _
     (Holds : World → Type 0)
     (ended-holds : endedOf plan (world .state) ≡ true → Holds world)
     (switch-holds : world .state .windows < windowsTotal plan → Holds (switchOf plan world))
-    (op-holds : (op : Op) → Begins plan scripts quota world op → Holds (opStepOf plan quota (runningOf plan (world .state)) op world))
+    (op-holds : (op : Op) → Begins plan scripts quota world op → Holds (opStepBy effectOf (places (runningOf plan (world .state))) plan (runningOf plan (world .state)) op world))
   where
-    pub step-cases : Holds (stepOf plan scripts quota world)
-    unfolding activeStep
+    pub step-cases : Holds (stepBy effectOf places plan scripts quota world)
+    unfolding activeStepBy
     step-cases = by-end (endedOf plan (world .state)) refl
       where
         by-next : (next : ScriptItem) → nextStepOf scripts (turnOf plan quota (world .state)) ≡ next
             → endedOf plan (world .state) ≡ false
-            → Holds (activeStep plan quota next world)
+            → Holds (activeStepBy effectOf places plan next world)
         by-next End is running = switch-holds (in-window plan (world .state) running)
         by-next (Fetch op) is running =
             let next = op-next scripts _ op is in
             op-holds op
             (record { inWindow = in-window plan (world .state) running; inTime = next .inTime; room = next .room; next = next .next })
 
-        by-end : (ended : Bool) → endedOf plan (world .state) ≡ ended → Holds (stepOf plan scripts quota world)
-        by-end true ended = subst Holds (sym (step-ended plan scripts quota world ended)) (ended-holds ended)
-        by-end false running = subst Holds (sym (step-active plan scripts quota world running)) (by-next _ refl running)
+        by-end : (ended : Bool) → endedOf plan (world .state) ≡ ended → Holds (stepBy effectOf places plan scripts quota world)
+        by-end true ended = subst Holds (sym (step-ended places plan scripts quota world ended)) (ended-holds ended)
+        by-end false running = subst Holds (sym (step-active places plan scripts quota world running)) (by-next _ refl running)
 
 -- what a switch and an op that begins keep holds after any number of steps
 module _
+    (places : ℕ → Place)
     (plan : Plan)
     (scripts : List ℕ)
     (quota : ℕ)
@@ -92,26 +97,38 @@ module _
     (after-switch : (world : World) → Holds world → world .state .windows < windowsTotal plan → Holds (switchOf plan world))
     (after-op :
     (world : World) (op : Op) → Holds world → Begins plan scripts quota world op
-    → Holds (opStepOf plan quota (runningOf plan (world .state)) op world))
+    → Holds (opStepBy effectOf (places (runningOf plan (world .state))) plan (runningOf plan (world .state)) op world))
   where
-    step-holds : (world : World) → Holds world → Holds (stepOf plan scripts quota world)
-    step-holds world holds = step-cases plan scripts quota world Holds (λ ended. holds) (after-switch world holds) (λ op. after-op world op holds)
+    step-holds : (world : World) → Holds world → Holds (stepBy effectOf places plan scripts quota world)
+    step-holds world holds = step-cases places plan scripts quota world Holds (λ ended. holds) (after-switch world holds) (λ op. after-op world op holds)
 
-    pub steps-hold : (world : World) → Holds world → (count : ℕ) → Holds (steps plan scripts quota count world)
-    unfolding runOf
+    pub steps-hold : (world : World) → Holds world → (count : ℕ) → Holds (stepsBy effectOf places plan scripts quota count world)
+    unfolding runBy
     steps-hold world holds zero = holds
     steps-hold world holds (suc count) =
-        subst Holds (sym (steps-last plan scripts quota count world)) (step-holds _ (steps-hold world holds count))
+        subst Holds (sym (steps-last places plan scripts quota count world)) (step-holds _ (steps-hold world holds count))
 
 -- no step changes how many counts a state has
 abbrev SameCounts : World → World → Type 0
 SameCounts one other =
     (length (one .state .positions) ≡ length (other .state .positions)) × (length (one .state .records) ≡ length (other .state .records))
 
-pub steps-counts : (plan : Plan) (scripts : List ℕ) (quota count : ℕ) (world : World) → SameCounts (steps plan scripts quota count world) world
-unfolding opStepOf switchOf
-steps-counts plan scripts quota count world =
-    steps-hold plan scripts quota (λ reached. SameCounts reached world)
+pub steps-counts : (places : ℕ → Place)
+    (plan : Plan) (scripts : List ℕ) (quota count : ℕ) (world : World)
+    → SameCounts (stepsBy effectOf places plan scripts quota count world) world
+unfolding opStepBy switchOf
+steps-counts places plan scripts quota count world =
+    steps-hold places plan scripts quota (λ reached. SameCounts reached world)
     (λ reached kept inWindow. kept)
     (λ reached op kept begins. (simp length-set (kept .0), simp length-set (kept .1)))
     world (refl, refl) count
+
+-- nor how long the log is
+pub steps-log : (places : ℕ → Place) (plan : Plan) (scripts : List ℕ) (quota count : ℕ) (world : World)
+    → length (stepsBy effectOf places plan scripts quota count world .log) ≡ length (world .log)
+unfolding opStepBy switchOf
+steps-log places plan scripts quota count world =
+    steps-hold places plan scripts quota (λ reached. length (reached .log) ≡ length (world .log))
+    (λ reached kept inWindow. kept)
+    (λ reached op kept begins. stored-length _ _ _ _ (reached .log) ∙ kept)
+    world refl count

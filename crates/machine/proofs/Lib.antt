@@ -7,3 +7,4 @@ pub mod Schedule
 pub mod Turns
 pub mod WholeTurns
 pub mod Windows
+pub mod Keeping

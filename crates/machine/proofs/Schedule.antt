@@ -16,11 +16,14 @@ use Rattle.plan.specs.Windows.{windowEnd, windowStart, ticksTotal, windowsTotal
 use Rattle.plan.proofs.Windows.{pad-least, start-total}
 use Rattle.script.specs.declared.Op.{Op}
 use Rattle.cache.proofs.Ticks.{flush-ticks}
+use Rattle.records.specs.declared.Place.{Place}
+use Rattle.records.specs.Records.{inParts}
+use Rattle.ops.specs.Ops.{effectOf}
 use Rattle.ops.proofs.Ticks.{effect-ticks}
 use Rattle.state.specs.StateValidity.{clockValid, stateValid}
 use Rattle.state.specs.World.{World, freshState, positionAt, runningOf}
 use Rattle.machine.specs.Fresh.{freshWorld}
-use Rattle.machine.specs.Steps.{opStepOf, stepOf, steps}
+use Rattle.machine.specs.Steps.{opStepBy, stepOf, steps, stepsBy}
 use Rattle.machine.specs.Switch.{flushedClock, paddedClock, switchOf}
 use Rattle.machine.proofs.Fetched.{fetched-within}
 use Rattle.machine.proofs.Invariant.{Begins, step-cases, steps-hold}
@@ -65,10 +68,10 @@ module _ (plan : Plan) (possible : planValid plan ≡ true) where
       let length = start-end plan (world .state .windows + 1) in
       record { windows = omega arith; started = omega arith; soon = λ h. omega arith; ended = λ h. exact }
 
-  after-op : (scripts : List ℕ) (quota : ℕ) (world : World) (op : Op) → Scheduled plan world → Begins plan scripts quota world op
-      → Scheduled plan (opStepOf plan quota (runningOf plan (world .state)) op world)
-  unfolding opStepOf
-  after-op scripts quota world op scheduled begins =
+  after-op : (place : Place) (scripts : List ℕ) (quota : ℕ) (world : World) (op : Op) → Scheduled plan world → Begins plan scripts quota world op
+      → Scheduled plan (opStepBy effectOf place plan (runningOf plan (world .state)) op world)
+  unfolding opStepBy
+  after-op place scripts quota world op scheduled begins =
       let running = runningOf plan (world .state) in
       let ticks =
       effect-ticks plan running op (world .cache) (world .boxes)
@@ -84,7 +87,7 @@ module _ (plan : Plan) (possible : planValid plan ≡ true) where
 pub scheduled : (plan : Plan) (scripts : List ℕ) (quota count : ℕ) (log : List ℕ) → planValid plan ≡ true
     → Scheduled plan (steps plan scripts quota count (freshWorld log))
 scheduled plan scripts quota count log possible =
-    steps-hold plan scripts quota (Scheduled plan) (after-switch plan possible) (after-op plan possible scripts quota) (freshWorld log)
+    steps-hold (inParts quota) plan scripts quota (Scheduled plan) (after-switch plan possible) (λ world. after-op plan possible _ scripts quota world) (freshWorld log)
     (at-start plan possible log)
     count
 
@@ -99,18 +102,18 @@ NextWindow plan world next = (next .state .windows ≡ world .state .windows) �
 -- a step from a world on schedule stays in its window, or is the switch that starts the next window, at its start
 pub step-windows : (plan : Plan) (scripts : List ℕ) (quota : ℕ) (world : World) → planValid plan ≡ true → Scheduled plan world
     → NextWindow plan world (stepOf plan scripts quota world)
-unfolding opStepOf switchOf
+unfolding opStepBy switchOf
 step-windows plan scripts quota world possible scheduled =
-    step-cases plan scripts quota world (NextWindow plan world) (λ ended. inl refl)
+    step-cases (inParts quota) plan scripts quota world (NextWindow plan world) (λ ended. inl refl)
     (λ inWindow. inr (record { windows = refl; exact = switch-clock plan world possible scheduled inWindow }))
     (λ op begins. inl refl)
 
 -- steps keep to the schedule
-pub steps-scheduled : (plan : Plan) (scripts : List ℕ) (quota : ℕ) (world : World) → planValid plan ≡ true → Scheduled plan world
+pub steps-scheduled : (places : ℕ → Place) (plan : Plan) (scripts : List ℕ) (quota : ℕ) (world : World) → planValid plan ≡ true → Scheduled plan world
     → (count : ℕ)
-    → Scheduled plan (steps plan scripts quota count world)
-steps-scheduled plan scripts quota world possible on-schedule =
-    steps-hold plan scripts quota (Scheduled plan) (after-switch plan possible) (after-op plan possible scripts quota) world on-schedule
+    → Scheduled plan (stepsBy effectOf places plan scripts quota count world)
+steps-scheduled places plan scripts quota world possible on-schedule =
+    steps-hold places plan scripts quota (Scheduled plan) (after-switch plan possible) (λ world. after-op plan possible _ scripts quota world) world on-schedule
 
 -- a valid state (14) is on schedule
 pub valid-scheduled : (plan : Plan) (quota : ℕ) (world : World) → planValid plan ≡ true → stateValid plan quota (world .state) ≡ true

@@ -17,7 +17,8 @@ use Rattle.script.specs.Fetch.{fetchOf}
 use Rattle.script.specs.Limits.{OpWithinLimits, mostOps}
 use Rattle.cache.specs.Flush.{kernelFlushTicks, kernelFlushed, l1FlushTicks}
 use Rattle.cache.proofs.Ticks.{flush-ticks}
-use Rattle.records.specs.Records.{recordStored}
+use Rattle.records.specs.declared.Place.{Place}
+use Rattle.records.specs.Records.{storedAt}
 use Rattle.ops.specs.declared.OpResult.{OpResult}
 use Rattle.ops.specs.Ops.{Effect, effectBy, effectOf, messageBy, ownsLine, receiveBy, touchBy}
 use Rattle.ops.specs.View.{effectWith, viewOf}
@@ -25,7 +26,7 @@ use Rattle.ops.proofs.Ticks.{effect-ticks}
 use Rattle.state.specs.declared.State.{State}
 use Rattle.state.specs.World.{World}
 use Rattle.machine.specs.declared.Turn.{Turn}
-use Rattle.machine.specs.Steps.{isEnd, nextItem, nextStepOf, opStepOf, switchDue}
+use Rattle.machine.specs.Steps.{isEnd, nextItem, nextStepOf, opStepBy, switchDue}
 use Rattle.machine.specs.Switch.{flushedClock, paddedClock, switchOf, switchedCache}
 use Rattle.machine.specs.View.{OpRan, opsAllowed, turnAfter, worldWith}
 
@@ -67,7 +68,7 @@ module _ (scripts : List ℕ) (turn : Turn) where
   next-late reached = rw (le-leb (turn .end) (turn .clock) reached) refl
 
   -- or the domain's log is full
-  next-full : turn .quota ≤ turn .records → End ≡ nextStepOf scripts turn
+  pub next-full : turn .quota ≤ turn .records → End ≡ nextStepOf scripts turn
   unfolding nextStepOf switchDue
   next-full full =
       rw (le-leb (turn .quota) (turn .records) full)
@@ -133,13 +134,13 @@ operated-ticks plan domain op cache boxes done cache′ boxes′ within did =
 
 -- one op, with its record stored
 pub op-ran :
-    (plan : Plan) (op : Op) (turn : Turn) (cache boxes log : List ℕ) (done : OpResult) (cache′ boxes′ log′ : List ℕ)
+    (place : Place) (plan : Plan) (op : Op) (turn : Turn) (cache boxes log : List ℕ) (done : OpResult) (cache′ boxes′ log′ : List ℕ)
     → OpWithinLimits op
     → effectWith done cache′ boxes′ ≡ effectOf plan (turn .owner) op cache boxes
-    → log′ ≡ recordStored (turn .quota) (turn .owner) (turn .records) (done .seen) (turn .clock + done .ticks) log
-    → OpRan plan op turn (turn .clock + done .ticks) cache boxes log cache′ boxes′ log′
-unfolding opStepOf
-op-ran plan op turn cache boxes log done cache′ boxes′ log′ within did kept =
+    → log′ ≡ storedAt place (turn .records) (done .seen) (turn .clock + done .ticks) log
+    → OpRan place plan op turn (turn .clock + done .ticks) cache boxes log cache′ boxes′ log′
+unfolding opStepBy
+op-ran place plan op turn cache boxes log done cache′ boxes′ log′ within did kept =
     record {
       ticks = omega (arith, operated-ticks plan (turn .owner) op cache boxes done cache′ boxes′ within did);
       world = λ state stands. rw (← did, kept, stands .windows-is, stands .clock-is, stands .position-is, stands .records-is) refl;
@@ -157,7 +158,7 @@ effect-view plan domain (Receive sender) cache boxes = refl
 effect-view plan domain (Compute ticks) cache boxes = refl
 
 pub op-step-view :
-    (plan : Plan) (quota domain : ℕ) (op : Op) (world : World)
-    → opStepOf (viewOf (plan .rights) (plan .masks)) quota domain op world ≡ opStepOf plan quota domain op world
-unfolding opStepOf
-op-step-view plan quota domain op world = rw effect-view refl
+    (place : Place) (plan : Plan) (domain : ℕ) (op : Op) (world : World)
+    → opStepBy effectOf place (viewOf (plan .rights) (plan .masks)) domain op world ≡ opStepBy effectOf place plan domain op world
+unfolding opStepBy
+op-step-view place plan domain op world = rw effect-view refl

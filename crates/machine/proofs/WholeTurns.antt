@@ -13,6 +13,7 @@ use Rattle.plan.specs.Limits.{dearestOp, leastPad, mostDomains}
 use Rattle.plan.specs.Validity.{planValid}
 use Rattle.plan.specs.Windows.{slotOf, windowEnd, windowOwner, windowStart, windowsTotal}
 use Rattle.cache.proofs.Ticks.{flush-ticks}
+use Rattle.records.specs.declared.Place.{Place}
 use Rattle.state.specs.declared.State.{State}
 use Rattle.state.specs.World.{World, endedOf, positionAt, recordsAt}
 use Rattle.machine.specs.declared.Turn.{Turn}
@@ -25,13 +26,6 @@ use Rattle.machine.proofs.Schedule.{next-start}
 use Rattle.machine.proofs.Turns.{switch-stepped}
 
 -- ---- what a turn is handed
-
--- a declared domain's part lies within the log
-pub part-room : (quota domains owner size : ℕ) → owner < domains → 8 * (quota * domains) ≤ size → 8 * (quota * owner + quota) ≤ size
-part-room quota domains owner size below fits =
-    let parts : quota * suc owner ≤ quota * domains = mul-le-mul-left quota below in
-    let one : quota * suc owner ≡ quota * owner + quota = mul-suc quota owner in
-    omega arith
 
 -- the turn of a state whose window starts at `start` and is the declared window `slot`
 abbrev pub turnFrom : Plan → ℕ → State → ℕ → ℕ → Turn
@@ -48,28 +42,28 @@ turnFrom plan quota state start slot =
     }
 
 -- its numbers are small, so that nothing in it wraps
-pub record Room (turn : Turn) (logLength : ℕ) : Type 0 where
+pub record Room (plan : Plan) (turn : Turn) : Type 0 where
   pub windows : turn .windows ≤ clockBound
   pub owner : turn .owner < mostDomains
   pub late : turn .clock ≤ turn .end + (dearestOp - 1)
   pub end : turn .end ≤ clockBound
-  pub log : 8 * (turn .quota * turn .owner + turn .quota) ≤ logLength
+  pub declared : turn .owner < plan .domains
 
 module _
     (plan : Plan) (quota : ℕ) (state : State) (start slot : ℕ)
     (possible : planValid plan ≡ true) (inWindow : state .windows < windowsTotal plan)
     (starts : start ≡ windowStart plan (state .windows))
     (slot-is : slot ≡ slotOf plan (state .windows)) where
-  pub turn-room : (logLength : ℕ) → state .clock ≤ windowEnd plan (state .windows) + (dearestOp - 1) → 8 * (quota * plan .domains) ≤ logLength
-      → Room (turnFrom plan quota state start slot) logLength
-  turn-room logLength late fits =
+  pub turn-room : state .clock ≤ windowEnd plan (state .windows) + (dearestOp - 1)
+      → Room plan (turnFrom plan quota state start slot)
+  turn-room late =
       let numbers = small plan (state .windows) start slot possible starts slot-is inWindow in
       record {
         windows = omega (arith, windows-small plan possible);
         owner = numbers .owner-below;
         late = omega arith;
         end = omega arith;
-        log = part-room quota (plan .domains) _ logLength (numbers .owner-declared) fits;
+        declared = numbers .owner-declared;
       }
 
   pub turn-here : length (state .positions) ≡ mostDomains → length (state .records) ≡ mostDomains
@@ -134,21 +128,21 @@ module _ (limit pad : ℕ) (first : Turn) (ran : WindowProgress) (within : ran .
         }
 
     pub switch-runs :
-        (plan : Plan) (scripts rights masks : List ℕ) (state : State) (before : World) (boxes log cache′ : List ℕ)
-        → WindowRan plan scripts (first .quota) limit (ran .steps) before (worldWith (turned state (ran .turn)) cache boxes log)
+        (places : ℕ → Place) (plan : Plan) (scripts rights masks : List ℕ) (state : State) (before : World) (boxes log cache′ : List ℕ)
+        → WindowRan places plan scripts (first .quota) limit (ran .steps) before (worldWith (turned state (ran .turn)) cache boxes log)
         → cache′ ≡ switchedCache cache
         → InTurn plan rights masks state first
         → plan .pad ≡ pad
-        → RunsTo plan scripts (first .quota) (ran .steps + 1) before (worldWith (turned state (switchedTo ran clock .turn)) cache′ boxes log)
+        → RunsTo places plan scripts (first .quota) (ran .steps + 1) before (worldWith (turned state (switchedTo ran clock .turn)) cache′ boxes log)
     unfolding endedOf
-    switch-runs plan scripts rights masks state before boxes log cache′ did flushed here pads =
+    switch-runs places plan scripts rights masks state before boxes log cache′ did flushed here pads =
         let left = turned state (ran .turn) in
         let windows = ap (λ (t : Turn). t .windows) moved in
         let ends : windowEnd plan (ran .turn .windows) ≡ ran .turn .end =
         ap (windowEnd plan) windows ∙ here .end-is ∙ sym (ap (λ (t : Turn). t .end) moved) in
         let running : endedOf plan left ≡ false = lt-leb (windowsTotal plan) (ran .turn .windows) (omega (arith, windows, here .not-ended)) in
-        runs-on plan scripts (first .quota) (ran .steps) 1 before (worldWith left cache boxes log) _ (did .ran)
-        (runs-one plan scripts (first .quota) (worldWith left cache boxes log) _ running
+        runs-on places plan scripts (first .quota) (ran .steps) 1 before (worldWith left cache boxes log) _ (did .ran)
+        (runs-one places plan scripts (first .quota) (worldWith left cache boxes log) _ running
         (did .due more
         ∙ sym (switch-stepped plan left cache boxes log (ran .turn .end) clock cache′ ends
         (clocked ∙ ap (λ (n : ℕ). paddedClock (ran .turn .end) n (flushedClock (ran .turn .clock) (ran .turn .end) cache)) (sym pads)) flushed)))
@@ -168,30 +162,30 @@ turnedAt state owner turn =
 -- a turn of a run: one that ends before the limit leaves the clock at the next window's start, and
 -- the next declared window follows
 pub going-turn :
-    (plan : Plan) (scripts : List ℕ) (quota limit : ℕ) (first : World) (state : State)
+    (places : ℕ → Place) (plan : Plan) (scripts : List ℕ) (quota limit : ℕ) (first : World) (state : State)
     (cache boxes log : List ℕ) (steps start slot : ℕ) (turn : Turn) (ran : WindowProgress)
     (slot′ : ℕ) (cache′ boxes′ log′ : List ℕ)
-    → Going plan scripts quota limit first (worldWith state cache boxes log) steps start slot
+    → Going places plan scripts quota limit first (worldWith state cache boxes log) steps start slot
     → windowEnd plan (turn .windows) ≡ turn .end
     → slot ≡ slotOf plan (turn .windows)
     → TurnRan (limit - steps) (plan .pad) turn ran
-    → RunsTo plan scripts quota (ran .steps) (worldWith state cache boxes log) (worldWith (turned state (ran .turn)) cache′ boxes′ log′)
+    → RunsTo places plan scripts quota (ran .steps) (worldWith state cache boxes log) (worldWith (turned state (ran .turn)) cache′ boxes′ log′)
     → slot′ ≡ (slot + 1) % plan .windows
     → length cache′ ≡ length cache
     → length boxes′ ≡ length boxes
     → length log′ ≡ length log
-    → Going plan scripts quota limit first
+    → Going places plan scripts quota limit first
     (worldWith (turnedAt state (turn .owner) (ran .turn)) cache′ boxes′ log′)
     (steps + ran .steps) (ran .turn .clock) slot′
-going-turn plan scripts quota limit first state cache boxes log steps start slot turn ran slot′
+going-turn places plan scripts quota limit first state cache boxes log steps start slot turn ran slot′
     cache′ boxes′ log′ going ends slot-is did runs follows same-cache same-boxes same-log =
     subst
     (λ (owner : ℕ).
-    Going plan scripts quota limit first
+    Going places plan scripts quota limit first
     (worldWith (turnedAt state owner (ran .turn)) cache′ boxes′ log′)
     (steps + ran .steps) (ran .turn .clock) slot′)
     (did .owner-is)
-    (going-on plan scripts quota limit first (worldWith state cache boxes log) steps start slot
+    (going-on places plan scripts quota limit first (worldWith state cache boxes log) steps start slot
     going _ (ran .steps) _ _ (did .within) runs starts slots same-cache same-boxes same-log)
   where
     starts : ran .steps < limit - steps → ran .turn .clock ≡ windowStart plan (ran .turn .windows)

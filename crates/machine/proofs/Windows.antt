@@ -14,11 +14,13 @@ use Rattle.plan.specs.Windows.{windowEnd, windowOwner, windowsTotal}
 use Rattle.script.specs.declared.Op.{Op}
 use Rattle.script.specs.declared.ScriptItem.{ScriptItem}
 use Rattle.script.specs.declared.ScriptItem.the-variants.{Op as Fetch, End}
+use Rattle.records.specs.declared.Place.{Place}
+use Rattle.ops.specs.Ops.{effectOf}
 use Rattle.ops.specs.View.{viewOf}
 use Rattle.state.specs.declared.State.{State}
 use Rattle.state.specs.World.{World, endedOf, positionAt, recordsAt}
 use Rattle.machine.specs.declared.Turn.{Turn}
-use Rattle.machine.specs.Steps.{activeStep, nextStepOf, opStepOf, runOf, stepOf, turnOf}
+use Rattle.machine.specs.Steps.{activeStepBy, nextStepOf, opStepBy, runBy, stepBy, turnOf}
 use Rattle.machine.specs.Switch.{switchOf}
 use Rattle.machine.specs.View.{InTurn, OpRan, RunsTo, Stands, turnAfter, turned, worldWith}
 use Rattle.machine.proofs.Invariant.{op-next}
@@ -72,44 +74,44 @@ module _ (plan : Plan) (scripts rights masks : List ℕ) (state : State) (turn :
             };
       }
 
-  module _ (cache boxes log : List ℕ) where
+  module _ (places : ℕ → Place) (cache boxes log : List ℕ) where
     -- the step is the one that the code chose
     not-ended : endedOf plan state ≡ false
     unfolding endedOf
     not-ended = lt-leb (windowsTotal plan) (state .windows) (omega (arith, here .not-ended, here .stands .windows-is))
 
     step-chosen : (next : ScriptItem) → next ≡ nextStepOf scripts turn
-        → stepOf plan scripts (turn .quota) (worldWith state cache boxes log) ≡ activeStep plan (turn .quota) next (worldWith state cache boxes log)
+        → stepBy effectOf places plan scripts (turn .quota) (worldWith state cache boxes log) ≡ activeStepBy effectOf places plan next (worldWith state cache boxes log)
     step-chosen next is =
-        step-active plan scripts (turn .quota) (worldWith state cache boxes log) not-ended
-        ∙ ap (λ (t : Turn). activeStep plan (turn .quota) (nextStepOf scripts t) (worldWith state cache boxes log)) own-turn
-        ∙ ap (λ (n : ScriptItem). activeStep plan (turn .quota) n (worldWith state cache boxes log)) (sym is)
+        step-active places plan scripts (turn .quota) (worldWith state cache boxes log) not-ended
+        ∙ ap (λ (t : Turn). activeStepBy effectOf places plan (nextStepOf scripts t) (worldWith state cache boxes log)) own-turn
+        ∙ ap (λ (n : ScriptItem). activeStepBy effectOf places plan n (worldWith state cache boxes log)) (sym is)
 
     step-switches : End ≡ nextStepOf scripts turn
-        → stepOf plan scripts (turn .quota) (worldWith state cache boxes log) ≡ switchOf plan (worldWith state cache boxes log)
-    unfolding activeStep
+        → stepBy effectOf places plan scripts (turn .quota) (worldWith state cache boxes log) ≡ switchOf plan (worldWith state cache boxes log)
+    unfolding activeStepBy
     step-switches is = step-chosen End is
 
     -- one op
     op-runs : (op : Op) (clock : ℕ) (cache′ boxes′ log′ : List ℕ)
         → Fetch op ≡ nextStepOf scripts turn
-        → OpRan (viewOf rights masks) op turn clock cache boxes log cache′ boxes′ log′
-        → RunsTo plan scripts (turn .quota) 1 (worldWith state cache boxes log)
+        → OpRan (places (turn .owner)) (viewOf rights masks) op turn clock cache boxes log cache′ boxes′ log′
+        → RunsTo places plan scripts (turn .quota) 1 (worldWith state cache boxes log)
         (worldWith (turned state (turnAfter turn 1 clock)) cache′ boxes′ log′)
-    unfolding activeStep
+    unfolding activeStepBy
     op-runs op clock cache′ boxes′ log′ is did =
-        runs-one plan scripts (turn .quota) (worldWith state cache boxes log) _ not-ended
+        runs-one places plan scripts (turn .quota) (worldWith state cache boxes log) _ not-ended
         (step-chosen (Fetch op) is
-        ∙ ap (λ (d : ℕ). opStepOf plan (turn .quota) d op (worldWith state cache boxes log))
+        ∙ ap (λ (d : ℕ). opStepBy effectOf (places d) plan d op (worldWith state cache boxes log))
         (ap (windowOwner plan) (here .stands .windows-is) ∙ here .owner-is)
-        ∙ sym (op-step-view plan (turn .quota) (turn .owner) op (worldWith state cache boxes log))
-        ∙ ap₂ (λ (r m : List ℕ). opStepOf (viewOf r m) (turn .quota) (turn .owner) op (worldWith state cache boxes log)) (here .rights-are) (here .masks-are)
+        ∙ sym (op-step-view (places (turn .owner)) plan (turn .owner) op (worldWith state cache boxes log))
+        ∙ ap₂ (λ (r m : List ℕ). opStepBy effectOf (places (turn .owner)) (viewOf r m) (turn .owner) op (worldWith state cache boxes log)) (here .rights-are) (here .masks-are)
         ∙ sym (did .world state (here .stands)))
 
 -- some ops of a window are done: as many steps lead to the state that they left, and the turn is that state's
-abbrev pub Done : Plan → List ℕ → List ℕ → List ℕ → ℕ → ℕ → Turn → World → State → List ℕ → List ℕ → List ℕ → Type 0
-Done plan scripts rights masks quota steps turn before state cache boxes log =
-    RunsTo plan scripts quota steps before (worldWith state cache boxes log) × InTurn plan rights masks state turn
+abbrev pub Done : (ℕ → Place) → Plan → List ℕ → List ℕ → List ℕ → ℕ → ℕ → Turn → World → State → List ℕ → List ℕ → List ℕ → Type 0
+Done places plan scripts rights masks quota steps turn before state cache boxes log =
+    RunsTo places plan scripts quota steps before (worldWith state cache boxes log) × InTurn plan rights masks state turn
 
 -- a turn that has come to a clock, a position and a number of records
 abbrev turnStands : Turn → ℕ → ℕ → ℕ → Turn
@@ -138,7 +140,7 @@ after-more turn ops clock clock′ =
 
 -- what holds each time the loop comes round
 pub record Turning
-    (rights masks scripts : List ℕ) (most : ℕ) (first : Turn)
+    (rights masks scripts : List ℕ) (most : ℕ) (place : Place) (first : Turn)
     (cache₀ boxes₀ log₀ cache boxes log : List ℕ) (steps clock : ℕ) : Type 0 where
   pub within : steps ≤ most
   pub late : clock ≤ first .end + (dearestOp - 1)
@@ -146,19 +148,20 @@ pub record Turning
   pub boxes-long : length boxes ≡ length boxes₀
   pub log-long : length log ≡ length log₀
   pub done :
-      (plan : Plan) (state : State)
+      (places : ℕ → Place) (plan : Plan) (state : State)
+      → places (first .owner) ≡ place
       → InTurn plan rights masks state first
-      → Done plan scripts rights masks (first .quota) steps (turnAfter first steps clock)
+      → Done places plan scripts rights masks (first .quota) steps (turnAfter first steps clock)
       (worldWith state cache₀ boxes₀ log₀)
       (turned state (turnAfter first steps clock)) cache boxes log
 
 module _
-    (rights masks scripts : List ℕ) (most : ℕ) (first : Turn) (cache₀ boxes₀ log₀ : List ℕ) where
+    (rights masks scripts : List ℕ) (most : ℕ) (place : Place) (first : Turn) (cache₀ boxes₀ log₀ : List ℕ) where
   -- before the first op
   pub turn-first : first .clock ≤ first .end + (dearestOp - 1)
-      → Turning rights masks scripts most first cache₀ boxes₀ log₀ cache₀ boxes₀ log₀
+      → Turning rights masks scripts most place first cache₀ boxes₀ log₀ cache₀ boxes₀ log₀
       0 (first .clock)
-  unfolding runOf
+  unfolding runBy
   turn-first late =
       record {
         within = omega arith;
@@ -166,23 +169,23 @@ module _
         cache-long = refl;
         boxes-long = refl;
         log-long = refl;
-        done = λ plan state begins.
+        done = λ places plan state placed begins.
             let before = worldWith state cache₀ boxes₀ log₀ in
             subst
             (λ (t : Turn).
-            Done plan scripts rights masks (first .quota) 0 t before (turned state t)
+            Done places plan scripts rights masks (first .quota) 0 t before (turned state t)
             cache₀ boxes₀ log₀)
             (sym (after-none first))
             (subst
             (λ (s : State).
-            Done plan scripts rights masks (first .quota) 0 first before s cache₀ boxes₀ log₀)
+            Done places plan scripts rights masks (first .quota) 0 first before s cache₀ boxes₀ log₀)
             (sym (turned-same state first (begins .stands)))
             (refl, begins));
       }
 
   module _ (cache boxes log : List ℕ) (steps clock : ℕ)
       (turning :
-      Turning rights masks scripts most first cache₀ boxes₀ log₀ cache boxes log steps clock) where
+      Turning rights masks scripts most place first cache₀ boxes₀ log₀ cache boxes log steps clock) where
     abbrev turn : Turn
     turn = turnAfter first steps clock
 
@@ -191,11 +194,11 @@ module _
         (op : Op) (clock′ : ℕ) (cache′ boxes′ log′ : List ℕ)
         → steps < most
         → Fetch op ≡ nextStepOf scripts turn
-        → OpRan (viewOf rights masks) op turn clock′ cache boxes log cache′ boxes′ log′
+        → OpRan place (viewOf rights masks) op turn clock′ cache boxes log cache′ boxes′ log′
         → length cache′ ≡ length cache
         → length boxes′ ≡ length boxes
         → length log′ ≡ length log
-        → Turning rights masks scripts most first cache₀ boxes₀ log₀ cache′ boxes′ log′
+        → Turning rights masks scripts most place first cache₀ boxes₀ log₀ cache′ boxes′ log′
         (steps + 1) clock′
     turn-more op clock′ cache′ boxes′ log′ more is ran same-cache same-boxes same-log =
         record {
@@ -204,23 +207,23 @@ module _
           cache-long = same-cache ∙ turning .cache-long;
           boxes-long = same-boxes ∙ turning .boxes-long;
           log-long = same-log ∙ turning .log-long;
-          done = λ plan state begins.
-              let so-far = turning .done plan state begins in
+          done = λ places plan state placed begins.
+              let so-far = turning .done places plan state placed begins in
               let before = worldWith state cache₀ boxes₀ log₀ in
               subst
               (λ (t : Turn).
-              Done plan scripts rights masks (first .quota) (steps + 1) t before (turned state t)
+              Done places plan scripts rights masks (first .quota) (steps + 1) t before (turned state t)
               cache′ boxes′ log′)
               (after-more first steps clock clock′)
               (subst
               (λ (s : State).
-              Done plan scripts rights masks (first .quota) (steps + 1) (turnAfter turn 1 clock′)
+              Done places plan scripts rights masks (first .quota) (steps + 1) (turnAfter turn 1 clock′)
               before s cache′ boxes′ log′)
               (turned-twice state turn clock′) (
-                runs-on plan scripts (first .quota) steps 1 before
+                runs-on places plan scripts (first .quota) steps 1 before
                     (worldWith (turned state turn) cache boxes log) _ (so-far .0)
                     (op-runs plan scripts rights masks (turned state turn) turn (so-far .1)
-                    cache boxes log op clock′ cache′ boxes′ log′ is ran),
+                    places cache boxes log op clock′ cache′ boxes′ log′ is (rw placed ran)),
                 next-turn plan scripts rights masks (turned state turn) turn (so-far .1) clock′,
               ));
         }
@@ -228,10 +231,11 @@ module _
     -- a switch is next
     pub turn-ends :
         End ≡ nextStepOf scripts turn
-        → (plan : Plan) (state : State)
+        → (places : ℕ → Place) (plan : Plan) (state : State)
+        → places (first .owner) ≡ place
         → InTurn plan rights masks state first
-        → stepOf plan scripts (first .quota) (worldWith (turned state turn) cache boxes log)
+        → stepBy effectOf places plan scripts (first .quota) (worldWith (turned state turn) cache boxes log)
         ≡ switchOf plan (worldWith (turned state turn) cache boxes log)
-    turn-ends is plan state begins =
+    turn-ends is places plan state placed begins =
         step-switches plan scripts rights masks (turned state turn) turn
-        (turning .done plan state begins .1) cache boxes log is
+        (turning .done places plan state placed begins .1) places cache boxes log is

@@ -2,3 +2,4 @@ pub mod Fresh
 pub mod Switch
 pub mod Steps
 pub mod View
+pub mod Keeping

@@ -1,4 +1,6 @@
--- Document 01, "Window, switch, run": one step, n steps, a run under a limit. Assumes nothing.
+-- Document 01, "Window, switch, run", and document 02, E8: one step, n steps, a run under a limit.
+-- The step is defined once, over what an op does and where each domain's records go. Assumes
+-- nothing.
 use Prim.Native.Nat.{ℕ, zero, suc, _+_}
 use mathlib.Core.Bool.{Bool, true, false, cond, _||_}
 use mathlib.Core.List.{List}
@@ -10,39 +12,19 @@ use Rattle.script.specs.declared.Op.{Op}
 use Rattle.script.specs.declared.ScriptItem.{ScriptItem}
 use Rattle.script.specs.declared.ScriptItem.the-variants.{Op as Fetch, End}
 use Rattle.script.specs.Fetch.{fetchOf}
-use Rattle.records.specs.Records.{recordStored}
+use Rattle.records.specs.declared.Keep.{Keep}
+use Rattle.records.specs.declared.Place.{Place}
+use Rattle.records.specs.Records.{inParts, placesOf, storedAt}
 use Rattle.ops.specs.Ops.{Effect, effectOf}
 use Rattle.state.specs.declared.State.{State}
 use Rattle.state.specs.World.{World, endedOf, positionAt, recordsAt, runningOf}
 use Rattle.machine.specs.declared.Turn.{Turn}
 use Rattle.machine.specs.Switch.{switchOf}
 
--- what an op of a domain leaves of a world, by its effect: the next position, one record more, the
--- clock after the op, and the effect's cache table and boxes. What its accesses put out is no part of
--- a world. Here and below, `quota` is the number of records that each domain's part of the log holds.
-abbrev pub afterEffect : ℕ → ℕ → Effect → World → World
-afterEffect quota domain effect world =
-    let clock = world .state .clock + effect .ticks in
-    let count = recordsAt (world .state) domain in
-    record {
-      state =
-          record {
-            windows = world .state .windows;
-            clock = clock;
-            positions = set (world .state .positions) domain (positionAt (world .state) domain + 1);
-            records = set (world .state .records) domain (count + 1);
-          };
-      cache = effect .cache;
-      boxes = effect .boxes;
-      log = recordStored quota domain count (effect .seen) clock (world .log);
-    }
+-- ---- which step is next
 
--- one op of a domain
-unfoldable pub opStepOf : Plan → ℕ → ℕ → Op → World → World
-opStepOf plan quota domain op world =
-    afterEffect quota domain (effectOf plan domain op (world .cache) (world .boxes)) world
-
--- where the running domain stands in its window
+-- where the running domain stands in its window. Here and below, `quota` is the number of records
+-- that each domain has room for.
 abbrev pub turnOf : Plan → ℕ → State → Turn
 turnOf plan quota state =
     record {
@@ -73,18 +55,7 @@ switchDue scripts turn =
 unfoldable pub nextStepOf : List ℕ → Turn → ScriptItem
 nextStepOf scripts turn = cond (switchDue scripts turn) End (nextItem scripts turn)
 
--- what that step leaves
-unfoldable pub activeStep : Plan → ℕ → ScriptItem → World → World
-activeStep plan quota (Fetch op) world = opStepOf plan quota (runningOf plan (world .state)) op world
-activeStep plan quota End world = switchOf plan world
-
--- one step; an ended run stays as it is
-unfoldable pub stepOf : Plan → List ℕ → ℕ → World → World
-stepOf plan scripts quota world =
-    elim (endedOf plan (world .state)) [
-      | true ↦ world
-      | false ↦ activeStep plan quota (nextStepOf scripts (turnOf plan quota (world .state))) world
-    ]
+-- ---- what a step leaves
 
 -- what a run under a limit leaves, with the number of steps done
 pub record RunEffect : Type 0 where
@@ -95,15 +66,84 @@ pub record RunEffect : Type 0 where
 abbrev pub oneMore : RunEffect → RunEffect
 oneMore ran = record { done = ran .done + 1; world = ran .world }
 
--- a run does as many steps as its limit allows, fewer only where it comes to its end
-unfoldable pub runOf : Plan → List ℕ → ℕ → ℕ → World → RunEffect
-runOf plan scripts quota zero world = record { done = 0; world = world }
-runOf plan scripts quota (suc limit) world =
-    elim (endedOf plan (world .state)) [
-      | true ↦ record { done = 0; world = world }
-      | false ↦ oneMore (runOf plan scripts quota limit (stepOf plan scripts quota world))
-    ]
+-- what an op of a domain leaves of a world, by its effect: the next position, one record more, the
+-- clock after the op, and the effect's cache table and boxes. The record goes where the domain's
+-- records go; it is counted also where that is nowhere. What the op's accesses put out is no part of
+-- a world.
+abbrev pub afterEffect : Place → ℕ → Effect → World → World
+afterEffect place domain effect world =
+    let clock = world .state .clock + effect .ticks in
+    let count = recordsAt (world .state) domain in
+    record {
+      state =
+          record {
+            windows = world .state .windows;
+            clock = clock;
+            positions = set (world .state .positions) domain (positionAt (world .state) domain + 1);
+            records = set (world .state .records) domain (count + 1);
+          };
+      cache = effect .cache;
+      boxes = effect .boxes;
+      log = storedAt place count (effect .seen) clock (world .log);
+    }
 
--- the world after n steps, or after the last switch where these are fewer: what a run leaves whose limit is n
+-- over what an op of a domain does
+module _ (effect : Plan → ℕ → Op → List ℕ → List ℕ → Effect) where
+  -- one op of a domain, whose records go to a place
+  unfoldable pub opStepBy : Place → Plan → ℕ → Op → World → World
+  opStepBy place plan domain op world =
+      afterEffect place domain (effect plan domain op (world .cache) (world .boxes)) world
+
+  -- and over where each domain's records go
+  module _ (places : ℕ → Place) where
+    -- what the next step in a window leaves
+    unfoldable pub activeStepBy : Plan → ScriptItem → World → World
+    activeStepBy plan (Fetch op) world =
+        let domain = runningOf plan (world .state) in
+        opStepBy (places domain) plan domain op world
+    activeStepBy plan End world = switchOf plan world
+
+    -- one step; an ended run stays as it is
+    unfoldable pub stepBy : Plan → List ℕ → ℕ → World → World
+    stepBy plan scripts quota world =
+        elim (endedOf plan (world .state)) [
+          | true ↦ world
+          | false ↦ activeStepBy plan (nextStepOf scripts (turnOf plan quota (world .state))) world
+        ]
+
+    -- a run does as many steps as its limit allows, fewer only where it comes to its end
+    unfoldable pub runBy : Plan → List ℕ → ℕ → ℕ → World → RunEffect
+    runBy plan scripts quota zero world = record { done = 0; world = world }
+    runBy plan scripts quota (suc limit) world =
+        elim (endedOf plan (world .state)) [
+          | true ↦ record { done = 0; world = world }
+          | false ↦ oneMore (runBy plan scripts quota limit (stepBy plan scripts quota world))
+        ]
+
+    -- the world after n steps, or after the last switch where these are fewer: what a run leaves
+    -- whose limit is n
+    abbrev pub stepsBy : Plan → List ℕ → ℕ → ℕ → World → World
+    stepsBy plan scripts quota count world = runBy plan scripts quota count world .world
+
+-- ---- the machine
+
+-- a run, by whose records are kept
+abbrev pub runKeeping : Keep → Plan → List ℕ → ℕ → ℕ → World → RunEffect
+runKeeping keep plan scripts quota = runBy effectOf (placesOf keep quota) plan scripts quota
+
+-- document 01's runs keep every domain's, each in its part of the log: one op, the next step in a
+-- window, one step, a run, n steps
+abbrev pub opStepOf : Plan → ℕ → ℕ → Op → World → World
+opStepOf plan quota domain = opStepBy effectOf (inParts quota domain) plan domain
+
+abbrev pub activeStep : Plan → ℕ → ScriptItem → World → World
+activeStep plan quota = activeStepBy effectOf (inParts quota) plan
+
+abbrev pub stepOf : Plan → List ℕ → ℕ → World → World
+stepOf plan scripts quota = stepBy effectOf (inParts quota) plan scripts quota
+
+abbrev pub runOf : Plan → List ℕ → ℕ → ℕ → World → RunEffect
+runOf plan scripts quota = runBy effectOf (inParts quota) plan scripts quota
+
 abbrev pub steps : Plan → List ℕ → ℕ → ℕ → World → World
-steps plan scripts quota count world = runOf plan scripts quota count world .world
+steps plan scripts quota = stepsBy effectOf (inParts quota) plan scripts quota

@@ -9,11 +9,13 @@ use Rattle.plan.specs.Limits.{dearestOp}
 use Rattle.plan.specs.Windows.{windowEnd, windowOwner, windowsTotal}
 use Rattle.script.specs.declared.Op.{Op}
 use Rattle.script.specs.Limits.{mostOps}
+use Rattle.records.specs.declared.Place.{Place}
+use Rattle.ops.specs.Ops.{effectOf}
 use Rattle.state.specs.declared.State.{State}
 use Rattle.state.specs.World.{World, positionAt, recordsAt}
 use Rattle.machine.specs.declared.Turn.{Turn}
 use Rattle.machine.specs.declared.WindowProgress.{WindowProgress}
-use Rattle.machine.specs.Steps.{RunEffect, opStepOf, runOf, stepOf}
+use Rattle.machine.specs.Steps.{RunEffect, opStepBy, runBy, stepBy}
 use Rattle.machine.specs.Switch.{switchOf}
 
 -- clocks, windows' ends and pads stay below this number, so that no sum of a few of them wraps
@@ -29,8 +31,9 @@ abbrev pub ranWith : ℕ → World → RunEffect
 ranWith steps world = record { done = steps; world = world }
 
 -- n steps lead from one world to another, all of them before the run's end
-abbrev pub RunsTo : Plan → List ℕ → ℕ → ℕ → World → World → Type 0
-RunsTo plan scripts quota steps before after = ranWith steps after ≡ runOf plan scripts quota steps before
+abbrev pub RunsTo : (ℕ → Place) → Plan → List ℕ → ℕ → ℕ → World → World → Type 0
+RunsTo places plan scripts quota steps before after =
+    ranWith steps after ≡ runBy effectOf places plan scripts quota steps before
 
 -- a state with the windows, the clock, the position and the number of records that a turn has come to
 abbrev pub turned : State → Turn → State
@@ -84,14 +87,14 @@ pub record Stands (state : State) (turn : Turn) : Type 0 where
 
 -- what an op leaves, with the clock after it
 pub record OpRan
-    (view : Plan) (op : Op) (turn : Turn) (clock : ℕ)
+    (place : Place) (view : Plan) (op : Op) (turn : Turn) (clock : ℕ)
     (cache boxes log cache′ boxes′ log′ : List ℕ) : Type 0 where
   pub ticks : clock ≤ turn .clock + dearestOp
   pub world :
       (state : State)
       → Stands state turn
       → worldWith (turned state (turnAfter turn 1 clock)) cache′ boxes′ log′
-      ≡ opStepOf view (turn .quota) (turn .owner) op (worldWith state cache boxes log)
+      ≡ opStepBy effectOf place view (turn .owner) op (worldWith state cache boxes log)
 
 -- the turn of a state in a run that has not ended, beside the plan's recipients and masks
 pub record InTurn (plan : Plan) (rights masks : List ℕ) (state : State) (turn : Turn) : Type 0 where
@@ -103,9 +106,11 @@ pub record InTurn (plan : Plan) (rights masks : List ℕ) (state : State) (turn 
   pub stands : Stands state turn
 
 -- what the ops of a window leave: as many steps lead there, and where they are fewer than the limit a switch is next
-pub record WindowRan (plan : Plan) (scripts : List ℕ) (quota limit steps : ℕ) (before after : World) : Type 0 where
-  pub ran : RunsTo plan scripts quota steps before after
-  pub due : steps < limit → stepOf plan scripts quota after ≡ switchOf plan after
+pub record WindowRan
+    (places : ℕ → Place) (plan : Plan) (scripts : List ℕ) (quota limit steps : ℕ)
+    (before after : World) : Type 0 where
+  pub ran : RunsTo places plan scripts quota steps before after
+  pub due : steps < limit → stepBy effectOf places plan scripts quota after ≡ switchOf plan after
 
 -- a window's ops and its switch, where the limit allows it: as many steps lead there
 pub record TurnRan (limit pad : ℕ) (turn : Turn) (progress : WindowProgress) : Type 0 where

@@ -8,6 +8,9 @@ use ops::operate;
 use plan::Plan;
 use plan::timing::window_start;
 use plan::timing::windows_total;
+use records::Keep;
+use records::Place;
+use records::place_of;
 use records::store_record;
 use script::Op;
 use script::ScriptItem;
@@ -16,16 +19,17 @@ use script::limits::MOST_OPS;
 use state::State;
 ghost use mathlib.Core.Path.{_≡_};
 ghost use mathlib.Core.Bool.{true};
-ghost use Prim.Native.Nat.{_+_, _*_, _%_, _-_, _<_, _≤_, max, min};
+ghost use Prim.Native.Nat.{ℕ, _+_, _%_, _-_, _<_, _≤_, max, min};
 ghost use lib.ListN.{length};
 ghost use Rattle.plan.specs.Limits.{dearestOp, leastPad, mostDomains, mostPad};
 ghost use Rattle.plan.specs.Validity.{planValid};
 ghost use Rattle.script.specs.Limits.{OpWithinLimits, mostOps, scriptsLength};
 ghost use Rattle.cache.specs.Lines.{tableLength};
+ghost use Rattle.records.specs.Records.{placeEnd, placesOf};
 ghost use Rattle.ops.specs.Ops.{boxesLength};
 ghost use Rattle.ops.specs.View.{viewOf};
 ghost use Rattle.state.specs.StateValidity.{stateValid};
-ghost use Rattle.machine.specs.Steps.{nextStepOf, runOf};
+ghost use Rattle.machine.specs.Steps.{nextStepOf, runKeeping};
 ghost use Rattle.machine.specs.Switch.{flushedClock, paddedClock, switchedCache};
 ghost use Rattle.machine.specs.View.{InTurn, OpRan, RunsTo, TurnRan, WindowRan, clockBound};
 ghost use Rattle.machine.specs.View.{opsAllowed, ranWith, turnAfter, turnMoved, turned};
@@ -84,11 +88,12 @@ fn next_step(scripts: &[u32], first: Turn, steps: u64, clock: u64) -> ScriptItem
     fetch(scripts, first.owner, first.position + steps)
 }
 
-// One op of the running domain, with its record stored. Answers the clock after it.
+// One op of the running domain, with its record stored at its place. Answers the clock after it.
 fn op_step(
     rights: &[u32; 8],
     masks: &[u16; 8],
     op: Op,
+    place: Place,
     first: Turn,
     steps: u64,
     clock: u64,
@@ -98,8 +103,8 @@ fn op_step(
 ) -> u64
     requires { ⌜ (first .owner < mostDomains) × OpWithinLimits op × (clock ≤ clockBound)
         × (length (now cache) ≡ tableLength) × (length (now boxes) ≡ boxesLength)
-        × (8 * (first .quota * first .owner + (first .records + steps)) + 8 ≤ length (now log)) ⌝ }
-    ensures { λ r. ⌜ OpRan (viewOf (now (rights .entry)) (now (masks .entry))) op
+        × (first .records + steps < first .quota) × (placeEnd place (first .quota) ≤ length (now log)) ⌝ }
+    ensures { λ r. ⌜ OpRan place (viewOf (now (rights .entry)) (now (masks .entry))) op
         (turnAfter first steps clock) r
         (now (cache .entry)) (now (boxes .entry)) (now (log .entry))
         (now (cache .exit)) (now (boxes .exit)) (now (log .exit)) ⌝ }
@@ -108,14 +113,7 @@ fn op_step(
     let done = operate(rights, masks, owner, op, cache, boxes);
     let after = clock + done.ticks;
     let seen = done.seen;
-    store_record(
-        log,
-        first.quota,
-        owner as u64,
-        first.records + steps,
-        seen,
-        after,
-    );
+    store_record(log, place, first.records + steps, seen, after);
     after
 }
 
@@ -126,6 +124,7 @@ fn run_window(
     masks: &[u16; 8],
     scripts: &[u32],
     limit: u64,
+    place: Place,
     first: Turn,
     cache: &mut [u16],
     boxes: &mut [u32],
@@ -133,11 +132,13 @@ fn run_window(
 ) -> WindowProgress
     requires { ⌜ (first .owner < mostDomains) × (first .clock ≤ first .end + (dearestOp - 1)) × (first .end ≤ clockBound)
         × (length (now scripts) ≡ scriptsLength) × (length (now cache) ≡ tableLength) × (length (now boxes) ≡ boxesLength)
-        × (8 * (first .quota * first .owner + first .quota) ≤ length (now log)) ⌝ }
+        × (placeEnd place (first .quota) ≤ length (now log)) ⌝ }
     ensures { λ r. ⌜ (r .steps ≤ limit) × (r .turn ≡ turnMoved first (r .turn))
-        × (r .turn .clock ≤ first .end + (dearestOp - 1)) × ((plan : Plan) (state : State)
+        × (r .turn .clock ≤ first .end + (dearestOp - 1))
+        × ((places : ℕ → Place) (plan : Plan) (state : State)
+        → places (first .owner) ≡ place
         → InTurn plan (now (rights .entry)) (now (masks .entry)) state first
-        → WindowRan plan (now (scripts .entry)) (first .quota) limit (r .steps)
+        → WindowRan places plan (now (scripts .entry)) (first .quota) limit (r .steps)
         (worldWith state (now (cache .entry)) (now (boxes .entry)) (now (log .entry)))
         (worldWith (turned state (r .turn)) (now (cache .exit)) (now (boxes .exit)) (now (log .exit)))) ⌝ }
 {
@@ -149,7 +150,18 @@ fn run_window(
         let ScriptItem::Op(op) = next else {
             break;
         };
-        clock = op_step(rights, masks, op, first, steps, clock, cache, boxes, log);
+        clock = op_step(
+            rights,
+            masks,
+            op,
+            place,
+            first,
+            steps,
+            clock,
+            cache,
+            boxes,
+            log,
+        );
         steps += 1;
     }
     WindowProgress {
@@ -173,6 +185,7 @@ fn run_turn(
     scripts: &[u32],
     pad: u64,
     limit: u64,
+    place: Place,
     first: Turn,
     cache: &mut [u16],
     boxes: &mut [u32],
@@ -181,15 +194,27 @@ fn run_turn(
     requires { ⌜ (leastPad ≤ pad) × (pad ≤ mostPad) × (0 < limit) × (first .windows ≤ clockBound)
         × (first .owner < mostDomains) × (first .clock ≤ first .end + (dearestOp - 1)) × (first .end ≤ clockBound)
         × (length (now scripts) ≡ scriptsLength) × (length (now cache) ≡ tableLength) × (length (now boxes) ≡ boxesLength)
-        × (8 * (first .quota * first .owner + first .quota) ≤ length (now log)) ⌝ }
-    ensures { λ r. ⌜ TurnRan limit pad first r × ((plan : Plan) (state : State)
+        × (placeEnd place (first .quota) ≤ length (now log)) ⌝ }
+    ensures { λ r. ⌜ TurnRan limit pad first r
+        × ((places : ℕ → Place) (plan : Plan) (state : State)
+        → places (first .owner) ≡ place
         → InTurn plan (now (rights .entry)) (now (masks .entry)) state first
         → plan .pad ≡ pad
-        → RunsTo plan (now (scripts .entry)) (first .quota) (r .steps)
+        → RunsTo places plan (now (scripts .entry)) (first .quota) (r .steps)
         (worldWith state (now (cache .entry)) (now (boxes .entry)) (now (log .entry)))
         (worldWith (turned state (r .turn)) (now (cache .exit)) (now (boxes .exit)) (now (log .exit)))) ⌝ }
 {
-    let ran = run_window(rights, masks, scripts, limit, first, cache, boxes, log);
+    let ran = run_window(
+        rights,
+        masks,
+        scripts,
+        limit,
+        place,
+        first,
+        cache,
+        boxes,
+        log,
+    );
     if limit <= ran.steps {
         return ran;
     }
@@ -220,10 +245,11 @@ fn next_slot(slot: usize, declared: usize) -> usize
 
 // Steps up to a limit, or to the run's end, window by window. Only the first window's start is
 // worked out, and which declared window it is: a switch leaves the clock at the next one's start,
-// and declared windows follow in order.
+// and declared windows follow in order. Where a domain's records go is looked up once a window.
 pub fn run_steps(
     plan: Plan,
     scripts: &[u32],
+    keep: Keep,
     quota: u64,
     limit: u64,
     state: State,
@@ -233,9 +259,11 @@ pub fn run_steps(
 ) -> Advance
     requires { ⌜ (planValid plan ≡ true) × (stateValid plan quota state ≡ true)
         × (length (now scripts) ≡ scriptsLength) × (length (now cache) ≡ tableLength) × (length (now boxes) ≡ boxesLength)
-        × (8 * (quota * plan .domains) ≤ length (now log)) ⌝ }
+        × ((domain : ℕ)
+        → domain < plan .domains
+        → placeEnd (placesOf keep quota domain) quota ≤ length (now log)) ⌝ }
     ensures { λ r. ⌜ ranWith (r .steps) (worldWith (r .state) (now (cache .exit)) (now (boxes .exit)) (now (log .exit)))
-        ≡ runOf plan (now (scripts .entry)) quota limit
+        ≡ runKeeping keep plan (now (scripts .entry)) quota limit
         (worldWith state (now (cache .entry)) (now (boxes .entry)) (now (log .entry))) ⌝ }
 {
     let rights = plan.rights;
@@ -249,6 +277,7 @@ pub fn run_steps(
     let mut slot = (state.windows % declared as u64) as usize;
     while (steps < limit) & (present.windows < total) {
         let owner = plan.owners[slot] as usize;
+        let place = place_of(keep, quota, owner as u64);
         let turn = Turn {
             windows: present.windows,
             owner,
@@ -264,6 +293,7 @@ pub fn run_steps(
             scripts,
             pad,
             limit - steps,
+            place,
             turn,
             cache,
             boxes,

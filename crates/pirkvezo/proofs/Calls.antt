@@ -9,22 +9,29 @@ use lib.Dec.{eqb}
 use lib.ListN.{length}
 use borrow.Author.Tests.{eqb-true}
 use Rattle.plan.specs.declared.Plan.{Plan}
+use Rattle.plan.specs.Validity.{planValid}
 use Rattle.state.specs.declared.State.{State}
+use Rattle.state.specs.World.{World}
 use Rattle.machine.specs.View.{worldWith}
 use Rattle.refusal.specs.declared.Verdict.{Verdict}
 use Rattle.reader.specs.Read.{readOf}
 use Rattle.engine.specs.declared.Ending.{Ending}
 use Rattle.engine.specs.Answers.{answered, freshWith as engineFresh}
 use Rattle.engine.specs.FreshStart.{FreshOutcome, freshStartOf}
-use Rattle.engine.specs.Running.{RunOutcome, endingNumber, runCallOf}
+use Rattle.engine.specs.declared.LentLog.{LentLog}
+use Rattle.engine.specs.declared.LentLog.the-variants.{Part, Whole}
+use Rattle.engine.specs.LentLog.{lentCallOf}
+use Rattle.engine.specs.Running.{RunOutcome, endingNumber, stepCallOf}
+use Rattle.engine.proofs.Verdicts.{part-called, whole-called}
 use Rattle.pirkvezo.specs.declared.LogAnswer.{LogAnswer}
 use Rattle.pirkvezo.specs.Answers.{allFit, answerLength, answerOf, planFits, verdictNumber, wrongLength}
 use Rattle.pirkvezo.specs.LogQuery.{logAnswerOf, hostLog, logDone, hostLogWith}
 use Rattle.pirkvezo.specs.Numbers.{handedPlan, planLength, planNumbers, planOf, stateLength, stateNumbers, stateOf}
 use Rattle.pirkvezo.specs.Reading.{hostRead, readDone, hostReadWith}
-use Rattle.pirkvezo.specs.Running.{hostRun, runDone, hostRunWith}
+use Rattle.pirkvezo.specs.Running.{RunCall, hostRun, hostRunBy, hostRunWith, hostStep, runDone}
+use Rattle.pirkvezo.specs.Keeping.{hostRunKept}
 use Rattle.pirkvezo.specs.Starting.{freshDone, hostFreshWith, hostFreshStart}
-use Rattle.pirkvezo.proofs.Judged.{query-alike, fresh-alike, handed, run-alike}
+use Rattle.pirkvezo.proofs.Judged.{fresh-alike, handed, query-alike}
 
 -- the number that is returned, and the answer that is written
 pub record Told (verdict : Verdict) (third fourth : ℕ) (answer : List ℕ) (number : ℕ) (written : List ℕ) : Type 0 where
@@ -107,36 +114,60 @@ module _ (plan state cache boxes answer : List ℕ) (number : ℕ) (written : Li
       ∙ handed (λ p. freshStartOf p (stateOf state) cache boxes) (fresh-alike (stateOf state) cache boxes) plan in
       rw (fit, hostFreshStart, tells .number-is, tells .answer-is, stores) (ap (λ (fresh : FreshOutcome). freshDone fresh answer) done)
 
--- ---- a run
+-- ---- a run, by what its entry point does
 
-module _ (plan scripts state cache boxes log : List ℕ) (limit : ℕ) (answer : List ℕ) (number : ℕ) (written : List ℕ) where
+module _ (run : Plan → World → RunOutcome) (plan state cache boxes log answer : List ℕ) (number : ℕ) (written : List ℕ) where
   pub run-unfit :
       allFit plan state answer ≡ false
       → Told wrongLength 0 0 answer number written
-      → hostRunWith number state cache boxes log written ≡ hostRun plan scripts state cache boxes log limit answer
-  unfolding hostRun
-  run-unfit unfit tells = rw (unfit, hostRun, tells .number-is, tells .answer-is) refl
+      → hostRunWith number state cache boxes log written ≡ hostRunBy run plan state cache boxes log answer
+  unfolding hostRunBy
+  run-unfit unfit tells = rw (unfit, hostRunBy, tells .number-is, tells .answer-is) refl
 
   pub run-fit :
-      (lent : Plan) (before left : State) (verdict : Verdict) (steps ended : ℕ) (ending : Ending) (stored cache′ boxes′ log′ : List ℕ)
+      ((world : World) (one other : Plan) → planValid one ≡ false → planValid other ≡ false → run one world ≡ run other world)
+      → (lent : Plan) (before left : State) (verdict : Verdict) (steps ended : ℕ) (ending : Ending) (stored cache′ boxes′ log′ : List ℕ)
       → allFit plan state answer ≡ true
       → lent ≡ handedPlan plan
       → before ≡ stateOf state
-      → answered verdict steps ending (worldWith left cache′ boxes′ log′) ≡ runCallOf lent scripts (worldWith before cache boxes log) limit
+      → answered verdict steps ending (worldWith left cache′ boxes′ log′) ≡ run lent (worldWith before cache boxes log)
       → ended ≡ endingNumber ending
       → stored ≡ stateNumbers left
       → Told verdict steps ended answer number written
-      → hostRunWith number stored cache′ boxes′ log′ written ≡ hostRun plan scripts state cache boxes log limit answer
-  unfolding hostRun runDone
-  run-fit lent before left verdict steps ended ending stored cache′ boxes′ log′ fit planned stated did ends stores tells =
+      → hostRunWith number stored cache′ boxes′ log′ written ≡ hostRunBy run plan state cache boxes log answer
+  unfolding hostRunBy runDone
+  run-fit alike lent before left verdict steps ended ending stored cache′ boxes′ log′ fit planned stated did ends stores tells =
       let done : answered verdict steps ending (worldWith left cache′ boxes′ log′)
-      ≡ runCallOf (planOf plan) scripts (worldWith (stateOf state) cache boxes log) limit =
+      ≡ run (planOf plan) (worldWith (stateOf state) cache boxes log) =
       did
-      ∙ ap (λ (p : Plan). runCallOf p scripts (worldWith before cache boxes log) limit) planned
-      ∙ ap (λ (s : State). runCallOf (handedPlan plan) scripts (worldWith s cache boxes log) limit) stated
-      ∙ handed (λ p. runCallOf p scripts (worldWith (stateOf state) cache boxes log) limit)
-      (run-alike scripts (worldWith (stateOf state) cache boxes log) limit) plan in
-      rw (fit, hostRun, tells .number-is, tells .answer-is, stores, ends) (ap (λ (run : RunOutcome). runDone run answer) done)
+      ∙ ap (λ (p : Plan). run p (worldWith before cache boxes log)) planned
+      ∙ ap (λ (s : State). run (handedPlan plan) (worldWith s cache boxes log)) stated
+      ∙ handed (λ p. run p (worldWith (stateOf state) cache boxes log)) (alike (worldWith (stateOf state) cache boxes log)) plan in
+      rw (fit, hostRunBy, tells .number-is, tells .answer-is, stores, ends) (ap (λ (outcome : RunOutcome). runDone outcome answer) done)
+
+-- what the C functions do is that, with the log that each is lent
+module _ (plan scripts state cache boxes log : List ℕ) where
+  -- the numbers of a running by the log that it is lent
+  abbrev numbersBy : LentLog → ℕ → List ℕ → RunCall
+  numbersBy lent limit =
+      hostRunBy (λ (given : Plan) (world : World). lentCallOf lent given scripts world limit) plan state cache boxes log
+
+  pub run-numbers : (limit : ℕ) (answer : List ℕ)
+      → numbersBy Whole limit answer ≡ hostRun plan scripts state cache boxes log limit answer
+  unfolding hostRun
+  run-numbers limit answer = λ i.
+      hostRunBy (λ (given : Plan) (world : World). whole-called given scripts world limit i) plan state cache boxes log answer
+
+  pub step-numbers : (answer : List ℕ) → numbersBy Whole 1 answer ≡ hostStep plan scripts state cache boxes log answer
+  unfolding hostStep stepCallOf
+  step-numbers answer = λ i.
+      hostRunBy (λ (given : Plan) (world : World). whole-called given scripts world 1 i) plan state cache boxes log answer
+
+  pub kept-numbers : (domain quota limit : ℕ) (answer : List ℕ)
+      → numbersBy (Part domain quota) limit answer ≡ hostRunKept plan scripts state cache boxes log domain quota limit answer
+  unfolding hostRunKept
+  kept-numbers domain quota limit answer = λ i.
+      hostRunBy (λ (given : Plan) (world : World). part-called given scripts domain quota world limit i) plan state cache boxes log answer
 
 -- ---- a log query
 

@@ -2,21 +2,30 @@
 -- another: so the plan that is handed on is judged as
 -- the lent numbers are. Assumes nothing.
 use mathlib.Core.Path.{_≡_, refl, sym, _∙_}
-use mathlib.Core.Bool.{Bool, true, false, cond, false≢true}
+use mathlib.Core.Bool.{Bool, true, false, cond, false≢true, _&&_}
 use mathlib.Core.List.{List}
 use Prim.Native.Nat.{ℕ}
+use lib.Dec.{eqb}
+use lib.ListN.{length}
 use borrow.Author.Tests.{le-leb}
 use Rattle.plan.specs.declared.Plan.{Plan}
 use Rattle.plan.specs.Validity.{countsValid, planValid}
 use Rattle.plan.proofs.Masks.{mask-most}
 use Rattle.plan.proofs.Sums.{below-all}
+use Rattle.script.specs.Limits.{scriptsLength}
 use Rattle.state.specs.declared.State.{State}
 use Rattle.state.specs.World.{World}
 use Rattle.plan.specs.Zeros.{noPlan}
+use Rattle.machine.specs.Steps.{RunEffect, runKeeping}
+use Rattle.refusal.specs.declared.Refusal.the-variants.{ImpossiblePlan, WrongLength}
+use Rattle.refusal.specs.declared.Verdict.the-variants.{Refused}
+use Rattle.refusal.specs.Checks.{unless}
 use Rattle.engine.specs.FreshStart.{freshStartOf}
-use Rattle.engine.specs.Checks.{freshVerdict}
-use Rattle.engine.specs.Running.{runCallOf}
-use Rattle.engine.proofs.Verdicts.{allFit, log-impossible, run-impossible, run-refused, run-wrong-length}
+use Rattle.engine.specs.Checks.{freshVerdict, lentVerdict, tablesFit}
+use Rattle.engine.specs.declared.LentLog.{LentLog}
+use Rattle.engine.specs.LentLog.{keepOf, lentCallOf, lentLogVerdict, logFits, quotaOf}
+use Rattle.engine.specs.Running.{outcomeFrom}
+use Rattle.engine.proofs.Verdicts.{log-impossible}
 use Rattle.plan.specs.Limits.{mostDomains}
 use Rattle.pirkvezo.specs.LogQuery.{logAnswerOf}
 use Rattle.pirkvezo.specs.Numbers.{handedPlan, masksFit, masksOffset, planOf}
@@ -70,23 +79,25 @@ pub fresh-alike :
 unfolding freshStartOf freshVerdict
 fresh-alike state cache boxes one other impossible impossible′ = rw (impossible, impossible′) refl
 
-pub run-alike :
-    (scripts : List ℕ) (world : World) (limit : ℕ) (one other : Plan)
+pub lent-alike :
+    (lent : LentLog) (scripts : List ℕ) (world : World) (limit : ℕ) (one other : Plan)
     → planValid one ≡ false
     → planValid other ≡ false
-    → runCallOf one scripts world limit ≡ runCallOf other scripts world limit
-run-alike scripts world limit one other impossible impossible′ = go (allFit one scripts world) refl
+    → lentCallOf lent one scripts world limit ≡ lentCallOf lent other scripts world limit
+unfolding lentCallOf lentLogVerdict lentVerdict
+lent-alike lent scripts world limit one other impossible impossible′ =
+    rw (impossible, impossible′, lentCallOf, lentLogVerdict, lentVerdict)
+    (go (logFits lent (length (world .log))) (eqb (length scripts) scriptsLength && tablesFit (world .cache) (world .boxes)))
   where
-    go :
-        (b : Bool)
-        → allFit one scripts world ≡ b
-        → runCallOf one scripts world limit ≡ runCallOf other scripts world limit
-    go false e =
-        sym (run-refused one scripts world limit _ (run-wrong-length one scripts world e))
-        ∙ run-refused other scripts world limit _ (run-wrong-length other scripts world e)
-    go true e =
-        sym (run-refused one scripts world limit _ (run-impossible one scripts world e impossible))
-        ∙ run-refused other scripts world limit _ (run-impossible other scripts world e impossible′)
+    done : Plan → RunEffect
+    done plan = runKeeping (keepOf lent) plan scripts (quotaOf lent plan (length (world .log))) limit world
+
+    go : (long fit : Bool)
+        → outcomeFrom (unless long WrongLength (unless fit WrongLength (Refused ImpossiblePlan))) one (done one) world
+        ≡ outcomeFrom (unless long WrongLength (unless fit WrongLength (Refused ImpossiblePlan))) other (done other) world
+    go false fit = refl
+    go true false = refl
+    go true true = refl
 
 pub query-alike :
     (state : State) (log : List ℕ) (domain : ℕ) (one other : Plan)

@@ -11,5 +11,6 @@ pub mod Frames
 pub mod Writes
 pub mod Finishes
 pub mod Kept
+pub mod KeptNumbers
 pub mod ReadBack
 pub mod StateBack

@@ -5,6 +5,7 @@ pub mod Bounding
 pub mod Reading
 pub mod Starting
 pub mod Running
+pub mod Keeping
 pub mod LogQuery
 pub mod Framing
 pub mod Writing

@@ -3,6 +3,8 @@
 use Prim.Native.Nat.{ℕ}
 use mathlib.Core.Bool.{true, false}
 use mathlib.Core.List.{List}
+use Rattle.plan.specs.declared.Plan.{Plan}
+use Rattle.state.specs.World.{World}
 use Rattle.engine.specs.Running.{RunOutcome, endingNumber, runCallOf, stepCallOf}
 use Rattle.machine.specs.View.{worldWith}
 use Rattle.pirkvezo.specs.Answers.{allFit, answerOf, verdictNumber, wrongLength}
@@ -36,23 +38,25 @@ runDone run answer =
     (run .world .cache) (run .world .boxes) (run .world .log)
     (answerOf (run .verdict) (run .steps) (endingNumber (run .ending)) answer)
 
--- running with a limit: lengths first, then what the entry point does
+-- any running, by what its entry point does with a plan and a world: lengths first
+unfoldable pub hostRunBy :
+    (Plan → World → RunOutcome) → List ℕ → List ℕ → List ℕ → List ℕ → List ℕ → List ℕ → RunCall
+hostRunBy run plan state cache boxes log answer =
+    elim (allFit plan state answer) [
+      | false ↦ hostRunWith (verdictNumber wrongLength) state cache boxes log
+          (answerOf wrongLength 0 0 answer)
+      | true ↦ runDone (run (planOf plan) (worldWith (stateOf state) cache boxes log)) answer
+    ]
+
+-- running with a limit
 unfoldable pub hostRun :
     List ℕ → List ℕ → List ℕ → List ℕ → List ℕ → List ℕ → ℕ → List ℕ → RunCall
 hostRun plan scripts state cache boxes log limit answer =
-    elim (allFit plan state answer) [
-      | false ↦ hostRunWith (verdictNumber wrongLength) state cache boxes log
-          (answerOf wrongLength 0 0 answer)
-      | true ↦ runDone
-          (runCallOf (planOf plan) scripts (worldWith (stateOf state) cache boxes log) limit) answer
-    ]
+    hostRunBy (λ (lent : Plan) (world : World). runCallOf lent scripts world limit)
+    plan state cache boxes log answer
 
--- a single step likewise
+-- a single step
 unfoldable pub hostStep : List ℕ → List ℕ → List ℕ → List ℕ → List ℕ → List ℕ → List ℕ → RunCall
 hostStep plan scripts state cache boxes log answer =
-    elim (allFit plan state answer) [
-      | false ↦ hostRunWith (verdictNumber wrongLength) state cache boxes log
-          (answerOf wrongLength 0 0 answer)
-      | true ↦ runDone
-          (stepCallOf (planOf plan) scripts (worldWith (stateOf state) cache boxes log)) answer
-    ]
+    hostRunBy (λ (lent : Plan) (world : World). stepCallOf lent scripts world)
+    plan state cache boxes log answer

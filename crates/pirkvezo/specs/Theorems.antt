@@ -16,11 +16,13 @@ use Rattle.state.specs.declared.State.{State}
 use Rattle.machine.specs.View.{worldWith}
 use Rattle.reader.specs.Read.{readOf}
 use Rattle.engine.specs.FreshStart.{freshStartOf}
+use Rattle.engine.specs.Keeping.{keptCallOf}
 use Rattle.engine.specs.LogQuery.{logQueryOf}
 use Rattle.engine.specs.Running.{runCallOf}
 use Rattle.frame.specs.Theorems.{FrameByWeights, WithinLimits}
 use Rattle.pirkvezo.specs.Finishing.{hostLatest}
 use Rattle.pirkvezo.specs.Framing.{frameFits, hostFrame}
+use Rattle.pirkvezo.specs.Keeping.{hostRunKept}
 use Rattle.pirkvezo.specs.LogQuery.{logAnswerOf}
 use Rattle.pirkvezo.specs.Numbers.{planNumbers, planOf, stateNumbers, stateOf}
 use Rattle.pirkvezo.specs.Running.{RunCall, hostRun}
@@ -53,6 +55,14 @@ RefusedRunKeeps =
     (plan scripts state cache boxes log : List ℕ) (limit : ℕ) (answer : List ℕ)
     → (hostRun plan scripts state cache boxes log limit answer .number ≡ 0 → ⊥)
     → RunKept state cache boxes log (hostRun plan scripts state cache boxes log limit answer)
+
+-- so does a refused run that keeps one domain's log
+abbrev pub RefusedKeptRunKeeps : Type 0
+RefusedKeptRunKeeps =
+    (plan scripts state cache boxes kept : List ℕ) (domain part limit : ℕ) (answer : List ℕ)
+    → (hostRunKept plan scripts state cache boxes kept domain part limit answer .number ≡ 0 → ⊥)
+    → RunKept state cache boxes kept
+    (hostRunKept plan scripts state cache boxes kept domain part limit answer)
 
 -- a refused writing leaves the buffer
 abbrev pub RefusedWriteKeeps : Type 0
@@ -91,6 +101,17 @@ RunStateReturns =
     (stateNumbers
     (runCallOf (planOf plan) scripts (worldWith (stateOf state) cache boxes log) limit .world .state))
     ≡ runCallOf (planOf plan) scripts (worldWith (stateOf state) cache boxes log) limit .world .state
+
+-- and those of the state that is left by a run that keeps one domain's log
+abbrev pub KeptStateReturns : Type 0
+KeptStateReturns =
+    (plan scripts state cache boxes kept : List ℕ) (domain part limit : ℕ)
+    → stateOf
+    (stateNumbers
+    (keptCallOf (planOf plan) scripts domain part (worldWith (stateOf state) cache boxes kept) limit
+    .world .state))
+    ≡ keptCallOf (planOf plan) scripts domain part (worldWith (stateOf state) cache boxes kept) limit
+    .world .state
 
 -- ---- a frame
 

@@ -4,6 +4,7 @@ pub mod answers;
 pub mod bounding;
 pub mod finishing;
 pub mod framing;
+pub mod keeping;
 pub mod log_query;
 pub mod offsets;
 pub mod plans;

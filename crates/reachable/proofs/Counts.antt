@@ -14,7 +14,7 @@ use Rattle.script.specs.declared.Op.{Op}
 use Rattle.script.specs.Limits.{mostOps}
 use Rattle.state.specs.World.{World, freshState, positionAt, recordsAt, runningOf}
 use Rattle.machine.specs.Fresh.{freshWorld}
-use Rattle.machine.specs.Steps.{opStepOf, steps}
+use Rattle.machine.specs.Steps.{opStepBy, opStepOf, steps}
 use Rattle.machine.specs.Switch.{switchOf}
 use Rattle.machine.proofs.Fetched.{fetched-below}
 use Rattle.machine.proofs.Invariant.{Begins, steps-hold}
@@ -34,7 +34,7 @@ module _ (plan : Plan) (scripts : List ℕ) (quota : ℕ) (possible : planValid 
 
   after-op : (world : World) (op : Op) → Counted plan quota world → Begins plan scripts quota world op
       → Counted plan quota (opStepOf plan quota (runningOf plan (world .state)) op world)
-  unfolding opStepOf
+  unfolding opStepBy
   after-op world op counted begins =
       let running = runningOf plan (world .state) in
       let position = positionAt (world .state) running in
@@ -65,4 +65,4 @@ module _ (plan : Plan) (scripts : List ℕ) (quota : ℕ) (possible : planValid 
 
   -- every world that a run reaches from a fresh start has possible counts
   pub counted : (count : ℕ) (log : List ℕ) → Counted plan quota (steps plan scripts quota count (freshWorld log))
-  counted count log = steps-hold plan scripts quota (Counted plan quota) after-switch after-op (freshWorld log) (at-start log) count
+  counted count log = steps-hold _ plan scripts quota (Counted plan quota) after-switch after-op (freshWorld log) (at-start log) count

@@ -18,7 +18,7 @@ use Rattle.script.proofs.ScriptEnd.{op-before-end}
 use Rattle.bound.specs.Bound.{opsStored, stepBound}
 use Rattle.state.specs.World.{World, endedOf, freshState, positionAt, runningOf}
 use Rattle.machine.specs.Fresh.{freshWorld}
-use Rattle.machine.specs.Steps.{RunEffect, opStepOf, runOf, stepOf, steps}
+use Rattle.machine.specs.Steps.{opStepBy, opStepOf, runBy, RunEffect, runOf, stepOf, steps}
 use Rattle.machine.specs.Switch.{switchOf}
 use Rattle.machine.proofs.Invariant.{Begins, in-window, steps-hold}
 use Rattle.machine.proofs.Runs.{by-end}
@@ -40,7 +40,7 @@ module _ (plan : Plan) (scripts : List ℕ) (quota : ℕ) where
   -- an op stands before the end of its script
   after-op : (world : World) (op : Op) → WithinScripts world → Begins plan scripts quota world op
       → WithinScripts (opStepOf plan quota (runningOf plan (world .state)) op world)
-  unfolding opStepOf
+  unfolding opStepBy
   after-op world op within begins domain =
       let running = runningOf plan (world .state) in
       let position = positionAt (world .state) running in
@@ -54,16 +54,16 @@ module _ (plan : Plan) (scripts : List ℕ) (quota : ℕ) where
   at-start log domain = omega (arith, cell-zeros mostDomains domain)
 
   within-scripts : (count : ℕ) (log : List ℕ) → WithinScripts (steps plan scripts quota count (freshWorld log))
-  within-scripts count log = steps-hold plan scripts quota WithinScripts after-switch after-op (freshWorld log) (at-start log) count
+  within-scripts count log = steps-hold _ plan scripts quota WithinScripts after-switch after-op (freshWorld log) (at-start log) count
 
   -- ---- a run that has not ended did as many steps as its limit
 
   pub run-whole : (limit : ℕ) (world : World) → endedOf plan (runOf plan scripts quota limit world .world .state) ≡ false
       → runOf plan scripts quota limit world .done ≡ limit
-  unfolding runOf
+  unfolding runBy
   run-whole zero world running = refl
   run-whole (suc limit) world running =
-      by-end plan scripts quota (λ ran. endedOf plan (ran .world .state) ≡ false → ran .done ≡ suc limit) limit world
+      by-end _ plan scripts quota (λ ran. endedOf plan (ran .world .state) ≡ false → ran .done ≡ suc limit) limit world
       (λ ended running′. absurd (false≢true (sym running′ ∙ ended)))
       (λ before running′. ap (λ done. done + 1) (run-whole limit (stepOf plan scripts quota world) running′) ∙ add-one limit)
       running

@@ -49,7 +49,7 @@ sound-lent plan world lent =
 pub lent-stays-sound : LentStaysSound
 lent-stays-sound plan scripts quota count world possible lent =
     let after =
-    steps-hold plan scripts quota (Sound plan (length (world .log)))
+    steps-hold _ plan scripts quota (Sound plan (length (world .log)))
     (after-switch plan scripts quota (length (world .log)) possible) (after-op plan scripts quota (length (world .log)) possible)
     world (sound-lent plan world lent) count in
     record {

@@ -16,17 +16,15 @@ use Rattle.script.specs.Limits.{OpWithinLimits}
 use Rattle.script.specs.declared.ScriptItem.{ScriptItem}
 use Rattle.script.specs.declared.ScriptItem.the-variants.{Op as Fetch, End}
 use Rattle.cache.specs.Lines.{tableLength}
-use Rattle.records.specs.Records.{partRecords}
+use Rattle.records.specs.Records.{inParts, partRecords}
 use Rattle.ops.specs.Ops.{Effect, effectOf}
 use Rattle.state.specs.World.{World, endedOf, positionAt, runningOf}
 use Rattle.machine.specs.Fresh.{freshWorld, reachedWorld}
-use Rattle.machine.specs.Steps.{activeStep, afterEffect, nextStepOf, oneMore, opStepOf, runOf, stepOf, steps, turnOf}
+use Rattle.machine.specs.Steps.{activeStep, activeStepBy, afterEffect, nextStepOf, oneMore, opStepBy, opStepOf, runBy, runOf, stepBy, stepOf, steps, turnOf}
 use Rattle.machine.specs.Switch.{switchOf, switchedCache}
 use Rattle.machine.proofs.Fetched.{fetched-within}
 use Rattle.machine.proofs.Invariant.{Begins, in-window, op-next, step-cases, steps-hold}
-use Rattle.machine.proofs.Runs.{step-active, step-ended}
-use Rattle.reachable.specs.OldBoard.{InFront, LinesInFront, NothingShown, oldActiveStep, oldEffectOf, oldRunOf}
-use Rattle.reachable.specs.OldBoard.{oldStepOf}
+use Rattle.reachable.specs.OldBoard.{InFront, LinesInFront, NothingShown, oldEffectOf, oldRunOf, oldStepOf}
 use Rattle.reachable.proofs.Cells.{cell-zeros}
 use Rattle.reachable.proofs.Flushes.{flushed-l1}
 use Rattle.reachable.proofs.Fronts.{SameEffect, effect-same, none-in-front}
@@ -69,7 +67,7 @@ module _ (plan : Plan) (scripts : List ℕ) (quota logLength : ℕ) (possible : 
 
   pub op-fronted : (world : World) (op : Op) → Fronted world → Begins plan scripts quota world op
       → Fronted (opStepOf plan quota (runningOf plan (world .state)) op world)
-  unfolding opStepOf
+  unfolding opStepBy
   op-fronted world op f begins =
       record {
         sound = after-op plan scripts quota logLength possible world op (f .sound) begins;
@@ -87,37 +85,37 @@ module _ (plan : Plan) (scripts : List ℕ) (quota logLength : ℕ) (possible : 
   -- every world that a run reaches from a fresh start
   pub fronted : (count : ℕ) (log : List ℕ) → length log ≡ logLength → Fronted (steps plan scripts quota count (freshWorld log))
   fronted count log long =
-      steps-hold plan scripts quota Fronted switch-fronted op-fronted (freshWorld log) (start-fronted log long) count
+      steps-hold _ plan scripts quota Fronted switch-fronted op-fronted (freshWorld log) (start-fronted log long) count
 
   -- ---- the two boards
 
   same-active : (world : World) → Fronted world → endedOf plan (world .state) ≡ false → (next : ScriptItem)
       → nextStepOf scripts (turnOf plan quota (world .state)) ≡ next
-      → activeStep plan quota next world ≡ oldActiveStep plan quota next world
-  unfolding activeStep oldActiveStep opStepOf
+      → activeStep plan quota next world ≡ activeStepBy oldEffectOf (inParts quota) plan next world
+  unfolding activeStepBy opStepBy
   same-active world f running End is = refl
   same-active world f running (Fetch op) is =
       let next = op-next scripts _ op is in
       let begins : Begins plan scripts quota world op =
       record { inWindow = in-window plan (world .state) running; inTime = next .inTime; room = next .room; next = next .next } in
-      ap (λ (effect : Effect). afterEffect quota (runningOf plan (world .state)) effect world) (same-op world op f begins .same)
+      let running = runningOf plan (world .state) in
+      ap (λ (effect : Effect). afterEffect (inParts quota running) running effect world) (same-op world op f begins .same)
 
   same-step : (world : World) → Fronted world → stepOf plan scripts quota world ≡ oldStepOf plan scripts quota world
-  unfolding oldStepOf
+  unfolding stepBy
   same-step world f = go (endedOf plan (world .state)) refl
     where
       go : (ended : Bool) → endedOf plan (world .state) ≡ ended → stepOf plan scripts quota world ≡ oldStepOf plan scripts quota world
-      go true test = rw (step-ended plan scripts quota world test, test, oldStepOf) refl
-      go false test =
-          rw (step-active plan scripts quota world test, test, oldStepOf) (same-active world f test _ refl)
+      go true test = rw (test, stepBy) refl
+      go false test = rw (test, stepBy) (same-active world f test _ refl)
 
   step-fronted : (world : World) → Fronted world → Fronted (stepOf plan scripts quota world)
   step-fronted world f =
-      step-cases plan scripts quota world Fronted (λ ended. f) (switch-fronted world f) (λ op. op-fronted world op f)
+      step-cases _ plan scripts quota world Fronted (λ ended. f) (switch-fronted world f) (λ op. op-fronted world op f)
 
   same-run : (limit : ℕ) (world : World) → Fronted world
       → runOf plan scripts quota limit world ≡ oldRunOf plan scripts quota limit world
-  unfolding runOf oldRunOf
+  unfolding runBy
   same-run zero world f = refl
   same-run (suc limit) world f =
       go (endedOf plan (world .state)) refl
@@ -128,8 +126,8 @@ module _ (plan : Plan) (scripts : List ℕ) (quota logLength : ℕ) (possible : 
           → runOf plan scripts quota limit (stepOf plan scripts quota world)
           ≡ oldRunOf plan scripts quota limit (oldStepOf plan scripts quota world)
           → runOf plan scripts quota (suc limit) world ≡ oldRunOf plan scripts quota (suc limit) world
-      go true test rest = rw (test, runOf, oldRunOf) refl
-      go false test rest = rw (test, runOf, oldRunOf) (ap oneMore rest)
+      go true test rest = rw (test, runBy) refl
+      go false test rest = rw (test, runBy) (ap oneMore rest)
 
 -- in every reached world
 pub reached-op : (plan : Plan) (scripts log : List ℕ) (count : ℕ) → planValid plan ≡ true → (op : Op)

@@ -13,7 +13,7 @@ use Rattle.plan.proofs.Sums.{sum-larger}
 use Rattle.plan.proofs.Windows.{domains-most, owner-declared}
 use Rattle.script.specs.declared.Op.{Op}
 use Rattle.state.specs.World.{World, endedOf, positionAt, runningOf}
-use Rattle.machine.specs.Steps.{opStepOf, runOf, stepOf}
+use Rattle.machine.specs.Steps.{opStepBy, opStepOf, runBy, runOf, stepOf}
 use Rattle.machine.specs.Switch.{switchOf}
 use Rattle.machine.proofs.Invariant.{step-cases}
 use Rattle.machine.proofs.Runs.{by-end}
@@ -35,7 +35,7 @@ module _ (plan : Plan) (scripts : List ℕ) (quota : ℕ) (possible : planValid 
 
   after-op : (world : World) (op : Op) → length (world .state .positions) ≡ mostDomains
       → Further world 1 (opStepOf plan quota (runningOf plan (world .state)) op world)
-  unfolding opStepOf
+  unfolding opStepBy
   after-op world op eight =
       let running = runningOf plan (world .state) in
       let positions = world .state .positions in
@@ -52,7 +52,7 @@ module _ (plan : Plan) (scripts : List ℕ) (quota : ℕ) (possible : planValid 
   step-further : (world : World) → length (world .state .positions) ≡ mostDomains → endedOf plan (world .state) ≡ false
       → Further world 1 (stepOf plan scripts quota world)
   step-further world eight running =
-      step-cases plan scripts quota world (Further world 1)
+      step-cases _ plan scripts quota world (Further world 1)
       (λ ended. absurd (false≢true (sym running ∙ ended)))
       (λ inWindow. after-switch world eight)
       (λ op begins. after-op world op eight)
@@ -60,10 +60,10 @@ module _ (plan : Plan) (scripts : List ℕ) (quota : ℕ) (possible : planValid 
   -- a run goes as far as the steps that it answers
   pub run-further : (limit : ℕ) (world : World) → length (world .state .positions) ≡ mostDomains
       → Further world (runOf plan scripts quota limit world .done) (runOf plan scripts quota limit world .world)
-  unfolding runOf
+  unfolding runBy
   run-further zero world eight = record { eight = eight; far = omega arith }
   run-further (suc limit) world eight =
-      by-end plan scripts quota (λ ran. Further world (ran .done) (ran .world)) limit world
+      by-end _ plan scripts quota (λ ran. Further world (ran .done) (ran .world)) limit world
       (λ ended. record { eight = eight; far = omega arith })
       (λ running.
       let one = step-further world eight running in

@@ -5,7 +5,6 @@ use mathlib.Core.List.{List}
 use mathlib.Core.Path.{_≡_, _∙_}
 use native.Mathlib.Omega.{arith}
 use lib.ListN.{length}
-use lib.Seq.{length-sets}
 use borrow.Author.Tests.{lt-leb}
 use Rattle.plan.specs.declared.Plan.{Plan}
 use Rattle.plan.specs.Validity.{planValid}
@@ -14,13 +13,13 @@ use Rattle.plan.proofs.Sums.{below-all}
 use Rattle.plan.proofs.Windows.{domains-most, owner-declared}
 use Rattle.script.specs.declared.Op.{Op}
 use Rattle.cache.specs.Lines.{l1Length, setCount}
-use Rattle.records.specs.declared.Observation.{Observation}
-use Rattle.records.specs.Records.{recordBytes, recordIndex, recordStored}
+use Rattle.records.specs.Records.{inParts}
+use Rattle.records.proofs.Places.{stored-length}
 use Rattle.ops.specs.Ops.{boxesLength}
 use Rattle.state.specs.TableValidity.{boxValid, l1EntryValid, tablesValid}
 use Rattle.state.specs.World.{World, endedOf, positionAt, recordsAt, runningOf}
 use Rattle.machine.specs.Fresh.{freshWorld}
-use Rattle.machine.specs.Steps.{opStepOf, steps}
+use Rattle.machine.specs.Steps.{opStepBy, opStepOf, steps}
 use Rattle.machine.specs.Switch.{switchOf}
 use Rattle.machine.proofs.Fetched.{fetched-within}
 use Rattle.machine.proofs.Invariant.{Begins, steps-hold}
@@ -36,13 +35,6 @@ pub record Sound (plan : Plan) (logLength : ℕ) (world : World) : Type 0 where
   pub boxes : BoxesValid plan (world .boxes)
   pub log : length (world .log) ≡ logLength
 
--- a stored record leaves the log's length
-stored-length : (quota domain number : ℕ) (seen : Observation) (clock : ℕ) (log : List ℕ)
-    → length (recordStored quota domain number seen clock log) ≡ length log
-unfolding recordStored
-stored-length quota domain number seen clock log =
-    length-sets log (recordIndex quota domain number) (recordBytes seen clock)
-
 module _ (plan : Plan) (scripts : List ℕ) (quota logLength : ℕ) (possible : planValid plan ≡ true) where
   pub after-switch : (world : World) → Sound plan logLength world → world .state .windows < windowsTotal plan
       → Sound plan logLength (switchOf plan world)
@@ -57,7 +49,7 @@ module _ (plan : Plan) (scripts : List ℕ) (quota logLength : ℕ) (possible : 
   -- an op leaves the number of windows, on which alone it depends which lines L1 may hold
   pub after-op : (world : World) (op : Op) → Sound plan logLength world → Begins plan scripts quota world op
       → Sound plan logLength (opStepOf plan quota (runningOf plan (world .state)) op world)
-  unfolding opStepOf endedOf
+  unfolding opStepBy endedOf
   after-op world op sound begins =
       let running = runningOf plan (world .state) in
       let declared = owner-declared plan (world .state .windows) possible in
@@ -74,7 +66,7 @@ module _ (plan : Plan) (scripts : List ℕ) (quota logLength : ℕ) (possible : 
       record {
         cache = record { long = effect .cache .long; lines = effect .cache .lines; sets = effect .cache .sets };
         boxes = effect .boxes;
-        log = stored-length quota running (recordsAt (world .state) running) _ _ (world .log) ∙ sound .log;
+        log = stored-length (inParts quota running) (recordsAt (world .state) running) _ _ (world .log) ∙ sound .log;
       }
 
   pub at-start : (log : List ℕ) → length log ≡ logLength → Sound plan logLength (freshWorld log)
@@ -94,7 +86,7 @@ module _ (plan : Plan) (scripts : List ℕ) (quota logLength : ℕ) (possible : 
   pub sound : (count : ℕ) (log : List ℕ) → length log ≡ logLength
       → Sound plan logLength (steps plan scripts quota count (freshWorld log))
   sound count log long =
-      steps-hold plan scripts quota (Sound plan logLength) after-switch after-op (freshWorld log)
+      steps-hold _ plan scripts quota (Sound plan logLength) after-switch after-op (freshWorld log)
       (at-start log long) count
 
 -- a sound world has valid tables

@@ -15,7 +15,7 @@ use Rattle.plan.proofs.Sums.{sum-larger, sum-most, sum-same}
 use Rattle.script.specs.declared.Op.{Op}
 use Rattle.ops.proofs.Ticks.{effect-takes}
 use Rattle.state.specs.World.{World, endedOf, positionAt, runningOf}
-use Rattle.machine.specs.Steps.{opStepOf, runOf, stepOf}
+use Rattle.machine.specs.Steps.{opStepBy, opStepOf, runBy, runOf, stepOf}
 use Rattle.machine.specs.Switch.{paddedClock, switchOf}
 use Rattle.machine.proofs.Fetched.{fetched-within}
 use Rattle.machine.proofs.Invariant.{Begins, in-window, step-cases}
@@ -99,7 +99,7 @@ module _ (plan : Plan) (scripts : List ℕ) (quota window : ℕ) where
   -- an op takes a tick at least
   after-op : (world : World) (op : Op) → Started world → Begins plan scripts quota world op
       → Stepped world (opStepOf plan quota (runningOf plan (world .state)) op world)
-  unfolding opStepOf
+  unfolding opStepBy
   after-op world op started begins =
       let running = runningOf plan (world .state) in
       let takes = effect-takes plan running op (world .cache) (world .boxes)
@@ -119,7 +119,7 @@ module _ (plan : Plan) (scripts : List ℕ) (quota window : ℕ) where
 
   step-stepped : (world : World) → Started world → endedOf plan (world .state) ≡ false → Stepped world (stepOf plan scripts quota world)
   step-stepped world started running =
-      step-cases plan scripts quota world (Stepped world)
+      step-cases _ plan scripts quota world (Stepped world)
       (λ ended. absurd (false≢true (sym running ∙ ended)))
       (λ inWindow. after-switch world)
       (λ op begins. after-op world op started begins)
@@ -165,14 +165,14 @@ none-together count = omega (arith, sum-most (λ window. 0) 0 count (λ window b
 -- the steps of all windows of the plan together are those that a run answers
 pub all-windows : (plan : Plan) (scripts : List ℕ) (quota limit : ℕ) (world : World)
     → sumTo (λ window. windowSteps plan scripts quota window limit world) (windowsTotal plan) ≡ runOf plan scripts quota limit world .done
-unfolding runOf windowSteps
+unfolding runBy windowSteps
 all-windows plan scripts quota zero world = none-together (windowsTotal plan)
 all-windows plan scripts quota (suc limit) world =
     let present = world .state .windows in
     let next = stepOf plan scripts quota world in
     let now : (ℕ → ℕ) = λ window. windowSteps plan scripts quota window (suc limit) world in
     let rest : (ℕ → ℕ) = λ window. windowSteps plan scripts quota window limit next in
-    by-end plan scripts quota (λ ran. sumTo now (windowsTotal plan) ≡ ran .done) limit world
+    by-end _ plan scripts quota (λ ran. sumTo now (windowsTotal plan) ≡ ran .done) limit world
     (λ ended. sum-same now (λ window. 0) (windowsTotal plan) (λ window below. steps-ended plan scripts quota window limit world ended) ∙ none-together (windowsTotal plan))
     (λ running.
     sum-larger rest now present 1 (windowsTotal plan) (in-window plan (world .state) running)

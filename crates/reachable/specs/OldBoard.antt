@@ -1,24 +1,21 @@
 -- Document 02, E7: what its write-back changes. Document 01's own machine is that of the old board,
 -- on which a dirty line that is replaced changes nothing in L2. It is defined here to say that no run
 -- from a fresh start shows which of the two boards it ran on. Assumes nothing.
-use Prim.Native.Nat.{ℕ, zero, suc, _≤_}
-use mathlib.Core.Bool.{true, false}
+use Prim.Native.Nat.{ℕ, _≤_}
+use mathlib.Core.Bool.{true}
 use mathlib.Core.List.{List}
 use mathlib.Core.Path.{_≡_}
 use lib.ListN.{getD, length}
 use Rattle.plan.specs.declared.Plan.{Plan}
 use Rattle.plan.specs.Validity.{planValid}
 use Rattle.script.specs.declared.Op.{Op}
-use Rattle.script.specs.declared.ScriptItem.{ScriptItem}
-use Rattle.script.specs.declared.ScriptItem.the-variants.{Op as Fetch, End}
 use Rattle.cache.specs.Access.{oldAccessOf}
 use Rattle.cache.specs.Lines.{cleanEntry, holdsLine, l1Index, mostLine, setIndex, setOf}
-use Rattle.records.specs.Records.{partRecords}
+use Rattle.records.specs.Records.{inParts, partRecords}
 use Rattle.ops.specs.Ops.{Effect, effectBy}
-use Rattle.state.specs.World.{World, endedOf, runningOf}
+use Rattle.state.specs.World.{World}
 use Rattle.machine.specs.Fresh.{freshWorld, reachedWorld}
-use Rattle.machine.specs.Steps.{RunEffect, afterEffect, nextStepOf, oneMore, runOf, turnOf}
-use Rattle.machine.specs.Switch.{switchOf}
+use Rattle.machine.specs.Steps.{RunEffect, runBy, runOf, stepBy}
 
 -- ---- the machine of the old board
 
@@ -26,29 +23,12 @@ use Rattle.machine.specs.Switch.{switchOf}
 abbrev pub oldEffectOf : Plan → ℕ → Op → List ℕ → List ℕ → Effect
 oldEffectOf = effectBy oldAccessOf
 
--- what the next step in a window leaves
-unfoldable pub oldActiveStep : Plan → ℕ → ScriptItem → World → World
-oldActiveStep plan quota (Fetch op) world =
-    let domain = runningOf plan (world .state) in
-    afterEffect quota domain (oldEffectOf plan domain op (world .cache) (world .boxes)) world
-oldActiveStep plan quota End world = switchOf plan world
+-- one step, and a run under a limit
+abbrev pub oldStepOf : Plan → List ℕ → ℕ → World → World
+oldStepOf plan scripts quota = stepBy oldEffectOf (inParts quota) plan scripts quota
 
--- one step; an ended run stays as it is
-unfoldable pub oldStepOf : Plan → List ℕ → ℕ → World → World
-oldStepOf plan scripts quota world =
-    elim (endedOf plan (world .state)) [
-      | true ↦ world
-      | false ↦ oldActiveStep plan quota (nextStepOf scripts (turnOf plan quota (world .state))) world
-    ]
-
--- what a run under a limit leaves, with the number of steps done
-unfoldable pub oldRunOf : Plan → List ℕ → ℕ → ℕ → World → RunEffect
-oldRunOf plan scripts quota zero world = record { done = 0; world = world }
-oldRunOf plan scripts quota (suc limit) world =
-    elim (endedOf plan (world .state)) [
-      | true ↦ record { done = 0; world = world }
-      | false ↦ oneMore (oldRunOf plan scripts quota limit (oldStepOf plan scripts quota world))
-    ]
+abbrev pub oldRunOf : Plan → List ℕ → ℕ → ℕ → World → RunEffect
+oldRunOf plan scripts quota = runBy oldEffectOf (inParts quota) plan scripts quota
 
 -- ---- what holds of the two
 

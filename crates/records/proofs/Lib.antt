@@ -1,2 +1,3 @@
 -- The laws of the log that other crates cite.
 pub mod Parts
+pub mod Places

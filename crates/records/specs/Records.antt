@@ -1,13 +1,19 @@
--- Document 01, "What a domain sees": the kinds and values of records, their bytes, and the parts of
--- the log. Assumes nothing.
+-- Document 01, "What a domain sees", and document 02, E8: the kinds and values of records, their
+-- bytes, the parts of the log, and where a record goes. Assumes nothing.
 use Prim.Native.Nat.{ℕ, _+_, _*_, _/_, _%_}
+use mathlib.Core.Bool.{cond}
 use mathlib.Core.List.{List, [], _∷_}
+use lib.Dec.{eqb}
 use lib.Seq.{sets}
 use Rattle.lists.specs.Part.{part}
 use Rattle.plan.specs.declared.Plan.{Plan}
+use Rattle.records.specs.declared.Keep.{Keep}
+use Rattle.records.specs.declared.Keep.the-variants.{Every, One}
 use Rattle.records.specs.declared.Observation.{Observation}
 use Rattle.records.specs.declared.Observation.the-variants.{Hit1, Hit2, Miss, Sent, Got}
 use Rattle.records.specs.declared.Observation.the-variants.{Empty, Denied, Ran, Barred}
+use Rattle.records.specs.declared.Place.{Place}
+use Rattle.records.specs.declared.Place.the-variants.{From, Nowhere}
 
 -- each kind of record has a number, 1 to 9
 abbrev pub recordKind : Observation → ℕ
@@ -65,10 +71,31 @@ partRecords plan logLength = logLength / (recordSize * plan .domains)
 abbrev pub recordIndex : ℕ → ℕ → ℕ → ℕ
 recordIndex quota domain number = recordSize * (quota * domain + number)
 
--- the log with one record stored
-unfoldable pub recordStored : ℕ → ℕ → ℕ → Observation → ℕ → List ℕ → List ℕ
-recordStored quota domain number seen clock log =
-    sets log (recordIndex quota domain number) (recordBytes seen clock)
+-- where a domain's records go in a log that keeps every domain's: into its part
+abbrev pub inParts : ℕ → ℕ → Place
+inParts quota domain = From (quota * domain)
+
+-- where they go in a buffer that keeps those of one named domain: the named domain's from the
+-- buffer's start on, another's nowhere
+unfoldable pub onlyOf : ℕ → ℕ → Place
+onlyOf named domain = cond (eqb domain named) (From 0) Nowhere
+
+-- either, by what is kept, where a part holds `quota` records
+abbrev pub placesOf : Keep → ℕ → ℕ → Place
+placesOf Every quota = inParts quota
+placesOf (One named) quota = onlyOf named
+
+-- how many bytes a log must have for the first records of a place: none where they go nowhere
+abbrev pub placeEnd : Place → ℕ → ℕ
+placeEnd (From first) count = recordSize * (first + count)
+placeEnd Nowhere count = 0
+
+-- a log with one record stored at a place, by its number there; as it was where the record goes
+-- nowhere
+unfoldable pub storedAt : Place → ℕ → Observation → ℕ → List ℕ → List ℕ
+storedAt (From first) number seen clock log =
+    sets log (recordSize * (first + number)) (recordBytes seen clock)
+storedAt Nowhere number seen clock log = log
 
 -- a domain's own log: the bytes of the records that it has so far, from the start of its part
 unfoldable pub logPart : ℕ → ℕ → ℕ → List ℕ → List ℕ

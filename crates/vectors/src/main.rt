@@ -21,6 +21,7 @@ use pirkvezo::answers::put_answer;
 use pirkvezo::bounding::pirkvezo_step_bound;
 use pirkvezo::finishing::pirkvezo_latest;
 use pirkvezo::framing::pirkvezo_frame;
+use pirkvezo::keeping::pirkvezo_run_kept;
 use pirkvezo::log_query::pirkvezo_log;
 use pirkvezo::offsets::ANSWER_LENGTH;
 use pirkvezo::offsets::CLOCK_OFFSET;
@@ -85,6 +86,14 @@ struct Example {
     frame_length: usize,
 }
 
+// A call that runs the machine: a single step; a run with a limit; a run that keeps one domain's
+// log, with the domain, how many records a part holds, and the limit.
+enum Call {
+    Step,
+    Run(u64),
+    Kept(u32, u64, u64),
+}
+
 // ---- fields: a line is words with one space between
 
 // The first word of a line.
@@ -122,11 +131,19 @@ fn number(fields: &[u8]) -> u64 {
     } = number {
         return value;
     }
-    let word = word_from(fields, first);
-    if let Token::Word { start: _, end: _ } = word {
-        return 18_446_744_073_709_551_615;
+    let named = word_from(fields, first);
+    if let Token::Word { start: _, end: _ } = named {
+        return named_number(word(fields));
     }
     0
+}
+
+// The largest number, or the eighth of the next, whose records have so many bytes that they wrap.
+fn named_number(name: &[u8]) -> u64 {
+    if same(name, b"eighth") {
+        return 2_305_843_009_213_693_952;
+    }
+    18_446_744_073_709_551_615
 }
 
 // The same, small enough to count on from.
@@ -423,6 +440,12 @@ fn number_at(example: Example, area: &[u8], index: usize) -> u64 {
         }
         return 0;
     }
+    if is_of_state(area) {
+        if index < STATE_LENGTH {
+            return example.state[index];
+        }
+        return 0;
+    }
     if index < PLAN_LENGTH {
         return long(example.plan[index]);
     }
@@ -533,33 +556,50 @@ fn store_progress(progress: Progress, state: &mut [u64], answer: &mut [u64]) {
     put_answer(answer, verdict, progress.steps, ending_number(ending));
 }
 
-// A single step, by the engine's own entry point, or a run with a limit.
+// A single step, by the engine's own entry point, or a run by the library's.
 fn advance(
-    single: bool,
+    call: Call,
     plan: &[u32],
     scripts: &[u32],
     state: &mut [u64],
     cache: &mut [u16],
     boxes: &mut [u32],
     log: &mut [u8],
-    limit: u64,
     answer: &mut [u64],
 )
     requires { ⌜ (length (now plan) ≡ 92) × (length (now state) ≡ 18) ⌝ }
 {
-    if single {
-        let lent = load_plan(plan);
-        let before = load_state(state);
-        let progress = step(lent, scripts, before, cache, boxes, log);
-        store_progress(progress, state, answer);
-        return;
+    match call {
+        Call::Step => {
+            let lent = load_plan(plan);
+            let before = load_state(state);
+            let progress = step(lent, scripts, before, cache, boxes, log);
+            store_progress(progress, state, answer);
+        }
+        Call::Run(limit) => {
+            pirkvezo_run(plan, scripts, state, cache, boxes, log, limit, answer);
+        }
+        Call::Kept(domain, part, limit) => {
+            pirkvezo_run_kept(
+                plan,
+                scripts,
+                state,
+                cache,
+                boxes,
+                log,
+                domain,
+                part,
+                limit,
+                answer,
+            );
+        }
     }
-    pirkvezo_run(plan, scripts, state, cache, boxes, log, limit, answer);
 }
 
-// run LABEL N: run with limit N. step LABEL: a single step. Prints number, companion, steps,
+// run LABEL N: run with limit N. step LABEL: a single step. kept LABEL D PART N: run with limit N,
+// keeping the log of domain D, where a part holds PART records. Prints number, companion, steps,
 // ending, windows completed and clock.
-fn run(example: Example, single: bool, fields: &[u8]) -> Example {
+fn run(example: Example, call: Call, fields: &[u8]) -> Example {
     let mut next = example;
     let plan = example.plan;
     let scripts_room = example.scripts;
@@ -573,20 +613,18 @@ fn run(example: Example, single: bool, fields: &[u8]) -> Example {
     let log: &mut [u8] = &mut log_room;
     let first: usize = 0;
     let mut answer = [0u64; ANSWER_LENGTH];
-    let limit = number(rest(fields));
     let lent_scripts = at_most(example.scripts_length, scripts.len());
     let lent_cache = at_most(example.cache_length, cache.len());
     let lent_boxes = at_most(example.boxes_length, boxes.len());
     let lent_log = at_most(example.log_length, log.len());
     advance(
-        single,
+        call,
         &plan,
         &scripts[first..lent_scripts],
         &mut state,
         &mut cache[first..lent_cache],
         &mut boxes[first..lent_boxes],
         &mut log[first..lent_log],
-        limit,
         &mut answer,
     );
     print_answer(word(fields), answer);
@@ -600,6 +638,15 @@ fn run(example: Example, single: bool, fields: &[u8]) -> Example {
     next.boxes = boxes_room;
     next.log = log_room;
     next
+}
+
+// The call of a line `kept LABEL D PART N`.
+fn kept_call(fields: &[u8]) -> Call {
+    let numbers = rest(fields);
+    let domain = word32(numbers);
+    let part = number(rest(numbers));
+    let limit = number(rest(rest(numbers)));
+    Call::Kept(domain, part, limit)
 }
 
 // The two flushes of a switch, and the ticks of each. A table of another length is not flushed.
@@ -646,6 +693,16 @@ fn query_log(example: Example, fields: &[u8]) {
     pirkvezo_log(&plan, &state, &log[first..lent_log], domain, &mut answer);
     print_answer(word(fields), answer);
     print_records(part(log, answer[2] as usize, answer[3] as usize));
+    print(b"\n");
+}
+
+// buffer LABEL COUNT: the first records of the log, as a run leaves them that keeps one domain's.
+fn show_buffer(example: Example, fields: &[u8]) {
+    let log_room = example.log;
+    let log: &[u8] = &log_room;
+    let count = at_most(small(rest(fields)), LOG_ROOM / 8);
+    print(word(fields));
+    print_records(part(log, 0, 8 * count));
     print(b"\n");
 }
 
@@ -801,10 +858,17 @@ fn obey(example: Example, line: &[u8]) -> Example {
         return fresh(example, fields);
     }
     if same(command, b"run") {
-        return run(example, false, fields);
+        return run(example, Call::Run(number(rest(fields))), fields);
     }
     if same(command, b"step") {
-        return run(example, true, fields);
+        return run(example, Call::Step, fields);
+    }
+    if same(command, b"kept") {
+        return run(example, kept_call(fields), fields);
+    }
+    if same(command, b"buffer") {
+        show_buffer(example, fields);
+        return example;
     }
     if same(command, b"flush") {
         return flush(example, fields);

@@ -5,3 +5,4 @@ pub mod BoundExamples
 pub mod LatestExamples
 pub mod WriteExamples
 pub mod WriteBackExamples
+pub mod KeptExamples

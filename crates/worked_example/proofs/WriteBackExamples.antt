@@ -2,14 +2,13 @@
 use mathlib.Core.Path.{refl}
 use Rattle.lexer.specs.Decimal.{digitsOf, decimalOf}
 use Rattle.cache.specs.Access.{oldAccessOf}
-use Rattle.reachable.specs.OldBoard.{oldActiveStep, oldStepOf}
 use Rattle.engine.proofs.Computing.{computing}
 use Rattle.worked_example.specs.Example.{textOf}
 use Rattle.worked_example.specs.WriteBackExamples.{WriteBackExamples}
 use Rattle.worked_example.proofs.Reading.{reading}
 
 pub write-back-examples : WriteBackExamples
-unfolding computing reading digitsOf decimalOf textOf oldAccessOf oldActiveStep oldStepOf
+unfolding computing reading digitsOf decimalOf textOf oldAccessOf
 write-back-examples =
     record {
       dropped = refl;

@@ -5,3 +5,4 @@ pub mod BoundExamples
 pub mod WriteExamples
 pub mod LatestExamples
 pub mod WriteBackExamples
+pub mod KeptExamples

@@ -1,32 +1,46 @@
-"""run: what each domain saw, as planrun prints it, as a table, as CSV or as JSON."""
+"""run: what each domain saw, or what one of them saw, as planrun prints it, as a table, as CSV or as JSON."""
 import collections
 import csv
 import json
 import os
 import sys
 
-from ..history import history
+from ..frames import MOST_NUMBER
+from ..history import history_of
 from ..inputs import number_of, plan_file, refusal_lines, refusal_values
 from ..layout import columns, count
 from ..plans import read
-from ..refusals import Refused
-from ..worlds import RECORD_KINDS, World
+from ..refusals import DOMAIN, NO_DOMAIN, Refused
+from ..worlds import MOST_LOG, MOST_PART, RECORD_KINDS, KeptWorld, World
 
 NAME = "run"
-HELP = "run a plan and print what each domain saw"
+HELP = "run a plan and print what each domain saw, or what one of them saw"
+LOG_LENGTH = 16384
 EXAMPLE = """example:
   pirkvezo run examples/worked_example.plan
   pirkvezo run --table --windows 1 examples/worked_example.plan
+  pirkvezo run --only 1 --part 256 examples/worked_example.plan
 
 Where a run is stopped by --windows, its last line is (stopped WINDOWS CLOCK) and not (end ..).
 The steps done, and how many there are at most, are in the table and in the JSON. Beside the other
-forms they go to standard error."""
+forms they go to standard error.
+
+With --only one domain's log is kept and printed, and no other. --part is then due in the place of
+--log-length: how many records each domain has room for, which is BYTES / (8 * domains). A domain
+that has no room left goes idle, also one whose log is not kept. 256 are always enough.
+
+exit status of run: 1 also where the DOMAIN of --only is refused; 0 and 2 as below"""
 
 
 def add_arguments(parser):
     parser.add_argument("plan", metavar="PLAN", type=plan_file, help="a plan's file, or - for standard input")
-    parser.add_argument("--log-length", metavar="BYTES", default=16384, help="the log's bytes (16384)",
-                        type=number_of(0, 1 << 24))
+    parser.add_argument("--log-length", metavar="BYTES", help=f"the log's bytes ({LOG_LENGTH})",
+                        type=number_of(0, MOST_LOG))
+    # which domains there are is the library's to say
+    parser.add_argument("--only", metavar="DOMAIN", help="keep and print this domain's log alone; with --part",
+                        type=number_of(0, MOST_NUMBER, due=f"a number from {DOMAIN.low} to {DOMAIN.high}"))
+    parser.add_argument("--part", metavar="N", help="the records that each domain has room for; with --only",
+                        type=number_of(0, MOST_PART))
     parser.add_argument("--windows", metavar="N", help="stop when N windows are completed",
                         type=number_of(0, 32000))
     form = parser.add_mutually_exclusive_group()
@@ -35,13 +49,30 @@ def add_arguments(parser):
     form.add_argument("--json", action="store_true", help="for programs")
 
 
+def wrong_together(args):
+    """What is wrong with arguments that each are good, or None."""
+    if args.only is not None and args.part is None:
+        return "--only needs --part, the number of records that each domain has room for"
+    if args.part is not None and args.only is None:
+        return "--part needs --only, the domain whose log is kept"
+    if args.only is not None and args.log_length is not None:
+        return "--log-length is for the log of all domains; with --only, --part says what has room"
+    return None
+
+
 def run(args):
     try:
         plan = read(args.plan.text)
     except Refused as refused:
         return _refused(args, refused)
+    try:
+        world = _fresh(plan, args)
+    except Refused as refused:
+        if refused.number != NO_DOMAIN:
+            raise
+        return _refused(args, refused)
     if args.table or args.csv or args.json:
-        made = summary(plan, args.log_length, args.windows)
+        made = summary(world, args.windows)
         if args.json:
             print(json.dumps(dict(file=args.plan.name, refusal=None, **made), indent=2))
         elif args.csv:
@@ -50,14 +81,20 @@ def run(args):
         else:
             print("\n".join(summary_lines(args.plan.name, made)))
         return 0
-    world = World.fresh(plan, args.log_length)
     ended = (world.run() if args.windows is None else world.run_windows(args.windows)).ended
-    for domain in range(plan.domains):
+    for domain in world.logged:
         for record in world.log(domain):
             print(f"(seen {domain} {record.clock} {record})")
     print(f"({'end' if ended else 'stopped'} {world.windows} {world.clock})")
     _note(f"{args.plan.name}: {_steps(world.steps, plan.bound)}")
     return 0
+
+
+def _fresh(plan, args):
+    """The run at its fresh start, with the log of all domains or of one."""
+    if args.only is not None:
+        return KeptWorld.fresh(plan, args.only, args.part)
+    return World.fresh(plan, LOG_LENGTH if args.log_length is None else args.log_length)
 
 
 def _steps(steps, bound):
@@ -87,12 +124,11 @@ def _refused(args, refused):
     return 1
 
 
-def summary(plan, log_length, windows=None):
-    """What each domain saw, with window and index in it, and sums, as values."""
-    passed = history(plan, log_length, windows)
-    room = log_length // (8 * plan.domains)
+def summary(world, windows=None):
+    """What each domain saw whose log is kept, with window and index in it, and sums, as values."""
+    plan, room, passed = world.plan, world.records_room, history_of(world, windows)
     domains = []
-    for domain in range(plan.domains):
+    for domain in world.logged:
         own = [window for window in passed if window.owner == domain]
         records = [dict(window=window.index, index=index, position=event.position,
                         begin=event.begin, clock=event.end, kind=event.record.kind,
@@ -109,8 +145,13 @@ def summary(plan, log_length, windows=None):
             why=_why(plan, domain, len(records), room, len(passed)) if len(records) < len(ops) else None))
     clock = passed[-1].padded_end if passed else 0
     return dict(windows=len(passed), clock=clock, ended=len(passed) == plan.windows_total,
-                steps=sum(window.steps for window in passed), bound=plan.bound,
-                log_length=log_length, records_room=room, domains=domains)
+                steps=sum(window.steps for window in passed), bound=plan.bound, **_log(world),
+                records_room=room, domains=domains)
+
+
+def _log(world):
+    """Which log is kept, as a value: that of all domains, by its bytes, or that of one, by the domain."""
+    return dict(only=world.domain) if isinstance(world, KeptWorld) else dict(log_length=world.log_length)
 
 
 def _why(plan, domain, done, room, passed):
@@ -124,8 +165,9 @@ def _why(plan, domain, done, room, passed):
 def summary_lines(name, made):
     """The summary for people."""
     state = "ended" if made["ended"] else "stopped"
+    kept = f", and only domain {made['only']}'s are kept" if "only" in made else ""
     lines = [f"{name}: {state} after {count(made['windows'], 'window')} at tick {made['clock']}; "
-             f"room for {count(made['records_room'], 'record')} a domain",
+             f"room for {count(made['records_room'], 'record')} a domain{kept}",
              _steps(made["steps"], made["bound"])]
     for entry in made["domains"]:
         lines += ["", f"Domain {entry['domain']}"]

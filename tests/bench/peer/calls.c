@@ -1,4 +1,4 @@
-/* The five calls: lengths first, then the judges in their order, then the work. */
+/* The six calls: lengths first, then the judges in their order, then the work. */
 #include <string.h>
 
 #include "parts.h"
@@ -59,6 +59,26 @@ uint32_t peer_fresh_start(const uint32_t *plan, size_t plan_length,
     return tell(answer, ACCEPTED, 0, 0, 0);
 }
 
+/* Judges the plan, and then the tables. */
+static enum refusal judge_tables(const struct machine *machine)
+{
+    if (!plan_is_possible(machine->plan)) {
+        return PLAN_IMPOSSIBLE;
+    }
+    if (!tables_are_whole(machine->plan, machine->state, machine->cache, machine->boxes)) {
+        return TABLE_DAMAGED;
+    }
+    return ACCEPTED;
+}
+
+/* Runs a machine that was judged. */
+static uint32_t run_judged(const struct machine *machine, uint64_t limit, uint64_t *answer)
+{
+    uint64_t done = run_steps(machine, limit);
+    bool ended = machine->state->windows == all_windows(machine->plan);
+    return tell(answer, ACCEPTED, 0, done, ended);
+}
+
 uint32_t peer_step(const uint32_t *plan, size_t plan_length,
                    const uint32_t *scripts, size_t scripts_length,
                    uint64_t *state, size_t state_length,
@@ -86,21 +106,47 @@ uint32_t peer_run(const uint32_t *plan, size_t plan_length,
         return tell_length(answer, answer_length);
     }
     struct machine machine = {
-        (const struct plan *)plan, scripts, (struct state *)state, cache, boxes, log, 0
+        (const struct plan *)plan, scripts, (struct state *)state, cache, boxes, log, 0, EVERYONE
     };
-    if (!plan_is_possible(machine.plan)) {
-        return tell(answer, PLAN_IMPOSSIBLE, 0, 0, 0);
-    }
-    if (!tables_are_whole(machine.plan, machine.state, cache, boxes)) {
-        return tell(answer, TABLE_DAMAGED, 0, 0, 0);
+    enum refusal refusal = judge_tables(&machine);
+    if (refusal != ACCEPTED) {
+        return tell(answer, refusal, 0, 0, 0);
     }
     machine.room = room_of(machine.plan, log_length);
     if (!state_is_possible(machine.plan, machine.state, machine.room)) {
         return tell(answer, STATE_IMPOSSIBLE, 0, 0, 0);
     }
-    uint64_t done = run_steps(&machine, limit);
-    bool ended = machine.state->windows == all_windows(machine.plan);
-    return tell(answer, ACCEPTED, 0, done, ended);
+    return run_judged(&machine, limit, answer);
+}
+
+uint32_t peer_run_kept(const uint32_t *plan, size_t plan_length,
+                       const uint32_t *scripts, size_t scripts_length,
+                       uint64_t *state, size_t state_length,
+                       uint16_t *cache, size_t cache_length,
+                       uint32_t *boxes, size_t boxes_length,
+                       uint8_t *kept, size_t kept_length,
+                       uint32_t domain, uint64_t part, uint64_t limit,
+                       uint64_t *answer, size_t answer_length)
+{
+    if (plan_length != PLAN || scripts_length != SCRIPTS || state_length != STATE
+        || cache_length != CACHE || boxes_length != BOXES || answer_length != ANSWER
+        || kept_length % RECORD != 0 || kept_length / RECORD != part) {
+        return tell_length(answer, answer_length);
+    }
+    struct machine machine = {
+        (const struct plan *)plan, scripts, (struct state *)state, cache, boxes, kept, part, domain
+    };
+    enum refusal refusal = judge_tables(&machine);
+    if (refusal != ACCEPTED) {
+        return tell(answer, refusal, 0, 0, 0);
+    }
+    if (!state_is_possible(machine.plan, machine.state, part)) {
+        return tell(answer, STATE_IMPOSSIBLE, 0, 0, 0);
+    }
+    if (domain >= machine.plan->domains) {
+        return tell(answer, DOMAIN_UNDECLARED, 0, 0, 0);
+    }
+    return run_judged(&machine, limit, answer);
 }
 
 uint32_t peer_log(const uint32_t *plan, size_t plan_length,

@@ -118,7 +118,9 @@ struct machine {
     uint32_t *boxes;
     uint8_t *log;
     uint64_t room; /* records in one domain's part of the log */
+    uint32_t kept; /* the domain whose part is all of the log; EVERYONE where each has one */
 };
+enum { EVERYONE = DOMAINS };
 
 /* Where a run stands: the window that is running or, after the end, none. */
 struct place {

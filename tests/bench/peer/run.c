@@ -202,14 +202,23 @@ static inline uint64_t least_of(uint64_t first, uint64_t second)
     return first < second ? first : second;
 }
 
+/* Where a domain's records go; null where they are not kept. */
+static inline uint8_t *part_of(const struct machine *machine, uint32_t domain)
+{
+    if (machine->kept == EVERYONE) {
+        return machine->log + RECORD * machine->room * domain;
+    }
+    return machine->kept == domain ? machine->log : NULL;
+}
+
 /* Does ops of the running domain until its window is over or so many are done; gives how many.
  * What the loop needs is in variables of its own: a byte of the log could be a byte of anything
  * else for all that the compiler knows. */
-static uint64_t run_ops(const struct machine *lent, uint32_t domain, uint64_t end, uint64_t most)
+static inline uint64_t run_ops_into(uint8_t *part, bool is_kept, const struct machine *lent,
+                                    uint32_t domain, uint64_t end, uint64_t most)
 {
     const struct machine machine = *lent;
     const uint32_t *script = machine.scripts + SCRIPT * domain;
-    uint8_t *part = machine.log + RECORD * machine.room * domain;
     uint64_t position = machine.state->position[domain];
     uint64_t records = machine.state->records[domain];
     uint64_t clock = machine.state->clock;
@@ -220,13 +229,23 @@ static uint64_t run_ops(const struct machine *lent, uint32_t domain, uint64_t en
     while (done < most && clock < end
            && do_op(&machine, domain, script[position + done], &outcome)) {
         clock += outcome.ticks;
-        write_record(part + RECORD * (records + done), &outcome, clock);
+        if (is_kept) {
+            write_record(part + RECORD * (records + done), &outcome, clock);
+        }
         done++;
     }
     machine.state->position[domain] = position + done;
     machine.state->records[domain] = records + done;
     machine.state->clock = clock;
     return done;
+}
+
+/* The same loop twice, so that neither asks at each op whether its record is kept. */
+static uint64_t run_ops(const struct machine *machine, uint32_t domain, uint64_t end, uint64_t most)
+{
+    uint8_t *part = part_of(machine, domain);
+    return part == NULL ? run_ops_into(NULL, false, machine, domain, end, most)
+                        : run_ops_into(part, true, machine, domain, end, most);
 }
 
 /* Counts, of sixteen entries, those that have the top bit once `more` is added to each. Four at a

@@ -7,6 +7,9 @@ use pirkvezo_differential::engine::{Engine, Reference};
 use pirkvezo_differential::generate::bytes::random_text;
 use pirkvezo_differential::generate::disturb::disturb;
 use pirkvezo_differential::generate::faults::faulty_text;
+use pirkvezo_differential::generate::kept::{
+    disturb_kept, disturb_part, kept_world, random_kept_call, random_limit,
+};
 use pirkvezo_differential::generate::lists::{random_call, random_world};
 use pirkvezo_differential::generate::mutate::mutate;
 use pirkvezo_differential::generate::put_out::put_out_world;
@@ -28,8 +31,9 @@ struct Trial<'e> {
 
 /// Compares an engine with the reference over so many cases. Each case is five
 /// texts, a list of calls from a fresh start, a world that no run reaches, one whose
-/// ops put lines out of L1, and one that is damaged again and again. Gives how many
-/// calls were compared, and what they came to.
+/// ops put lines out of L1, one that is damaged again and again, and one of which a
+/// domain's part is all that is lent of the log. Gives how many calls were compared, and
+/// what they came to.
 pub fn agrees(engine: &dyn Engine, count: u64) -> Result<(u64, Tally), String> {
     let mut trial = Trial {
         engine,
@@ -62,7 +66,8 @@ impl<'e> Trial<'e> {
         self.list(rng)?;
         self.scattered(rng)?;
         self.put_out(rng)?;
-        self.damaged(rng)
+        self.damaged(rng)?;
+        self.kept(rng)
     }
 
     /// A reading into rows that hold no 0, so that one left unwritten shows.
@@ -127,6 +132,26 @@ impl<'e> Trial<'e> {
         Ok(())
     }
 
+    /// Calls with one domain's part, of which some have other numbers or are lent
+    /// something else.
+    fn kept(&mut self, rng: &mut Rng) -> Result<(), Difference> {
+        let (world, kept) = kept_world(rng);
+        let mut pair = self.pair(world);
+        for _ in 0..8 {
+            let before = pair.world().clone();
+            let mut other = kept;
+            disturb_kept(rng, &before, &mut other);
+            if rng.one_in(2) {
+                disturb_part(rng, pair.world_mut(), other);
+            }
+            self.call(&mut pair, &Call::RunKept(other, random_limit(rng)))?;
+            *pair.world_mut() = before;
+            let call = random_kept_call(rng, pair.world(), kept);
+            self.call(&mut pair, &call)?;
+        }
+        Ok(())
+    }
+
     fn pair(&self, world: World) -> Pair<'e> {
         Pair::new(&Reference, self.engine, world)
     }
@@ -143,7 +168,7 @@ impl<'e> Trial<'e> {
 mod tests {
     use super::agrees;
     use crate::peer::Peer;
-    use pirkvezo_differential::engine::{Engine, OldBoard, Tables};
+    use pirkvezo_differential::engine::{Engine, Kept, OldBoard, Tables};
 
     #[test]
     fn the_peer_agrees_with_the_reference() {
@@ -153,6 +178,7 @@ mod tests {
         tally.assert_met("fresh start", &[0, 11, 12]);
         tally.assert_met("step", &[0, 11, 12, 13, 14]);
         tally.assert_met("run", &[0, 11, 12, 13, 14]);
+        tally.assert_met("run kept", &[0, 4, 11, 12, 13, 14]);
         tally.assert_met("log", &[0, 4, 11, 12, 14]);
     }
 
@@ -165,6 +191,8 @@ mod tests {
         BoxesLeft,
         CacheLeft,
         LinesNotWritten,
+        KeptByTheNext,
+        KeptAsAWhole,
         LogOneShort,
     }
 
@@ -226,6 +254,18 @@ mod tests {
             }
         }
 
+        fn run_kept(&self, tables: Tables, kept: Kept, limit: u64, answer: &mut [u64]) -> u32 {
+            let next = Kept {
+                domain: kept.domain ^ 1,
+                ..kept
+            };
+            match self {
+                Faulty::KeptByTheNext => Peer.run_kept(tables, next, limit, answer),
+                Faulty::KeptAsAWhole => Peer.run(tables, limit, answer),
+                _ => Peer.run_kept(tables, kept, limit, answer),
+            }
+        }
+
         fn log(
             &self,
             plan: &[u32],
@@ -251,6 +291,8 @@ mod tests {
             Faulty::BoxesLeft,
             Faulty::CacheLeft,
             Faulty::LinesNotWritten,
+            Faulty::KeptByTheNext,
+            Faulty::KeptAsAWhole,
             Faulty::LogOneShort,
         ];
         for fault in faults {

@@ -1,6 +1,6 @@
-//! Times the library beside the reference and the C peer in one process: runs,
-//! readings, and single steps. Plans written back are timed beside the library's
-//! own readings; the peer writes none.
+//! Times the library beside the reference and the C peer in one process: runs, runs
+//! that keep one domain's log, readings, and single steps. Plans written back are timed
+//! beside the library's own readings; the peer writes none.
 //!
 //! Each figure is the median over several rounds, in which the engines take
 //! short turns. The first three go through the plain interface; the fourth is
@@ -12,6 +12,7 @@
 
 mod check;
 mod fold;
+mod kept;
 mod peer;
 mod stack;
 mod subjects;
@@ -77,8 +78,11 @@ fn print_lines(settings: &Settings, tables: &[Table]) {
 fn tables(settings: &Settings, library: Box<dyn Engine>) -> Vec<Table> {
     let mut subjects = subjects::all(library);
     let subjects = &mut subjects[..];
+    let [kept, beside] = kept::tables(settings);
     vec![
         runs(settings, subjects, "run to the end", workloads::runs()),
+        kept,
+        beside,
         runs(settings, subjects, "growth", workloads::growth()),
         readings(settings, subjects),
         stack::table(settings, subjects),

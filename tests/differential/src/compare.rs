@@ -49,6 +49,10 @@ impl<'e> Pair<'e> {
         &self.world
     }
 
+    pub fn into_world(self) -> World {
+        self.world
+    }
+
     /// For changes from outside, which both engines meet.
     pub fn world_mut(&mut self) -> &mut World {
         &mut self.world
@@ -96,8 +100,12 @@ fn scene(call: &Call, before: &World, after: &World) -> String {
         other => format!("{other:?}"),
     };
     format!(
-        "{call}: plan {:?} state {:?} gives answer {:?} state {:?}",
-        before.plan, before.state, after.answer, after.state
+        "{call}: plan {:?} state {:?} log of {} bytes gives answer {:?} state {:?}",
+        before.plan,
+        before.state,
+        before.log.len(),
+        after.answer,
+        after.state
     )
 }
 

@@ -6,12 +6,57 @@
 //! ops. If each of its windows began with equal boxes addressed to it, then its
 //! log, its script position, the L2 sets of its colours, and in its own window
 //! the clock, must be equal. Where two runs go on from lent worlds that are equal for
-//! the observer, the same must hold from there on.
+//! the observer, the same must hold from there on. It must also hold where the observer's
+//! log is all that is lent of the log: document 02, E8.
 
-use crate::engine::Engine;
+use crate::engine::{Engine, Kept};
 use crate::timeline::Timeline;
 use crate::world::{Call, World};
+use std::ops::Range;
 use std::rc::Rc;
+
+/// A domain that watches a run, and how it does.
+#[derive(Clone, Copy, Debug, PartialEq, Eq)]
+pub enum Observer {
+    /// By single steps with everyone's log, and by asking for its own.
+    Asking(usize),
+    /// By runs of one step each that keep its log, which is all that is lent.
+    Keeping(usize),
+}
+
+impl Observer {
+    fn domain(self) -> usize {
+        match self {
+            Observer::Asking(domain) | Observer::Keeping(domain) => domain,
+        }
+    }
+
+    /// The call that does the next step.
+    fn step(self, world: &World) -> Call {
+        match self {
+            Observer::Asking(_) => Call::Step,
+            Observer::Keeping(domain) => {
+                let kept = Kept {
+                    domain: domain as u32,
+                    part: world.log.len() as u64 / 8,
+                };
+                Call::RunKept(kept, 1)
+            }
+        }
+    }
+
+    /// Where its records so far are in the log.
+    fn records(self, engine: &dyn Engine, world: &mut World) -> Result<Range<usize>, String> {
+        let (place, length) = match self {
+            Observer::Asking(domain) => {
+                world.accept(engine, &Call::Log(domain as u32))?;
+                (world.answer[2], world.answer[3])
+            }
+            Observer::Keeping(domain) => (0, 8 * world.state[10 + domain]),
+        };
+        Ok(place as usize..(place + length) as usize)
+    }
+}
 
 /// A run to its end, step by step, as it bears on one domain.
 pub struct Trail {
@@ -50,13 +95,17 @@ pub struct Compared {
 
 impl Trail {
     /// Makes a fresh start and steps to the end.
-    pub fn walk(engine: &dyn Engine, mut world: World, observer: usize) -> Result<Self, String> {
+    pub fn walk(engine: &dyn Engine, mut world: World, observer: Observer) -> Result<Self, String> {
         world.accept(engine, &Call::FreshStart)?;
         Trail::walk_on(engine, world, observer)
     }
 
     /// Steps to the end from where this world is.
-    pub fn walk_on(engine: &dyn Engine, mut world: World, observer: usize) -> Result<Self, String> {
+    pub fn walk_on(
+        engine: &dyn Engine,
+        mut world: World,
+        observer: Observer,
+    ) -> Result<Self, String> {
         let start = world.state[0] as usize;
         let mut windows = Vec::new();
         let mut current: Vec<Point> = Vec::new();
@@ -67,7 +116,8 @@ impl Trail {
                 .or(windows.last().and_then(|w: &Vec<_>| w.last()));
             let point = Point::look(engine, &mut world, observer, before)?;
             current.push(point);
-            world.accept(engine, &Call::Step)?;
+            let step = observer.step(&world);
+            world.accept(engine, &step)?;
             let (steps, ended) = (world.answer[2], world.answer[3]);
             if world.state[0] != completed || steps == 0 {
                 windows.push(std::mem::take(&mut current));
@@ -90,14 +140,14 @@ impl Point {
     fn look(
         engine: &dyn Engine,
         world: &mut World,
-        observer: usize,
+        observer: Observer,
         before: Option<&Point>,
     ) -> Result<Self, String> {
-        world.accept(engine, &Call::Log(observer as u32))?;
-        let (place, length) = (world.answer[2] as usize, world.answer[3] as usize);
-        let log = world.log.get(place..place + length);
+        let records = observer.records(engine, world)?;
+        let log = world.log.get(records);
         let log = log.ok_or("a log was handed back that is not in the log")?;
-        let colours = world.plan[84 + observer];
+        let own = observer.domain();
+        let colours = world.plan[84 + own];
         let owned = (0..64).filter(|set| colours >> (set / 4) & 1 == 1);
         let sets: Vec<u16> = owned
             .flat_map(|set| &world.cache[16 + 4 * set..][..4])
@@ -105,13 +155,13 @@ impl Point {
             .collect();
         let before = before.map(|point| &point.part);
         let part = Part {
-            position: world.state[2 + observer],
+            position: world.state[2 + own],
             log: shared(before.map(|part| &part.log), log),
             sets: shared(before.map(|part| &part.sets), &sets),
         };
         Ok(Point {
             clock: world.state[1],
-            inbox: std::array::from_fn(|from| world.boxes[8 * from + observer]),
+            inbox: std::array::from_fn(|from| world.boxes[8 * from + own]),
             part,
         })
     }

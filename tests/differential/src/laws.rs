@@ -2,10 +2,11 @@
 //! change nothing, the answer fits the state, and only the log bytes of new
 //! records are written. What document 02, E2, says of every plan: its shares give
 //! its colours, and none is let twice. What its E7 leaves to a domain: lines that others
-//! put out go back to sets of their own colours. These hold for one engine alone, so
-//! they bind also where there is no second one.
+//! put out go back to sets of their own colours. What its E8 says of a part: its length is
+//! that of its records, and those of other domains are not written to it. These hold for
+//! one engine alone, so they bind also where there is no second one.
 
-use crate::engine::{ANSWER, BOXES, CACHE, PLAN, SCRIPTS, STATE};
+use crate::engine::{Kept, ANSWER, BOXES, CACHE, PLAN, SCRIPTS, STATE};
 use crate::timeline::Timeline;
 use crate::world::{Call, World};
 
@@ -42,6 +43,7 @@ pub fn judge(call: &Call, before: &World, after: &World, number: u32) -> Result<
         }
         let companion = after.answer[1];
         return match number {
+            4 => judge_undeclared(call, before, companion),
             16 if !matches!(call, Call::Read(_)) => say("16 is for readings alone"),
             16 if !(16..=19).contains(&companion) => say("16 has a total of 16 to 19 colours"),
             11..=15 | 17.. if companion != 0 => say("11 to 14 have the companion 0"),
@@ -63,8 +65,16 @@ pub fn judge(call: &Call, before: &World, after: &World, number: u32) -> Result<
             expected.boxes.fill(0);
         }
         Call::Log(domain) => return judge_log(*domain, before, after, expected),
-        Call::Step => return judge_steps(1, before, after, expected),
-        Call::Run(limit) => return judge_steps(*limit, before, after, expected),
+        Call::Step => return judge_steps(Parts::of(before), 1, before, after, expected),
+        Call::Run(limit) => {
+            return judge_steps(Parts::of(before), *limit, before, after, expected);
+        }
+        Call::RunKept(kept, limit) => {
+            if kept.domain as usize >= declared(before)? {
+                return say("an undeclared domain's log was kept");
+            }
+            return judge_steps(Parts::kept(*kept), *limit, before, after, expected);
+        }
     }
     if after.answer[2..] != [0, 0] {
         return say("readings and fresh starts answer 0, 0, 0, 0");
@@ -84,7 +94,61 @@ fn has_wrong_length(call: &Call, world: &World) -> bool {
         Call::Read(_) => plan || scripts,
         Call::FreshStart => plan || state || tables,
         Call::Step | Call::Run(_) => plan || state || scripts || tables,
+        Call::RunKept(kept, _) => plan || state || scripts || tables || !is_part(world, *kept),
         Call::Log(_) => plan || state,
+    }
+}
+
+/// Whether a world's log is as long as so many records are.
+fn is_part(world: &World, kept: Kept) -> bool {
+    world.log.len() as u128 == 8 * u128::from(kept.part)
+}
+
+/// Judges 4 where it is not a reading's: the domain that was named is not declared.
+fn judge_undeclared(call: &Call, before: &World, companion: u64) -> Result<(), String> {
+    let named = match call {
+        Call::RunKept(kept, _) => kept.domain,
+        Call::Log(domain) => *domain,
+        Call::Read(_) => return Ok(()),
+        _ => return Err("4 is for calls that name a domain".into()),
+    };
+    match companion == 0 && named as usize >= declared(before)? {
+        true => Ok(()),
+        false => Err("4 has the companion 0 and is for undeclared domains".into()),
+    }
+}
+
+/// The parts of a log that a run may write to.
+#[derive(Clone, Copy)]
+struct Parts {
+    /// How many records each holds.
+    room: u64,
+    /// The one domain whose part was lent; none where everyone's was.
+    kept: Option<usize>,
+}
+
+impl Parts {
+    /// Those of everyone's log.
+    fn of(world: &World) -> Self {
+        Parts {
+            room: room(world) as u64,
+            kept: None,
+        }
+    }
+
+    fn kept(kept: Kept) -> Self {
+        Parts {
+            room: kept.part,
+            kept: Some(kept.domain as usize),
+        }
+    }
+
+    /// Where a domain's part begins; none where it was not lent.
+    fn place(self, domain: usize) -> Option<usize> {
+        match self.kept {
+            None => Some(8 * self.room as usize * domain),
+            Some(kept) => (kept == domain).then_some(0),
+        }
     }
 }
 
@@ -142,6 +206,7 @@ fn judge_log(domain: u32, before: &World, after: &World, expected: World) -> Res
 }
 
 fn judge_steps(
+    parts: Parts,
     limit: u64,
     before: &World,
     after: &World,
@@ -176,10 +241,12 @@ fn judge_steps(
         _ => {}
     }
     for domain in 0..declared(before)? {
-        if after.state[10 + domain] > room(before) as u64 {
+        if after.state[10 + domain] > parts.room {
             return Err("there are more records than a part holds".into());
         }
-        let part = 8 * room(before) * domain;
+        let Some(part) = parts.place(domain) else {
+            continue;
+        };
         let new = part + 8 * before.state[10 + domain] as usize
             ..part + 8 * after.state[10 + domain] as usize;
         expected.log[new.clone()].copy_from_slice(&after.log[new]);

@@ -40,6 +40,7 @@ fn kind(call: &Call) -> &'static str {
         Call::FreshStart => "fresh start",
         Call::Step => "step",
         Call::Run(_) => "run",
+        Call::RunKept(..) => "run kept",
         Call::Log(_) => "log",
     }
 }

@@ -1,6 +1,6 @@
 //! Everything that is lent to an engine, and the calls made with it.
 
-use crate::engine::{Engine, Tables, ANSWER, BOXES, CACHE, PLAN, SCRIPTS, STATE};
+use crate::engine::{Engine, Kept, Tables, ANSWER, BOXES, CACHE, PLAN, SCRIPTS, STATE};
 use crate::guarded::Guarded;
 
 /// The seven rows that calls are lent.
@@ -22,6 +22,8 @@ pub enum Call {
     FreshStart,
     Step,
     Run(u64),
+    /// The world's log is one domain's part then.
+    RunKept(Kept, u64),
     Log(u32),
 }
 
@@ -64,6 +66,10 @@ impl World {
             Call::Run(limit) => {
                 let (tables, answer) = self.lend();
                 engine.run(tables, *limit, answer)
+            }
+            Call::RunKept(kept, limit) => {
+                let (tables, answer) = self.lend();
+                engine.run_kept(tables, *kept, *limit, answer)
             }
             Call::Log(domain) => {
                 let World {

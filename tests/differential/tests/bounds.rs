@@ -6,7 +6,7 @@ use pirkvezo_differential::bound::compare::compare;
 use pirkvezo_differential::bound::runs::{walk, Held, List};
 use pirkvezo_differential::bound::subject::Subject;
 use pirkvezo_differential::engine::{
-    bounder_under_test, under_test, Bounder, Engine, Reference, ANSWER, PLAN, SCRIPTS,
+    bounder_under_test, under_test, Bounder, Engine, Kept, Reference, ANSWER, PLAN, SCRIPTS,
 };
 use pirkvezo_differential::generate::bounds::{
     disturb_lengths, narrow_world, random_bound_call, roomy_world, set_lengths, spoil_plan,
@@ -323,6 +323,29 @@ fn runs_of_exactly_their_bound() {
                 assert_eq!(world.call(subject.engine, &call), 0, "{case}");
             }
             assert_eq!(world.answer[..], [0, 0, bound - 1, 0], "{case}");
+        }
+    }
+}
+
+/// So does a run that keeps one domain's log, whichever domain's: document 02, E8.
+#[test]
+fn kept_runs_end_within_their_bound() {
+    let trial = Trial::new();
+    for (case, mut rng) in cases("kept runs within their bound", 1_000) {
+        let mut world = random_world(&mut rng);
+        let domain = rng.below(world.plan[2].into()) as u32;
+        let any = rng.below(300);
+        let part = rng.pick(&[0, 1, 256, any]);
+        world.log.set_length(8 * part as usize);
+        for subject in trial.subjects() {
+            let bound = subject.bound(&world);
+            let bound = bound.unwrap_or_else(|what| panic!("{case}: {what}"));
+            let run = Call::RunKept(Kept { domain, part }, bound);
+            for call in [Call::FreshStart, run] {
+                let made = world.accept(subject.engine, &call);
+                made.unwrap_or_else(|what| panic!("{case}: {what}"));
+            }
+            assert_eq!(world.answer[3], 1, "{case}");
         }
     }
 }

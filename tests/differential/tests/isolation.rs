@@ -1,11 +1,12 @@
 //! Demand 3 by trial: what the others do shows nowhere in what a domain has.
-//! Document 01, "Two lists of calls", and document 02, E7: also where lines that others
-//! put out go back through L2.
+//! Document 01, "Two lists of calls", and document 02: also where lines that others put
+//! out go back through L2 (E7), and where the domain's own log is all that is kept (E8).
 
 use pirkvezo_differential::engine::{under_test, Engine, OldBoard, Reference};
 use pirkvezo_differential::generate::pairs::StorePair;
 use pirkvezo_differential::generate::rivals::WorldPair;
-use pirkvezo_differential::isolation::{hold_together, Compared, Trail};
+use pirkvezo_differential::isolation::{hold_together, Compared, Observer, Trail};
+use pirkvezo_differential::kept::keep;
 use pirkvezo_differential::rng::Rng;
 use pirkvezo_differential::seed::cases;
 use pirkvezo_differential::timeline::Timeline;
@@ -14,15 +15,31 @@ use pirkvezo_differential::world::{Call, World};
 /// Runs both stores and holds the two runs against each other.
 fn try_pair(engine: &dyn Engine, rng: &mut Rng) -> Result<Compared, String> {
     let pair = StorePair::random(rng);
-    let plan = pair.sketch.flat();
-    let timeline = Timeline::of(&plan).expect("windows");
     let records = rng.pick(&[256, 256, 256, 40, 3, 0]);
     let log = 8 * pair.sketch.members.len() * records + rng.place(8);
+    try_stores(engine, &pair, log, Observer::Asking(pair.observer))
+}
+
+/// The same where the observer's part is all that is lent of the log.
+fn try_kept_pair(engine: &dyn Engine, rng: &mut Rng) -> Result<Compared, String> {
+    let pair = StorePair::random(rng);
+    let records = rng.pick(&[256, 256, 40, 9, 3, 0]);
+    try_stores(engine, &pair, 8 * records, Observer::Keeping(pair.observer))
+}
+
+fn try_stores(
+    engine: &dyn Engine,
+    pair: &StorePair,
+    log: usize,
+    observer: Observer,
+) -> Result<Compared, String> {
+    let plan = pair.sketch.flat();
+    let timeline = Timeline::of(&plan).expect("windows");
     let [first, second] = [0, 1].map(|at| {
         // What the log held before the run is nobody's business either.
         let mut world = World::new(&plan, &pair.stores[at], log);
         world.log.fill(0x55 << at);
-        Trail::walk(engine, world, pair.observer)
+        Trail::walk(engine, world, observer)
     });
     hold_together(&first?, &second?, &timeline, pair.observer)
 }
@@ -78,17 +95,39 @@ fn nothing_shows_of_the_others() {
     try_both("isolation", 2_000, try_pair);
 }
 
+#[test]
+fn nothing_shows_of_the_others_in_a_kept_log() {
+    try_both("isolation, kept", 2_000, try_kept_pair);
+}
+
 /// Runs on from two lent worlds and holds the two runs against each other.
 fn try_worlds(engine: &dyn Engine, rng: &mut Rng) -> Result<Compared, String> {
     let WorldPair { observer, worlds } = WorldPair::random(rng);
     let timeline = Timeline::of(&worlds[0].plan).expect("windows");
-    let [first, second] = worlds.map(|world| Trail::walk_on(engine, world, observer));
+    let [first, second] =
+        worlds.map(|world| Trail::walk_on(engine, world, Observer::Asking(observer)));
     hold_together(&first?, &second?, &timeline, observer)
 }
 
 #[test]
 fn nothing_shows_of_the_others_on_lent_tables() {
     try_both("isolation, lent", 2_000, try_worlds);
+}
+
+/// The same where the observer's part is all that is lent of each world's log.
+fn try_kept_worlds(engine: &dyn Engine, rng: &mut Rng) -> Result<Compared, String> {
+    let WorldPair { observer, worlds } = WorldPair::random(rng);
+    let timeline = Timeline::of(&worlds[0].plan).expect("windows");
+    let [first, second] = worlds.map(|world| {
+        let (world, _) = keep(&world, observer);
+        Trail::walk_on(engine, world, Observer::Keeping(observer))
+    });
+    hold_together(&first?, &second?, &timeline, observer)
+}
+
+#[test]
+fn nothing_shows_of_the_others_in_a_kept_log_on_lent_tables() {
+    try_both("isolation, kept, lent", 2_000, try_kept_worlds);
 }
 
 /// E7 shows in most of those pairs, in both worlds, and nearly all differ in their caches.

@@ -7,6 +7,7 @@ use pirkvezo_differential::engine::{under_test, Engine, OldBoard, Reference};
 use pirkvezo_differential::generate::lists::{random_call, random_world};
 use pirkvezo_differential::generate::put_out::put_out_world;
 use pirkvezo_differential::generate::scatter::scatter;
+use pirkvezo_differential::kept::keep;
 use pirkvezo_differential::seed::cases;
 use pirkvezo_differential::world::{Call, World};
 use std::fmt::Display;
@@ -94,6 +95,24 @@ fn runs() {
         }
     }
     count.assert_shown("runs, put out", 60);
+}
+
+/// Runs that keep one domain's log: often the log of another domain than the one that puts
+/// lines out.
+#[test]
+fn kept_runs() {
+    let other = under_test();
+    let mut count = Count::default();
+    for (case, mut rng) in cases("kept runs, put out", 3_000) {
+        let whole = put_out_world(&mut rng);
+        let (world, kept) = keep(&whole, rng.place(whole.plan[2] as usize));
+        let mut pair = Pair::new(&Reference, &*other, world);
+        count.worlds += 1;
+        let limit = rng.pick(&[1, 2, 5, 16, 60, u64::MAX]);
+        count.try_call(&mut pair, &Call::RunKept(kept, limit), &case);
+        count.call(&mut pair, &Call::RunKept(kept, u64::MAX), &case);
+    }
+    count.assert_shown("kept runs, put out", 60);
 }
 
 /// All ways in which up to four of these lines can stand in a set.

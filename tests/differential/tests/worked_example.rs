@@ -1,8 +1,9 @@
 //! Fixed calls with the answers that document 01 settles, asked of every engine
 //! by itself: "Settled numbers" and "The plan text", with the shares of document
-//! 02, E2, and with lines that go back through L2 by its E7.
+//! 02, E2, with lines that go back through L2 by its E7, and with one domain's log kept
+//! by its E8.
 
-use pirkvezo_differential::engine::{under_test, Engine, Reference};
+use pirkvezo_differential::engine::{under_test, Engine, Kept, Reference};
 use pirkvezo_differential::world::{Call, World};
 
 const WORKED: &str = "\
@@ -39,6 +40,17 @@ fn worked(engine: &dyn Engine) -> World {
     world
 }
 
+/// The records of the worked run, by domain, as bytes.
+fn worked_records() -> [Vec<u8>; 2] {
+    let first = [
+        [3, 0, 3, 0, 100, 0, 0, 0],
+        [1, 0, 3, 0, 101, 0, 0, 0],
+        [4, 0, 1, 0, 50, 1, 0, 0],
+    ];
+    let second = [[5, 0, 77, 0, 113, 3, 0, 0], [3, 0, 100, 0, 213, 3, 0, 0]];
+    [first.concat(), second.concat()]
+}
+
 #[test]
 fn the_worked_run() {
     for engine in engines() {
@@ -51,14 +63,9 @@ fn the_worked_run() {
         let first = ask(&*engine, &mut world, Call::Log(0));
         let second = ask(&*engine, &mut world, Call::Log(1));
         assert_eq!((first, second), ([0, 0, 0, 24], [0, 0, 8_192, 16]));
-        let seen = [
-            [3, 0, 3, 0, 100, 0, 0, 0],
-            [1, 0, 3, 0, 101, 0, 0, 0],
-            [4, 0, 1, 0, 50, 1, 0, 0],
-        ];
-        assert_eq!(world.log[..24], *seen.as_flattened());
-        let seen = [[5, 0, 77, 0, 113, 3, 0, 0], [3, 0, 100, 0, 213, 3, 0, 0]];
-        assert_eq!(world.log[8_192..8_208], *seen.as_flattened());
+        let [first, second] = worked_records();
+        assert_eq!(world.log[..24], first);
+        assert_eq!(world.log[8_192..8_208], second);
         assert_eq!(ask(&*engine, &mut world, Call::Log(2)), [4, 0, 0, 0]);
         assert_eq!(ask(&*engine, &mut world, Call::Step), [0, 0, 0, 1]);
         assert_eq!(ask(&*engine, &mut world, Call::Run(0)), [0, 0, 0, 1]);
@@ -227,6 +234,102 @@ fn refusals_of_a_step() {
         refused(&|world| world.state[4] = 1, 14);
         refused(&|world| world.state[10] = 1_025, 14);
         refused(&|world| world.state[17] = 1, 14);
+    }
+}
+
+/// The worked world with a log that is one part of so many records.
+fn worked_part(engine: &dyn Engine, records: usize) -> World {
+    let mut world = worked(engine);
+    world.log.set_length(8 * records);
+    world.log.fill(0xa5);
+    world
+}
+
+#[test]
+fn refusals_of_a_kept_run() {
+    for engine in engines() {
+        let engine = &*engine;
+        let refused = |change: &dyn Fn(&mut World), domain, part, number| {
+            let mut world = worked_part(engine, 4);
+            change(&mut world);
+            for limit in [0, 1, u64::MAX] {
+                let mut after = world.clone();
+                let call = Call::RunKept(Kept { domain, part }, limit);
+                assert_eq!(ask(engine, &mut after, call), [number, 0, 0, 0]);
+                after.answer = world.answer.clone();
+                assert_eq!(after, world);
+            }
+        };
+        refused(&|world| world.log.set_length(31), 0, 4, 11);
+        refused(&|world| world.log.set_length(33), 0, 4, 11);
+        refused(&|world| world.log.set_length(64), 0, 4, 11);
+        refused(&|_| {}, 0, 3, 11);
+        refused(&|_| {}, 0, 5, 11);
+        refused(&|_| {}, 0, 4 + (1 << 61), 11);
+        refused(&|_| {}, 2, u64::MAX, 11);
+        refused(&|world| world.log.set_length(0), 0, 1 << 61, 11);
+        refused(&|world| world.log.set_length(0), 0, 1 << 63, 11);
+        refused(&|world| world.plan.set_length(91), 0, 4, 11);
+        refused(&|world| world.scripts.set_length(2_049), 0, 4, 11);
+        refused(&|world| world.state.set_length(19), 0, 4, 11);
+        refused(&|world| world.cache.set_length(271), 0, 4, 11);
+        refused(&|world| world.boxes.set_length(63), 0, 4, 11);
+        refused(&|world| world.plan.fill(0), 2, 5, 11);
+        // Each beside all that comes later.
+        refused(&|world| world.plan.fill(0), 2, 4, 12);
+        let damaged = |world: &mut World| {
+            world.cache[0] = 32_768;
+            world.state[11] = 5;
+        };
+        refused(&damaged, 2, 4, 13);
+        for domain in [0, 1, 2] {
+            refused(&|world| world.state[10] = 5, domain, 4, 14);
+            refused(&|world| world.state[11] = 5, domain, 4, 14);
+        }
+        for domain in [2, 7, 8, 256, u32::MAX] {
+            refused(&|_| {}, domain, 4, 4);
+            refused(&|world| world.log.set_length(0), domain, 0, 4);
+        }
+    }
+}
+
+#[test]
+fn the_worked_run_kept() {
+    for engine in engines() {
+        for (domain, seen) in (0..).zip(worked_records()) {
+            let mut world = worked_part(&*engine, 4);
+            let run = |limit| Call::RunKept(Kept { domain, part: 4 }, limit);
+            assert_eq!(ask(&*engine, &mut world, run(0)), [0, 0, 0, 0]);
+            assert_eq!(ask(&*engine, &mut world, run(6)), [0, 0, 6, 0]);
+            assert_eq!(ask(&*engine, &mut world, run(u64::MAX)), [0, 0, 1, 1]);
+            assert_eq!(ask(&*engine, &mut world, run(1)), [0, 0, 0, 1]);
+            assert_eq!(world.state[..4], [2, 1_252, 3, 2]);
+            assert_eq!(world.state[10..12], [3, 2]);
+            let (new, old) = world.log.split_at(seen.len());
+            assert_eq!(new, seen, "{}", engine.name());
+            assert!(old.iter().all(|byte| *byte == 0xa5), "{}", engine.name());
+        }
+    }
+}
+
+/// Domain 0 has room for two records, kept or not, and so it never sends.
+#[test]
+fn an_idle_domain_beside_the_kept_one() {
+    for engine in engines() {
+        let [first, _] = worked_records();
+        let second = [[6, 0, 0, 0, 113, 3, 0, 0], [3, 0, 100, 0, 213, 3, 0, 0]];
+        for (domain, seen) in [(0, &first[..16]), (1, second.as_flattened())] {
+            let mut world = worked_part(&*engine, 2);
+            let run = Call::RunKept(Kept { domain, part: 2 }, u64::MAX);
+            assert_eq!(ask(&*engine, &mut world, run), [0, 0, 6, 1]);
+            assert_eq!(world.state[..4], [2, 1_252, 2, 2]);
+            assert_eq!(world.state[10..12], [2, 2]);
+            assert_eq!(world.log[..], *seen, "{}", engine.name());
+        }
+        let mut world = worked_part(&*engine, 0);
+        let run = Call::RunKept(Kept { domain: 1, part: 0 }, u64::MAX);
+        assert_eq!(ask(&*engine, &mut world, run), [0, 0, 2, 1]);
+        assert_eq!(world.state[..4], [2, 1_252, 0, 0]);
     }
 }
 

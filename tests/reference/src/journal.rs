@@ -1,4 +1,5 @@
-//! The log and its records: document 01, "What a domain sees".
+//! The log and its records: document 01, "What a domain sees". A log of which one
+//! domain's part alone is lent: document 02, E8.
 
 use crate::plan::Plan;
 use crate::refusal::Refusal;
@@ -83,17 +84,52 @@ pub fn room(bytes: usize, domains: usize) -> usize {
     bytes / (RECORD * domains)
 }
 
-/// The lent log, cut into the domains' parts.
+/// Whose records a run stores.
+#[derive(Clone, Copy, Debug, PartialEq, Eq)]
+pub enum Keeping {
+    /// Everyone's: the lent log has a part for each domain.
+    All,
+    /// One domain's: the lent log is its part.
+    One(Kept),
+}
+
+/// The one domain whose records are stored.
+#[derive(Clone, Copy, Debug, PartialEq, Eq)]
+pub struct Kept {
+    pub domain: u32,
+    /// How many records each part holds, also those that nobody lends.
+    pub part: u64,
+}
+
+/// The lent log.
 #[derive(Debug)]
 pub struct Journal<'a> {
-    bytes: &'a mut [u8],
+    /// All that there is room for, without bytes left over.
+    records: &'a mut [[u8; RECORD]],
+    /// How many records each part holds.
     room: usize,
+    keeping: Keeping,
 }
 
 impl<'a> Journal<'a> {
-    pub fn over(bytes: &'a mut [u8], domains: usize) -> Self {
-        let room = room(bytes.len(), domains);
-        Journal { bytes, room }
+    /// The log in these bytes, where so many domains are declared; none if its length is
+    /// wrong. That of everyone's log never is, but that of a part must be what it holds.
+    pub fn over(bytes: &'a mut [u8], keeping: Keeping, domains: usize) -> Option<Self> {
+        // A plan without domains is refused before anyone asks how much room they have.
+        let shared = room(bytes.len(), domains.max(1));
+        let (records, left_over) = bytes.as_chunks_mut();
+        let room = match keeping {
+            Keeping::All => shared,
+            Keeping::One(kept) => {
+                let fits = left_over.is_empty() && kept.part == records.len() as u64;
+                fits.then_some(records.len())?
+            }
+        };
+        Some(Journal {
+            records,
+            room,
+            keeping,
+        })
     }
 
     /// How many records each part holds.
@@ -101,10 +137,49 @@ impl<'a> Journal<'a> {
         self.room as u64
     }
 
-    /// A domain's part, record by record.
-    pub fn part(&mut self, domain: usize) -> &mut [[u8; RECORD]] {
-        let (records, _) = self.bytes.as_chunks_mut();
-        &mut records[self.room * domain..][..self.room]
+    /// Whether the domain that is kept is one of so many declared ones.
+    pub fn keeps_declared(&self, domains: usize) -> bool {
+        match self.keeping {
+            Keeping::All => true,
+            Keeping::One(kept) => (kept.domain as usize) < domains,
+        }
+    }
+
+    /// A domain's own part.
+    pub fn sheet(&mut self, domain: usize) -> Sheet<'_> {
+        match self.keeping {
+            Keeping::All => Sheet::Stored(&mut self.records[self.room * domain..][..self.room]),
+            Keeping::One(kept) if kept.domain as usize == domain => Sheet::Stored(self.records),
+            Keeping::One(_) => Sheet::Counted { room: self.room },
+        }
+    }
+}
+
+/// Where the records of one domain go.
+#[derive(Debug)]
+pub enum Sheet<'a> {
+    /// To its part of the log, record by record.
+    Stored(&'a mut [[u8; RECORD]]),
+    /// Nowhere, though there are no more of them than its part would hold.
+    Counted { room: usize },
+}
+
+impl Sheet<'_> {
+    /// How many records there can be.
+    #[inline]
+    pub fn room(&self) -> usize {
+        match self {
+            Sheet::Stored(part) => part.len(),
+            Sheet::Counted { room } => *room,
+        }
+    }
+
+    /// Puts a record behind so many others, fewer than there can be.
+    #[inline]
+    pub fn put(&mut self, others: usize, record: Record) {
+        if let Sheet::Stored(part) = self {
+            part[others] = record.to_bytes();
+        }
     }
 }
 

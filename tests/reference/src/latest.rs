@@ -1,7 +1,7 @@
 //! The latest a domain can finish: document 02, E6.
 
 use crate::limits::{self, OPS};
-use crate::machine::{fresh_start, run_watched, Lent};
+use crate::machine::{fresh_start, run_watched, Lent, Manner};
 use crate::op::Op;
 use crate::plan::Plan;
 use crate::refusal::Refusal;
@@ -106,7 +106,7 @@ pub fn finished_windows(
     };
     let mut windows = Vec::new();
     run_watched(
-        cache::Board::New,
+        Manner::USUAL,
         plan,
         scripts,
         &mut state,

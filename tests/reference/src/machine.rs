@@ -1,7 +1,8 @@
-//! The machine from window to window: document 01, "Window, switch, run".
+//! The machine from window to window: document 01, "Window, switch, run". A run that
+//! stores one domain's records alone: document 02, E8.
 
 use crate::cache::{Board, Cache};
-use crate::journal::Journal;
+use crate::journal::{Journal, Keeping, Kept};
 use crate::mail::Mail;
 use crate::plan::Plan;
 use crate::refusal::Refusal;
@@ -15,7 +16,23 @@ use crate::state::State;
 pub struct Lent<'a> {
     pub cache: &'a mut [u16],
     pub boxes: &'a mut [u32],
+    /// Everyone's or, where one domain's records alone are stored, that domain's part.
     pub log: &'a mut [u8],
+}
+
+/// How a run is made, beside what it is lent.
+#[derive(Clone, Copy, Debug, PartialEq, Eq)]
+pub struct Manner {
+    pub board: Board,
+    pub keeping: Keeping,
+}
+
+impl Manner {
+    /// On the board of today, with everyone's records stored.
+    pub const USUAL: Manner = Manner {
+        board: Board::New,
+        keeping: Keeping::All,
+    };
 }
 
 /// What a call to run answers.
@@ -68,13 +85,30 @@ pub fn run(
     lent: Lent,
     limit: u64,
 ) -> Result<Progress, Refusal> {
-    run_watched(Board::New, plan, scripts, state, lent, limit, |_, _| ())
+    run_watched(Manner::USUAL, plan, scripts, state, lent, limit, |_, _| ())
 }
 
-/// Does the same on either board, and shows each window that it completes, with the
+/// Does the same steps, but stores the records of one domain alone, in a log that is that
+/// domain's part.
+pub fn run_kept(
+    plan: &Plan,
+    scripts: &[u32],
+    state: &mut State,
+    lent: Lent,
+    kept: Kept,
+    limit: u64,
+) -> Result<Progress, Refusal> {
+    let manner = Manner {
+        keeping: Keeping::One(kept),
+        ..Manner::USUAL
+    };
+    run_watched(manner, plan, scripts, state, lent, limit, |_, _| ())
+}
+
+/// Does the same in any manner, and shows each window that it completes, with the
 /// tick at which the window's switch has emptied L1.
 pub fn run_watched(
-    board: Board,
+    manner: Manner,
     plan: &Plan,
     scripts: &[u32],
     state: &mut State,
@@ -82,7 +116,7 @@ pub fn run_watched(
     limit: u64,
     mut completed: impl FnMut(Turn, u64),
 ) -> Result<Progress, Refusal> {
-    let mut machine = Machine::admit(board, plan, scripts, state, lent)?;
+    let mut machine = Machine::admit(manner, plan, scripts, state, lent)?;
     let mut left = limit;
     while let Some(turn) = machine.turn.filter(|_| left > 0) {
         left -= machine.work(turn, left);
@@ -114,27 +148,31 @@ struct Machine<'a> {
 }
 
 impl<'a> Machine<'a> {
-    /// Judges all that was lent: 11, 12, 13, 14.
+    /// Judges all that was lent: 11, 12, 13, 14, and last 4.
     fn admit(
-        board: Board,
+        manner: Manner,
         plan: &'a Plan,
         scripts: &'a [u32],
         state: &'a mut State,
         lent: Lent<'a>,
     ) -> Result<Self, Refusal> {
         let scripts = Scripts::over(scripts).ok_or(Refusal::TableLength)?;
-        let cache = Cache::on(board, lent.cache).ok_or(Refusal::TableLength)?;
+        let cache = Cache::on(manner.board, lent.cache).ok_or(Refusal::TableLength)?;
         let mail = Mail::over(lent.boxes).ok_or(Refusal::TableLength)?;
+        let domains = plan.domains.len();
+        let journal = Journal::over(lent.log, manner.keeping, domains);
+        let journal = journal.ok_or(Refusal::TableLength)?;
         let schedule = plan.schedule()?;
         let turn = schedule.turn(state.completed);
         let running = turn.map(|turn| plan.domains[turn.domain].colours);
         if !cache.is_sound(running) || !mail.is_sound(plan) {
             return Err(Refusal::Damaged);
         }
-        let domains = plan.domains.len();
-        let journal = Journal::over(lent.log, domains);
         if !state.is_possible(&schedule, domains, journal.room()) {
             return Err(Refusal::State);
+        }
+        if !journal.keeps_declared(domains) {
+            return Err(Refusal::Domain { at: 0 });
         }
         Ok(Machine {
             plan,
@@ -156,7 +194,7 @@ impl<'a> Machine<'a> {
             own: turn.domain,
             end: turn.end,
             script: self.scripts.of(turn.domain),
-            part: self.journal.part(turn.domain),
+            sheet: self.journal.sheet(turn.domain),
             cache: &mut self.cache,
             mail: &mut self.mail,
             clock: self.state.clock,

@@ -3,7 +3,7 @@
 
 use crate::cache::{Access, Accessed, Cache, Found, PutOut};
 use crate::geometry::Line;
-use crate::journal::{Kind, Record, RECORD};
+use crate::journal::{Kind, Record, Sheet};
 use crate::limits::OPS;
 use crate::mail::Mail;
 use crate::op::Op;
@@ -18,8 +18,8 @@ pub struct Shift<'a, 'c> {
     /// The first tick at which no op begins any more.
     pub end: u64,
     pub script: &'a [u32; OPS],
-    /// Its part of the log, record by record.
-    pub part: &'a mut [[u8; RECORD]],
+    /// Where its records go, and how many there can be.
+    pub sheet: Sheet<'a>,
     pub cache: &'a mut Cache<'c>,
     pub mail: &'a mut Mail<'c>,
     pub clock: u64,
@@ -48,7 +48,7 @@ impl Shift<'_, '_> {
         let position = self.counts.position as usize;
         let records = self.counts.records as usize;
         let op = match self.script.get(position) {
-            Some(number) if self.clock < self.end && records < self.part.len() => {
+            Some(number) if self.clock < self.end && records < self.sheet.room() => {
                 Op::from_stored(*number)
             }
             _ => None,
@@ -71,7 +71,7 @@ impl Shift<'_, '_> {
             value: effect.value,
             clock: self.clock as u32,
         };
-        self.part[records] = record.to_bytes();
+        self.sheet.put(records, record);
         self.counts.records += 1;
         self.counts.position += 1;
         Some(effect)

@@ -3,7 +3,7 @@
 
 use crate::cache::{Access, Board, Cache, L1};
 use crate::geometry::Line;
-use crate::journal::RECORD;
+use crate::journal::Sheet;
 use crate::limits::{COMPUTE, DOMAINS, OPS};
 use crate::mail::{Mail, BOXES};
 use crate::op::Op;
@@ -120,8 +120,9 @@ impl<'p> Tenant<'p> {
         steps.map(|(before, step)| self.op(*step, before)).collect()
     }
 
-    /// Does an op of this domain on these caches, as the machine does it. What boxes and
-    /// log hold takes no time and puts out no line, so they are empty.
+    /// Does an op of this domain on these caches, as the machine does it. What boxes
+    /// hold takes no time and puts out no line, so they are empty; nor does a record, so
+    /// none is stored.
     pub fn play(&self, caches: &mut [u16], op: Op) -> Effect {
         let mut script = [0; OPS];
         script[0] = op.stored();
@@ -131,7 +132,7 @@ impl<'p> Tenant<'p> {
             own: self.own,
             end: 1,
             script: &script,
-            part: &mut [[0; RECORD]],
+            sheet: Sheet::Counted { room: 1 },
             cache: &mut Cache::on(self.board, caches).expect("a cache table"),
             mail: &mut Mail::over(&mut boxes).expect("a table of boxes"),
             clock: 0,

@@ -9,7 +9,7 @@ use lib.ListN.{length}
 use Rattle.plan.specs.declared.Plan.{Plan}
 use Rattle.records.specs.Records.{partRecords}
 use Rattle.state.specs.World.{World}
-use Rattle.machine.specs.Steps.{runOf, steps}
+use Rattle.machine.specs.Steps.{runBy, steps}
 use Rattle.engine.specs.Running.{stepCallOf}
 use Rattle.isolation.specs.Calls.{AllOwn, Call, Handed, IsOwn, LogThings, OwnQuery, OwnRun, RunThings, foreign, own}
 use Rattle.isolation.specs.Calls.{handed, handedWorld, leftIn, leftWorld, logCall, logStatus, runCall, stepCall}
@@ -39,6 +39,19 @@ all-own things owned =
     let log = is-own (things .log) (owned .5) in
     λ i. record { plan = plan i; scripts = scripts i; state = state i; cache = cache i; boxes = boxes i; log = log i }
 
+-- things that a call left as they were handed leave the list's own world
+pub left-handed : (things : RunThings) (world left : World) → left ≡ handedWorld things world
+    → leftWorld things world left ≡ world
+left-handed things world left same =
+    ap (leftWorld things world) same
+    ∙ (λ i.
+    record {
+      state = left-same (things .state) (world .state) i;
+      cache = left-same (things .cache) (world .cache) i;
+      boxes = left-same (things .boxes) (world .boxes) i;
+      log = left-same (things .log) (world .log) i;
+    })
+
 -- everything that a log query takes is the list's own
 abbrev pub ownLogThings : LogThings
 ownLogThings = record { plan = own; state = own; log = own }
@@ -52,18 +65,6 @@ all-own-log things owned =
 
 module _ (plan : Plan) (scripts : List ℕ) where
   -- ---- a refused call leaves the list's own world
-
-  left-handed : (things : RunThings) (world left : World) → left ≡ handedWorld things world
-      → leftWorld things world left ≡ world
-  left-handed things world left same =
-      ap (leftWorld things world) same
-      ∙ (λ i.
-      record {
-        state = left-same (things .state) (world .state) i;
-        cache = left-same (things .cache) (world .cache) i;
-        boxes = left-same (things .boxes) (world .boxes) i;
-        log = left-same (things .log) (world .log) i;
-      })
 
   pub refused-stays : (call : Call) (world : World) → isRefused (verdictOf plan scripts call world) ≡ true
       → afterCall plan scripts call world ≡ world
@@ -92,7 +93,7 @@ module _ (plan : Plan) (scripts : List ℕ) where
   -- a call that was not refused was handed the list's own things
   accepted-steps : (call : Call) (world : World) → isRefused (verdictOf plan scripts call world) ≡ false → AllOwn call
       → afterCall plan scripts call world ≡ steps plan scripts (quotaOf world) (stepsAsked call) world
-  unfolding afterCall runOf
+  unfolding afterCall runBy
   accepted-steps (stepCall things) world accepted owned =
       subst (λ handed-things. isRefused (verdictOf plan scripts (stepCall handed-things) world) ≡ false
       → afterCall plan scripts (stepCall handed-things) world ≡ steps plan scripts (quotaOf world) 1 world)
@@ -108,7 +109,7 @@ module _ (plan : Plan) (scripts : List ℕ) where
   pub call-steps : (call : Call) (world : World)
       → (isRefused (verdictOf plan scripts call world) ≡ true) ⊎ AllOwn call
       → afterCall plan scripts call world ≡ steps plan scripts (quotaOf world) (stepsCounted plan scripts call world) world
-  unfolding stepsCounted runOf
+  unfolding stepsCounted runBy
   call-steps call world proper = go (isRefused (verdictOf plan scripts call world)) refl proper
     where
       go : (refused : Bool) → isRefused (verdictOf plan scripts call world) ≡ refused

@@ -9,7 +9,7 @@ use lib.ListN.{length}
 use Rattle.plan.specs.Validity.{planValid}
 use Rattle.records.specs.Records.{partRecords}
 use Rattle.state.specs.World.{World}
-use Rattle.machine.specs.Steps.{runOf, steps}
+use Rattle.machine.specs.Steps.{runBy, steps}
 use Rattle.machine.proofs.Runs.{steps-add}
 use Rattle.reachable.proofs.Reached.{log-length}
 use Rattle.machine.specs.Fresh.{freshWorld}
@@ -42,7 +42,7 @@ module _ (run : FreshRun) (possible : planValid (run .plan) ≡ true) where
   unfolding worldAfter
   steps-later count more =
       ap (λ quota. steps (run .plan) (run .scripts) quota more (worldAfter run count)) (quota-kept count)
-      ∙ sym (steps-add (run .plan) (run .scripts) (partRecords (run .plan) (length (run .log))) count more (freshWorld (run .log)))
+      ∙ sym (steps-add _ (run .plan) (run .scripts) (partRecords (run .plan) (length (run .log))) count more (freshWorld (run .log)))
 
   -- so a call leads from a world of the run to the one that is as many steps later as the call counts
   call-later : (call : Call) (count : ℕ) (world : World)
@@ -69,7 +69,7 @@ module _ (run : FreshRun) (possible : planValid (run .plan) ≡ true) where
 
 -- what a list leaves is what its run's steps leave
 pub leaves : (list : CallList) → IsList list → leavesOf list ≡ worldAfter (runOfList list) (pointOf list)
-unfolding worldAfter runOf
+unfolding worldAfter runBy
 leaves list is =
     calls-later (runOfList list) (list-valid list is) (list .calls) 0 (startWorld list) (list-start list is) (is .proper)
     ∙ ap (worldAfter (runOfList list)) (zero-add (pointOf list))

@@ -14,7 +14,7 @@ use Rattle.plan.proofs.Sums.{last-or-earlier}
 use Rattle.bound.specs.Bound.{stepBound}
 use Rattle.records.specs.Records.{partRecords}
 use Rattle.state.specs.World.{endedOf, freshState}
-use Rattle.machine.specs.Steps.{runOf}
+use Rattle.machine.specs.Steps.{runBy}
 use Rattle.machine.proofs.Runs.{steps-last}
 use Rattle.machine.proofs.Schedule.{NextStarts, NextWindow, Scheduled, scheduled, step-windows}
 use Rattle.machine.specs.Fresh.{freshWorld}
@@ -42,7 +42,7 @@ module _ (run : FreshRun) (possible : planValid (run .plan) ≡ true) where
   unfolding worldAfter
   next-window count =
       let quota = partRecords (run .plan) (length (run .log)) in
-      subst (NextWindow (run .plan) (worldAfter run count)) (sym (steps-last (run .plan) (run .scripts) quota count (freshWorld (run .log))))
+      subst (NextWindow (run .plan) (worldAfter run count)) (sym (steps-last _ (run .plan) (run .scripts) quota count (freshWorld (run .log))))
       (step-windows (run .plan) (run .scripts) quota (worldAfter run count) possible (scheduled-after count))
 
   -- windows completed never become fewer
@@ -64,7 +64,7 @@ module _ (run : FreshRun) (possible : planValid (run .plan) ≡ true) where
 
   -- the first window starts with the run, at 0
   first-starts : (window : ℕ) → window ≤ windowsAfter run 0 → StartedOnTime run 0 window
-  unfolding worldAfter runOf freshWorld freshState windowStart
+  unfolding worldAfter runBy freshWorld freshState windowStart
   first-starts window soFar =
       let none : window ≡ 0 = omega arith in
       record {

@@ -65,7 +65,7 @@ module _ (plan : Plan) (scripts : List ℕ) where
     unfolding runTwice ranFrom
     accepted-twice two =
         ran (first + second)
-        ∙ ap (ranFrom plan) (run-add plan scripts quota first second world)
+        ∙ ap (ranFrom plan) (run-add _ plan scripts quota first second world)
         ∙ sym (ap (λ (r : RunOutcome). after (r .steps) (runCallOf plan scripts (r .world) second)) (ran first) ∙ ap (after (runOf plan scripts quota first world .done)) two)
 
 -- ---- after n steps of a run, and after a list

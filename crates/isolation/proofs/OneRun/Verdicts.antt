@@ -13,18 +13,18 @@ use Rattle.records.specs.Records.{partRecords}
 use Rattle.state.specs.declared.State.{State}
 use Rattle.state.specs.StateValidity.{stateValid}
 use Rattle.state.specs.World.{World}
-use Rattle.machine.specs.Steps.{steps}
+use Rattle.machine.specs.Steps.{RunEffect, steps}
 use Rattle.refusal.specs.declared.Refusal.{Refusal}
 use Rattle.refusal.specs.declared.Refusal.the-variants.{ImpossiblePlan, WrongDomain, WrongLength}
 use Rattle.refusal.specs.declared.Verdict.{Verdict}
 use Rattle.refusal.specs.declared.Verdict.the-variants.{Accepted, Refused}
 use Rattle.engine.specs.LogQuery.{logStatusOf}
-use Rattle.engine.specs.Checks.{freshVerdict, logVerdict, runVerdict, tablesFit}
+use Rattle.engine.specs.Checks.{freshVerdict, lentVerdict, logVerdict, runVerdict, tablesFit}
 use Rattle.refusal.specs.Checks.{unless}
 use Rattle.refusal.proofs.Numbers.{number-not-zero}
 use Rattle.machine.specs.Fresh.{freshWorld}
 use Rattle.engine.specs.FreshStart.{FreshOutcome, freshFrom, freshStartOf}
-use Rattle.engine.specs.Running.{ranFrom, runCallOf, runFrom}
+use Rattle.engine.specs.Running.{outcomeFrom, ranFrom, runCallOf, runFrom}
 use Rattle.isolation.specs.Calls.{isRefused}
 
 -- every refusal has a number that is not 0
@@ -33,17 +33,25 @@ refused-number refusal = ap not (number-not-zero refusal)
 
 -- ---- a run
 
+-- whatever it would do, by its verdict
+module _ (plan : Plan) (ran : RunEffect) (world : World) where
+  pub outcome-refused : (verdict : Verdict) → isRefused (outcomeFrom verdict plan ran world .verdict) ≡ true
+      → outcomeFrom verdict plan ran world .world ≡ world
+  unfolding ranFrom
+  outcome-refused Accepted refused = absurd (false≢true refused)
+  outcome-refused (Refused refusal) refused = refl
+
+  pub outcome-accepted : (verdict : Verdict) → isRefused (outcomeFrom verdict plan ran world .verdict) ≡ false → verdict ≡ Accepted
+  unfolding ranFrom
+  outcome-accepted Accepted accepted = refl
+  outcome-accepted (Refused refusal) accepted = absurd (false≢true (sym accepted ∙ refused-number refusal))
+
 module _ (plan : Plan) (scripts : List ℕ) (world : World) (limit : ℕ) where
   -- a refused run leaves what it was handed
   pub run-refused : isRefused (runCallOf plan scripts world limit .verdict) ≡ true
       → runCallOf plan scripts world limit .world ≡ world
-  unfolding runCallOf ranFrom
-  run-refused refused = go (runVerdict plan scripts world) refused
-    where
-      go : (verdict : Verdict) → isRefused (runFrom verdict plan scripts world limit .verdict) ≡ true
-          → runFrom verdict plan scripts world limit .world ≡ world
-      go Accepted refused′ = absurd (false≢true refused′)
-      go (Refused refusal) refused′ = refl
+  unfolding runCallOf
+  run-refused refused = outcome-refused plan _ world (runVerdict plan scripts world) refused
 
   -- any other leaves as many steps as its limit
   pub run-accepted : isRefused (runCallOf plan scripts world limit .verdict) ≡ false
@@ -70,8 +78,8 @@ module _ (plan : Plan) (scripts : List ℕ) (world : World) (limit : ℕ) where
 -- a script store of another length is refused, whatever else is handed
 pub wrong-store : (plan : Plan) (scripts : List ℕ) (world : World) → (length scripts ≡ scriptsLength → ⊥)
     → runVerdict plan scripts world ≡ Refused WrongLength
-unfolding runVerdict
-wrong-store plan scripts world differs = rw (ne-eqb (length scripts) scriptsLength differs, runVerdict)
+unfolding runVerdict lentVerdict
+wrong-store plan scripts world differs = rw (ne-eqb (length scripts) scriptsLength differs, lentVerdict)
 
 -- but an undeclared one's is not
 pub wrong-domain : (plan : Plan) (state : State) (log : List ℕ) (domain : ℕ)

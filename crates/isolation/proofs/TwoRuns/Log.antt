@@ -4,13 +4,13 @@ use Prim.Native.Nat.{ℕ, _+_, _*_, _≤_, _<_}
 use mathlib.Core.List.{List}
 use mathlib.Core.Path.{_≡_}
 use native.Mathlib.Decide.{decLt}
-use native.Mathlib.Nat.{mul-le-mul-left}
 use native.Mathlib.Omega.{arith}
 use lib.ListN.{getD, length, set}
 use lib.Seq.{getD-set-same, set-out}
 use Rattle.lists.proofs.Agree.{Agree, Beside, InRange, agree-fewer, part-alike, sets-alike, sets-away}
 use Rattle.records.specs.declared.Observation.{Observation}
-use Rattle.records.specs.Records.{logPart, recordBytes, recordIndex, recordSize, recordStored}
+use Rattle.records.specs.Records.{inParts, logPart, recordBytes, recordIndex, recordSize, storedAt}
+use Rattle.records.proofs.Parts.{parts-follow}
 use Rattle.isolation.proofs.TwoRuns.Relations.{LogIndex}
 
 -- a count raised by one in a list is at most one more there: a index past the list's end keeps what it had
@@ -23,16 +23,13 @@ raised counts domain = go (decLt domain (length counts))
     go (yes h) = omega (arith, getD-set-same counts domain (getD counts domain 0 + 1) 0 h)
     go (no h) = rw (set-out counts domain (getD counts domain 0 + 1) (omega arith)) (omega arith)
 
--- the parts follow each other in domain order
-parts-follow : (quota lower higher : ℕ) → lower < higher → recordIndex quota lower quota ≤ recordIndex quota higher 0
-parts-follow quota lower higher h = omega (arith, mul-le-mul-left quota h)
-
 module _ (quota domain count : ℕ) where
   -- the same record stored behind the records so far
   pub stored-alike : (next : ℕ) (seen : Observation) (clock : ℕ) {one other : List ℕ} → next ≤ count + 1
       → Agree (LogIndex quota domain count) one other
-      → Agree (LogIndex quota domain next) (recordStored quota domain count seen clock one) (recordStored quota domain count seen clock other)
-  unfolding recordStored recordBytes
+      → Agree (LogIndex quota domain next) (storedAt (inParts quota domain) count seen clock one)
+      (storedAt (inParts quota domain) count seen clock other)
+  unfolding storedAt recordBytes
   stored-alike next seen clock {one} {other} few a =
       sets-alike (recordIndex quota domain count) (recordBytes seen clock) (agree-fewer before a)
     where
@@ -47,8 +44,8 @@ module _ (quota domain count : ℕ) where
   -- a record of another domain, whose part is not full
   pub stored-away : (running number : ℕ) (seen : Observation) (clock : ℕ) (log : List ℕ) → number < quota
       → (domain ≡ running → ⊥)
-      → Agree (LogIndex quota domain count) log (recordStored quota running number seen clock log)
-  unfolding recordStored recordBytes
+      → Agree (LogIndex quota domain count) log (storedAt (inParts quota running) number seen clock log)
+  unfolding storedAt recordBytes
   stored-away running number seen clock log room other =
       sets-away log (recordIndex quota running number) (recordBytes seen clock) (λ index h p. apart index h p (decLt domain running))
     where

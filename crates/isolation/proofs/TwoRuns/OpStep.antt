@@ -18,7 +18,7 @@ use Rattle.cache.specs.Lines.{isDirty, tableLength}
 use Rattle.ops.specs.Ops.{boxIndex}
 use Rattle.state.specs.TableValidity.{lineAllowed}
 use Rattle.state.specs.World.{World, recordsAt, runningOf}
-use Rattle.machine.specs.Steps.{opStepOf}
+use Rattle.machine.specs.Steps.{opStepBy, opStepOf}
 use Rattle.machine.specs.Switch.{switchOf}
 use Rattle.isolation.specs.Statement.{Only}
 use Rattle.isolation.proofs.TwoRuns.Flush.{flush-alike, flush-away}
@@ -77,7 +77,7 @@ module _ (plan : Plan) (quota domain : ℕ) where
     pub op-alike : {one other : World} (op : Op) → OpWithinLimits op → Whole one → DirtyAllowed plan domain (one .cache)
         → Close plan quota domain Kept one other
         → Close plan quota domain Kept (opStepOf plan quota domain op one) (opStepOf plan quota domain op other)
-    unfolding opStepOf
+    unfolding opStepBy
     op-alike {one} {other} op good whole dirty a =
         let effect =
         effect-alike plan domain whole dirty (both-indices plan domain (a .outside .sets) (a .flushed)) op good to
@@ -107,7 +107,7 @@ module _ (plan : Plan) (quota domain : ℕ) where
         → DirtyAllowed plan running (world .cache)
         → recordsAt (world .state) running < quota
         → Alike plan quota domain world (opStepOf plan quota running op world)
-    unfolding opStepOf
+    unfolding opStepBy
     op-away running op world there other whole dirty room =
         record {
           positions = set-away _ running _ (λ e. other (sym e));

@@ -21,7 +21,7 @@ use Rattle.plan.proofs.Windows.{domains-most, owner-declared}
 use Rattle.records.specs.Records.{partRecords}
 use Rattle.state.specs.World.{World, endedOf, freshState, positionAt, runningOf}
 use Rattle.machine.specs.Fresh.{freshWorld}
-use Rattle.machine.specs.Steps.{opStepOf, runOf}
+use Rattle.machine.specs.Steps.{opStepBy, runBy}
 use Rattle.machine.specs.Switch.{switchOf}
 use Rattle.machine.proofs.Invariant.{step-cases, steps-counts}
 use Rattle.reachable.proofs.Cells.{cell-zeros, zeros-length}
@@ -65,18 +65,18 @@ module _ (run : FreshRun) (possible : planValid (run .plan) ≡ true) (domain : 
   eight : (count : ℕ) → length (worldAfter run count .state .positions) ≡ mostDomains
   unfolding worldAfter freshWorld freshState
   eight count =
-      steps-counts (run .plan) (run .scripts) (partRecords (run .plan) (length (run .log))) count (freshWorld (run .log)) .0
+      steps-counts _ (run .plan) (run .scripts) (partRecords (run .plan) (length (run .log))) count (freshWorld (run .log)) .0
       ∙ zeros-length mostDomains
 
   moved : (count : ℕ) → Moved (run .plan) domain (worldAfter run count) (worldAfter run (suc count))
-  unfolding opStepOf switchOf endedOf
+  unfolding opStepBy switchOf endedOf
   moved count =
       let world = worldAfter run count in
       let running = runningOf (run .plan) (world .state) in
       let declared = owner-declared (run .plan) (world .state .windows) possible in
       let inside : running < length (world .state .positions) = omega (arith, eight count, domains-most (run .plan) possible) in
       rw (one-more run count)
-      (step-cases (run .plan) (run .scripts) (partRecords (run .plan) (length (run .log))) world (Moved (run .plan) domain world)
+      (step-cases _ (run .plan) (run .scripts) (partRecords (run .plan) (length (run .log))) world (Moved (run .plan) domain world)
       (λ ended. rests (leb-true _ _ ended) refl)
       (λ room. turns refl refl)
       (λ op begins. works (begins .inWindow) refl (raised-at (world .state .positions) running domain inside)))
@@ -132,7 +132,7 @@ module _ (run : FreshRun) (possible : planValid (run .plan) ≡ true) (domain : 
             (λ earlier below. omega (arith, no-fewer run possible earlier count (omega arith))))
 
   at-first : positionAt (worldAfter run 0 .state) domain ≡ opsTo 0 (windowsAfter run 0)
-  unfolding worldAfter runOf freshWorld freshState sumTo opsOf
+  unfolding worldAfter runBy freshWorld freshState sumTo opsOf
   at-first = omega (arith, cell-zeros mostDomains domain, no-ops (eqb (windowOwner (run .plan) 0) domain) {ops = 0} refl)
 
   pub position-is-ops : (count : ℕ) → positionAt (worldAfter run count .state) domain ≡ opsOfDomain run domain count

@@ -20,7 +20,7 @@ use Rattle.records.specs.Records.{logPart, partRecords}
 use Rattle.ops.specs.Ops.{boxesLength}
 use Rattle.state.specs.World.{World, freshState, recordsAt}
 use Rattle.machine.specs.Fresh.{freshWorld}
-use Rattle.machine.specs.Steps.{runOf, stepOf}
+use Rattle.machine.specs.Steps.{runBy, stepOf}
 use Rattle.machine.specs.Switch.{switchOf}
 use Rattle.machine.proofs.Schedule.{Scheduled, switch-clock}
 use Rattle.reachable.proofs.Cells.{cell-zeros}
@@ -378,7 +378,7 @@ module _ (input : SoloInput) (scripts log : List ℕ) (count : ℕ) (possible : 
       (omega (arith, p .within, p .room)) (full (p .at + p .more)) (last .whole′))
 
   first-meets : MeetsAt 0 (soloStart input 0)
-  unfolding worldAfter runOf soloStart freshWorld
+  unfolding worldAfter runBy soloStart freshWorld
   first-meets =
       fresh-meets plan quota Named log (replicate (input .logLength) 0) (m .logIs ∙ sym (length-replicate {A = ℕ} (input .logLength) 0))
 

@@ -18,7 +18,7 @@ use Rattle.script.specs.Limits.{mostOps}
 use Rattle.script.specs.Fetch.{decodeOf, fetchOf}
 use Rattle.ops.specs.Ops.{boxIndex}
 use Rattle.state.specs.World.{World, endedOf, positionAt, recordsAt, runningOf}
-use Rattle.machine.specs.Steps.{activeStep, isEnd, nextItem, nextStepOf, stepOf, switchDue, turnOf}
+use Rattle.machine.specs.Steps.{activeStep, activeStepBy, isEnd, nextItem, nextStepOf, stepOf, switchDue, turnOf}
 use Rattle.machine.specs.Switch.{switchOf}
 use Rattle.machine.proofs.Fetched.{fetched-within}
 use Rattle.machine.proofs.Invariant.{op-next, step-cases}
@@ -90,7 +90,7 @@ module _ (plan : Plan) (quota domain : ℕ) {Kept : ℕ → Type 0} (to : (sende
       → ((index : ℕ) → index < mostOps → getD scripts (mostOps * domain + index) 0 ≡ getD scripts′ (mostOps * domain + index) 0)
       → Ready plan one
       → Together plan quota domain Kept one other (stepOf plan scripts quota one) (stepOf plan scripts′ quota other)
-  unfolding activeStep
+  unfolding activeStepBy
   step-alike scripts scripts′ same ready = by-end (endedOf plan (one .state)) refl
     where
       by-next : (next : ScriptItem) → nextStepOf scripts (turnOf plan quota (one .state)) ≡ next
@@ -102,9 +102,9 @@ module _ (plan : Plan) (quota domain : ℕ) {Kept : ℕ → Type 0} (to : (sende
 
       by-end : (ended : Bool) → endedOf plan (one .state) ≡ ended
           → Together plan quota domain Kept one other (stepOf plan scripts quota one) (stepOf plan scripts′ quota other)
-      by-end true over = rw (step-ended plan scripts quota one over, step-ended plan scripts′ quota other (sym same-ended ∙ over)) (still a)
+      by-end true over = rw (step-ended _ plan scripts quota one over, step-ended _ plan scripts′ quota other (sym same-ended ∙ over)) (still a)
       by-end false active =
-          rw (step-active plan scripts quota one active, step-active plan scripts′ quota other (sym same-ended ∙ active), ← (same-next scripts scripts′ same))
+          rw (step-active _ plan scripts quota one active, step-active _ plan scripts′ quota other (sym same-ended ∙ active), ← (same-next scripts scripts′ same))
           (by-next _ refl)
 
 -- ---- one world in another's window
@@ -114,7 +114,7 @@ pub step-away : (plan : Plan) (scripts : List ℕ) (quota domain : ℕ) (world :
     → (domain ≡ runningOf plan (world .state) → ⊥) → Ready plan world
     → Alike plan quota domain world (stepOf plan scripts quota world)
 step-away plan scripts quota domain world possible declared other ready =
-    step-cases plan scripts quota world (Alike plan quota domain world) (λ ended. alike-refl plan quota domain world)
+    step-cases _ plan scripts quota world (Alike plan quota domain world) (λ ended. alike-refl plan quota domain world)
     (λ room. switch-away plan quota domain possible declared world (ready .whole))
     (λ op begins.
     op-away plan quota domain possible declared _ op world (owner-declared plan (world .state .windows) possible) other (ready .whole) (ready .dirty)

@@ -10,13 +10,13 @@ use Rattle.records.proofs.write_record.Tie as tie
 
 returns : tie.Need-returns
 unfolding recordBytes
-returns c = simp (towards-suc, div-one, c .record-kind .ensures, c .before .record-value .ensures)
+returns c = λ seen kind value. simp (towards-suc, div-one, kind, value)
 
 pub write-record-spec : {M : Type 1} → statement M
 write-record-spec =
     tie.close
     (tie.spec
-    (λ c κs. search needs) (λ c κs. search needs) (λ c. search needs) (λ c. search needs)
+    (λ c. search needs) (λ c. search needs)
     (λ c. simp length-set (omega arith)) (λ c. search needs) (λ c. search needs)
     (λ c. simp length-set (omega arith)) (λ c. search needs) (λ c. search needs)
     (λ c. simp length-set (omega arith)) (λ c. search needs) (λ c. search needs)

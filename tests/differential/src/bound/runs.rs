@@ -74,7 +74,7 @@ impl<'e> List<'e> {
 
     /// Adds the steps that a call answered. Of a log the same number is a place.
     fn count(&mut self, call: &Call, answered: u64) -> Result<(), String> {
-        if matches!(call, Call::Step | Call::Run(_)) {
+        if matches!(call, Call::Step | Call::Run(_) | Call::RunKept(..)) {
             self.held.steps += answered;
         }
         let Held { bound, steps } = self.held;

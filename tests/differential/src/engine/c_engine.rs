@@ -1,7 +1,7 @@
 //! Engines behind the C interface.
 
-/// Defines an engine over the five C functions whose names begin with a prefix.
-/// The library and the peer have the same five, so this stands here once.
+/// Defines an engine over the six C functions whose names begin with a prefix.
+/// The library and the peer have the same six, so this stands here once.
 #[macro_export]
 macro_rules! c_engine {
     ($(#[$attribute:meta])* pub struct $engine:ident, $name:literal, $prefix:literal) => {
@@ -69,6 +69,27 @@ macro_rules! c_engine {
                     boxes_len: usize,
                     log: *mut u8,
                     log_len: usize,
+                    limit: u64,
+                    answer: *mut u64,
+                    answer_len: usize,
+                ) -> u32;
+
+                #[link_name = concat!($prefix, "run_kept")]
+                pub fn run_kept(
+                    plan: *const u32,
+                    plan_len: usize,
+                    scripts: *const u32,
+                    scripts_len: usize,
+                    state: *mut u64,
+                    state_len: usize,
+                    cache: *mut u16,
+                    cache_len: usize,
+                    boxes: *mut u32,
+                    boxes_len: usize,
+                    kept: *mut u8,
+                    kept_len: usize,
+                    domain: u32,
+                    part: u64,
                     limit: u64,
                     answer: *mut u64,
                     answer_len: usize,
@@ -177,6 +198,36 @@ macro_rules! c_engine {
                         tables.boxes.len(),
                         tables.log.as_mut_ptr(),
                         tables.log.len(),
+                        limit,
+                        answer.as_mut_ptr(),
+                        answer.len(),
+                    )
+                }
+            }
+
+            fn run_kept(
+                &self,
+                tables: $crate::engine::Tables,
+                kept: $crate::engine::Kept,
+                limit: u64,
+                answer: &mut [u64],
+            ) -> u32 {
+                unsafe {
+                    symbols::run_kept(
+                        tables.plan.as_ptr(),
+                        tables.plan.len(),
+                        tables.scripts.as_ptr(),
+                        tables.scripts.len(),
+                        tables.state.as_mut_ptr(),
+                        tables.state.len(),
+                        tables.cache.as_mut_ptr(),
+                        tables.cache.len(),
+                        tables.boxes.as_mut_ptr(),
+                        tables.boxes.len(),
+                        tables.log.as_mut_ptr(),
+                        tables.log.len(),
+                        kept.domain,
+                        kept.part,
                         limit,
                         answer.as_mut_ptr(),
                         answer.len(),

@@ -1,6 +1,7 @@
-//! Document 01's entry points over plain numbers, whoever implements them, and
-//! beside them document 02's frame maker, its bound of a run's steps, its plan
-//! written back and its latest end of a domain.
+//! Document 01's entry points over plain numbers, whoever implements them, with the run
+//! of document 02, E8, that keeps one domain's log, and beside them document 02's frame
+//! maker, its bound of a run's steps, its plan written back and its latest end of a
+//! domain.
 
 mod bounder;
 mod c_engine;
@@ -41,7 +42,15 @@ pub struct Tables<'a> {
     pub state: &'a mut [u64],
     pub cache: &'a mut [u16],
     pub boxes: &'a mut [u32],
+    /// Everyone's or, for a run that keeps one domain's log, that domain's part.
     pub log: &'a mut [u8],
+}
+
+/// Whose log a run keeps, and how many records each domain's part holds.
+#[derive(Clone, Copy, Debug, PartialEq, Eq)]
+pub struct Kept {
+    pub domain: u32,
+    pub part: u64,
 }
 
 /// An implementation. Each call gives the refusal's number, 0 for none, and
@@ -74,6 +83,9 @@ pub trait Engine {
     fn step(&self, tables: Tables, answer: &mut [u64]) -> u32;
 
     fn run(&self, tables: Tables, limit: u64, answer: &mut [u64]) -> u32;
+
+    /// The same, but one domain's records alone are stored, and the log is its part.
+    fn run_kept(&self, tables: Tables, kept: Kept, limit: u64, answer: &mut [u64]) -> u32;
 
     fn log(&self, plan: &[u32], state: &[u64], log: &[u8], domain: u32, answer: &mut [u64]) -> u32;
 }

@@ -1,10 +1,11 @@
 //! The board before document 02, E7, which changes nothing in L2 for a dirty line that is
 //! replaced. Where it leaves something else than the reference, E7 shows.
 
-use super::reference::advance;
-use super::{Engine, Reference, Tables};
+use super::reference::{advance, native};
+use super::{Engine, Kept, Reference, Tables};
 use pirkvezo_reference::cache::Board;
-use pirkvezo_reference::machine::run_watched;
+use pirkvezo_reference::journal::Keeping;
+use pirkvezo_reference::machine::{run_watched, Manner};
 
 /// The reference in all but that.
 #[derive(Clone, Copy, Debug, Default)]
@@ -41,12 +42,22 @@ impl Engine for OldBoard {
     }
 
     fn run(&self, tables: Tables, limit: u64, answer: &mut [u64]) -> u32 {
-        advance(tables, answer, |plan, scripts, state, lent| {
-            run_watched(Board::Old, plan, scripts, state, lent, limit, |_, _| ())
-        })
+        run_keeping(Keeping::All, tables, limit, answer)
+    }
+
+    fn run_kept(&self, tables: Tables, kept: Kept, limit: u64, answer: &mut [u64]) -> u32 {
+        run_keeping(Keeping::One(native(kept)), tables, limit, answer)
     }
 
     fn log(&self, plan: &[u32], state: &[u64], log: &[u8], domain: u32, answer: &mut [u64]) -> u32 {
         Reference.log(plan, state, log, domain, answer)
     }
+}
+
+fn run_keeping(keeping: Keeping, tables: Tables, limit: u64, answer: &mut [u64]) -> u32 {
+    let board = Board::Old;
+    let manner = Manner { board, keeping };
+    advance(tables, answer, |plan, scripts, state, lent| {
+        run_watched(manner, plan, scripts, state, lent, limit, |_, _| ())
+    })
 }

@@ -1,6 +1,7 @@
 //! The reference behind the plain interfaces.
 
-use super::{Bounder, Engine, FrameMaker, LatenessFinder, Tables, Writer, ANSWER, PLAN, STATE};
+use super::{Bounder, Engine, FrameMaker, LatenessFinder, Writer};
+use super::{Kept, Tables, ANSWER, PLAN, STATE};
 use pirkvezo_reference::flat::{plan_from_flat, plan_to_flat, state_from_flat, state_to_flat};
 use pirkvezo_reference::{self as reference, Lent, Outcome, Plan, Progress, Refusal};
 
@@ -55,6 +56,12 @@ impl Engine for Reference {
     fn run(&self, tables: Tables, limit: u64, answer: &mut [u64]) -> u32 {
         advance(tables, answer, |plan, scripts, state, lent| {
             reference::run(plan, scripts, state, lent, limit)
+        })
+    }
+
+    fn run_kept(&self, tables: Tables, kept: Kept, limit: u64, answer: &mut [u64]) -> u32 {
+        advance(tables, answer, |plan, scripts, state, lent| {
+            reference::run_kept(plan, scripts, state, lent, native(kept), limit)
         })
     }
 
@@ -174,6 +181,10 @@ pub(super) fn advance(
         }
         Err(refusal) => refuse(refusal, answer),
     }
+}
+
+pub(super) fn native(Kept { domain, part }: Kept) -> reference::Kept {
+    reference::Kept { domain, part }
 }
 
 /// The plan in these numbers. Where they have no such form, the empty plan, which

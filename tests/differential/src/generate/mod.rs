@@ -1,5 +1,5 @@
-//! Generators of texts, worlds, lists of calls, and calls of a frame maker, of a
-//! bounder, of a writer and of a lateness finder.
+//! Generators of texts, worlds, lists of calls, calls that keep one domain's log, and calls
+//! of a frame maker, of a bounder, of a writer and of a lateness finder.
 
 pub mod bounds;
 pub mod bytes;
@@ -8,6 +8,7 @@ pub mod disturb;
 pub mod faults;
 pub mod frames;
 pub mod habits;
+pub mod kept;
 pub mod late_scripts;
 pub mod latest;
 pub mod lists;

@@ -2,8 +2,8 @@
 //! an op costs", and document 02, E7. Sets are lists here and no arrays.
 
 use crate::board_faults::BoardFault;
-use crate::engines::{again, Before};
-use pirkvezo_differential::engine::{Engine, Reference, Tables};
+use crate::engines::{again, kept_by_run, Before};
+use pirkvezo_differential::engine::{Engine, Kept, Reference, Tables};
 use pirkvezo_differential::timeline::Timeline;
 
 #[derive(Clone, Copy, Debug)]
@@ -74,6 +74,10 @@ impl Engine for Board {
             answer[2] = steps;
         }
         number
+    }
+
+    fn run_kept(&self, tables: Tables, kept: Kept, limit: u64, answer: &mut [u64]) -> u32 {
+        kept_by_run(self, tables, kept, limit, answer)
     }
 
     fn log(&self, plan: &[u32], state: &[u64], log: &[u8], domain: u32, answer: &mut [u64]) -> u32 {

@@ -1,7 +1,7 @@
 //! The reference with a fault in how it deals colours, or in how it judges a plan
 //! by them.
 
-use pirkvezo_differential::engine::{Engine, Reference, Tables, PLAN};
+use pirkvezo_differential::engine::{Engine, Kept, Reference, Tables, PLAN};
 use pirkvezo_differential::generate::shares::{colours_of, masks_of, COLOURS, WHOLE};
 
 #[derive(Clone, Copy, Debug, PartialEq, Eq)]
@@ -236,6 +236,15 @@ impl Engine for Dealer {
             limit,
             answer,
         )
+    }
+
+    fn run_kept(&self, tables: Tables, kept: Kept, limit: u64, answer: &mut [u64]) -> u32 {
+        let plan = self.judged(tables.plan);
+        let judged = Tables {
+            plan: &plan,
+            ..tables
+        };
+        Reference.run_kept(judged, kept, limit, answer)
     }
 
     fn log(&self, plan: &[u32], state: &[u64], log: &[u8], domain: u32, answer: &mut [u64]) -> u32 {

@@ -1,6 +1,6 @@
 //! The reference with a fault put in from outside.
 
-use pirkvezo_differential::engine::{Engine, Reference, Tables};
+use pirkvezo_differential::engine::{Engine, Kept, Reference, Tables};
 use pirkvezo_differential::timeline::Timeline;
 
 #[derive(Clone, Copy, Debug, PartialEq, Eq)]
@@ -141,6 +141,10 @@ impl Engine for Hollow {
         number
     }
 
+    fn run_kept(&self, tables: Tables, kept: Kept, limit: u64, answer: &mut [u64]) -> u32 {
+        kept_by_run(self, tables, kept, limit, answer)
+    }
+
     fn log(&self, plan: &[u32], state: &[u64], log: &[u8], domain: u32, answer: &mut [u64]) -> u32 {
         Reference.log(plan, state, log, domain, answer)
     }
@@ -213,6 +217,32 @@ impl Hollow {
             _ => {}
         }
     }
+}
+
+/// A run that keeps one domain's log, as document 02, E8, says what it is: the engine's own run
+/// with everyone's log, of which that domain's part is what was lent.
+pub fn kept_by_run(
+    engine: &dyn Engine,
+    mut tables: Tables,
+    kept: Kept,
+    limit: u64,
+    answer: &mut [u64],
+) -> u32 {
+    let number = Reference.run_kept(again(&mut tables), kept, 0, answer);
+    if number != 0 {
+        return number;
+    }
+    let part = tables.log.len();
+    let own = part * kept.domain as usize..part * (kept.domain as usize + 1);
+    let mut log = vec![0; part * tables.plan[2] as usize];
+    log[own.clone()].copy_from_slice(tables.log);
+    let whole = Tables {
+        log: &mut log,
+        ..again(&mut tables)
+    };
+    let number = engine.run(whole, limit, answer);
+    tables.log.copy_from_slice(&log[own]);
+    number
 }
 
 /// The same tables, lent once more.

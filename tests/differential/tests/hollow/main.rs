@@ -13,6 +13,9 @@ mod engines;
 mod faults;
 mod frame_makers;
 mod frames;
+mod keepers;
+mod kept;
+mod kept_faults;
 mod lateness_faults;
 mod lateness_finders;
 mod latest;
@@ -28,7 +31,7 @@ use pirkvezo_differential::generate::lists::{random_call, random_world};
 use pirkvezo_differential::generate::pairs::StorePair;
 use pirkvezo_differential::generate::sketch::Sketch;
 use pirkvezo_differential::generate::write::Style;
-use pirkvezo_differential::isolation::{hold_together, Compared, Trail};
+use pirkvezo_differential::isolation::{hold_together, Compared, Observer, Trail};
 use pirkvezo_differential::rng::Rng;
 use pirkvezo_differential::seed::cases;
 use pirkvezo_differential::timeline::Timeline;
@@ -56,7 +59,7 @@ fn isolate(engine: &dyn Engine, rng: &mut Rng) -> Result<Compared, String> {
     let log = 8 * 256 * pair.sketch.members.len();
     let [first, second] = [0, 1].map(|at| {
         let world = World::new(&plan, &pair.stores[at], log);
-        let trail = Trail::walk(engine, world, pair.observer);
+        let trail = Trail::walk(engine, world, Observer::Asking(pair.observer));
         trail.unwrap_or_else(|what| panic!("no step is refused: {what}"))
     });
     hold_together(&first, &second, &timeline, pair.observer)

@@ -8,7 +8,7 @@ use pirkvezo_differential::engine::{Engine, OldBoard, Reference};
 use pirkvezo_differential::generate::lists::{random_call, random_world};
 use pirkvezo_differential::generate::put_out::put_out_world;
 use pirkvezo_differential::generate::rivals::WorldPair;
-use pirkvezo_differential::isolation::{hold_together, Trail};
+use pirkvezo_differential::isolation::{hold_together, Observer, Trail};
 use pirkvezo_differential::rng::Rng;
 use pirkvezo_differential::seed::cases;
 use pirkvezo_differential::timeline::Timeline;
@@ -105,7 +105,8 @@ fn leaks_are_found_out() {
         let timeline = Timeline::of(&worlds[0].plan).expect("windows");
         for (board, found) in boards.iter().zip(&mut found) {
             let [first, second] = [0, 1].map(|at| {
-                let trail = Trail::walk_on(board, worlds[at].clone(), observer);
+                let watched = Observer::Asking(observer);
+                let trail = Trail::walk_on(board, worlds[at].clone(), watched);
                 trail.unwrap_or_else(|what| panic!("no step is refused: {what}"))
             });
             let held = hold_together(&first, &second, &timeline, observer);

@@ -1,8 +1,8 @@
 //! A plan and all the tables lent with it, and short ways to make texts.
 
 use crate::cache::Board;
-use crate::journal::{log_of, Part, Record, RECORD};
-use crate::machine::{fresh_start, run, run_watched, step, Lent, Progress};
+use crate::journal::{log_of, Kept, Part, Record, RECORD};
+use crate::machine::{fresh_start, run, run_kept, run_watched, step, Lent, Manner, Progress};
 use crate::op::Op;
 use crate::{cache, mail, read_plan, scripts, Plan, Refusal, State};
 
@@ -82,8 +82,19 @@ impl Desk {
     }
 
     pub fn run_on(&mut self, board: Board, limit: u64) -> Result<Progress, Refusal> {
+        let usual = Manner::USUAL;
+        self.run_in(Manner { board, ..usual }, limit)
+    }
+
+    pub fn run_in(&mut self, manner: Manner, limit: u64) -> Result<Progress, Refusal> {
         let (plan, scripts, state, lent) = self.lend();
-        run_watched(board, plan, scripts, state, lent, limit, |_, _| ())
+        run_watched(manner, plan, scripts, state, lent, limit, |_, _| ())
+    }
+
+    /// A run for which the desk's log is one domain's part.
+    pub fn run_kept(&mut self, kept: Kept, limit: u64) -> Result<Progress, Refusal> {
+        let (plan, scripts, state, lent) = self.lend();
+        run_kept(plan, scripts, state, lent, kept, limit)
     }
 
     pub fn log_of(&self, domain: u32) -> Result<Part, Refusal> {

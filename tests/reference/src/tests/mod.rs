@@ -13,6 +13,7 @@ mod flat;
 mod frame;
 mod impossible_plans;
 mod impossible_states;
+mod kept;
 mod latest;
 mod limits;
 mod order;

@@ -1,12 +1,14 @@
 -- `machine::stepping::run_steps` meets its contract. The loop's invariant is `Going`. Assumes nothing.
 use mathlib.Core.List.{[]}
-use mathlib.Core.Path.{_∙_, refl}
+use mathlib.Core.Path.{_∙_, refl, sym}
 use Prim.Native.Nat.{_-_, _<_}
 use native.Mathlib.Omega.{arith}
 use lib.ListN.{length}
 use borrow.Author.Needs.{needs}
 use Rattle.plan.specs.Windows.{windowsTotal}
 use Rattle.plan.proofs.ValidPlans.{counts}
+use Rattle.records.specs.Records.{placesOf}
+use Rattle.records.proofs.Places.{ends-sooner}
 use Rattle.machine.specs.declared.Turn.{Turn}
 use Rattle.machine.specs.View.{InTurn, worldWith}
 use Rattle.machine.proofs.Going.{Going, Small, goes-on, going-clock, going-counts, going-done, going-first, small}
@@ -16,13 +18,13 @@ use Rattle.machine.proofs.stepping.run_steps.Statement.{statement}
 use Rattle.machine.proofs.stepping.run_steps.Tie as tie
 
 abbrev Inv-loop : tie.InvT-loop
-Inv-loop scripts quota limit cache₀ boxes₀ log₀ plan _ _ _ _ _ _ present₀ _ _
+Inv-loop scripts keep quota limit cache₀ boxes₀ log₀ plan _ _ _ _ _ _ present₀ _ _
     cache boxes log steps present start slot =
-    Going plan scripts quota limit (worldWith present₀ cache₀ boxes₀ log₀)
+    Going (placesOf keep quota) plan scripts quota limit (worldWith present₀ cache₀ boxes₀ log₀)
     (worldWith present cache boxes log) steps start slot
 
 abbrev μ-loop : tie.MeasureT-loop
-μ-loop _ _ limit _ _ _ _ _ _ _ _ _ _ _ _ _ _ _ _ steps _ _ _ = limit - steps
+μ-loop _ _ _ limit _ _ _ _ _ _ _ _ _ _ _ _ _ _ _ _ steps _ _ _ = limit - steps
 
 -- ---- in the loop: the limit is not reached, and the run is in a window
 
@@ -31,7 +33,7 @@ start c = c .before .before .before .before .before .before .before .before .bef
 
 -- the loop again, from the call of a turn
 abbrev in-loop : tie.After-run-turn Inv-loop μ-loop → tie.In-loop Inv-loop μ-loop
-in-loop c = c .before .before .before .before .before .before .before .before .before .before
+in-loop c = c .before .before .before .before .before .before .before .before .before .before .before
 
 module _ (c : tie.In-loop Inv-loop μ-loop) where
   more : (c .before .loop .steps < start c .args .limit) × (c .before .loop .present .windows < windowsTotal (start c .args .t1))
@@ -52,19 +54,19 @@ module _ (c : tie.In-loop Inv-loop μ-loop) where
       let loop = c .before .loop in
       turnFrom (start c .args .t1) (start c .args .quota) (loop .present) (loop .start) (loop .slot)
 
-  room : Room turn (length (c .before .loop .log))
+  room : Room (start c .args .t1) turn
   room =
       let pre = start c .pre in
       let inv = c .before .loop .inv in
       turn-room _ _ (c .before .loop .present) _ _ (pre .0) (more .1)
-      (inv .starts (more .0)) (inv .slots (more .0)) _
-      (going-clock _ _ _ _ _ _ _ _ _ inv (pre .0) (pre .1) (more .1)) (rw (inv .log-long) (pre .5))
+      (inv .starts (more .0)) (inv .slots (more .0))
+      (going-clock _ _ _ _ _ _ _ _ _ _ inv (pre .0) (pre .1) (more .1))
 
   here : InTurn (start c .args .t1) (start c .args .t1 .rights) (start c .args .t1 .masks) (c .before .loop .present) turn
   here =
       let inv = c .before .loop .inv in
-      let kept = going-counts _ _ _ _ _ _ _ _ _ inv in
-      let good = start c .good .1 .1 .1 .1 .0 in
+      let kept = going-counts _ _ _ _ _ _ _ _ _ _ inv in
+      let good = start c .good .1 .1 .1 .1 .1 .0 in
       turn-here _ _ (c .before .loop .present) _ _ (start c .pre .0) (more .1)
       (inv .starts (more .0)) (inv .slots (more .0))
       (kept .0 ∙ search (needs, good)) (kept .1 ∙ search (needs, good))
@@ -83,7 +85,7 @@ rem-slot c =
     counts _ (at .pre .0) .windows-least
 
 loop-holds : tie.Need-loop-holds Inv-loop μ-loop
-loop-holds c = going-first _ _ _ _ _ _ _ (c .before .window-start .ensures) refl
+loop-holds c = going-first _ _ _ _ _ _ _ _ (c .before .window-start .ensures) refl
 
 mul-owner : tie.Need-mul-owner Inv-loop μ-loop
 mul-owner c = omega (arith, smalls c .slot-below)
@@ -94,36 +96,48 @@ element-copy-out-owner c = smalls c .slot-below
 cast-owner : tie.Need-cast-owner Inv-loop μ-loop
 cast-owner c = omega (arith, smalls (c .before) .owner-below)
 
-mul-t32 : tie.Need-mul-t32 Inv-loop μ-loop
-mul-t32 c = omega (arith, smalls (c .before) .slot-below)
+place-of-requires : tie.Need-place-of-requires Inv-loop μ-loop
+place-of-requires c κs =
+    let at = start (c .before) in
+    let place = placesOf (at .args .keep) (at .args .quota) (turn (c .before) .owner) in
+    omega (
+      arith,
+      ends-sooner place 0 (at .args .quota) (omega arith),
+      at .pre .5 _ (room (c .before) .declared),
+      at .good,
+    )
 
-element-copy-out-t35 : tie.Need-element-copy-out-t35 Inv-loop μ-loop
-element-copy-out-t35 c = smalls (c .before) .slot-below
+mul-t34 : tie.Need-mul-t34 Inv-loop μ-loop
+mul-t34 c = omega (arith, smalls (c .before .before) .slot-below)
 
-cast-t38 : tie.Need-cast-t38 Inv-loop μ-loop
-cast-t38 c = omega (arith, smalls (c .before .before) .length-below)
+element-copy-out-t37 : tie.Need-element-copy-out-t37 Inv-loop μ-loop
+element-copy-out-t37 c = smalls (c .before .before) .slot-below
 
-add-t39 : tie.Need-add-t39 Inv-loop μ-loop
-add-t39 c = omega (arith, smalls (c .before .before))
+cast-t40 : tie.Need-cast-t40 Inv-loop μ-loop
+cast-t40 c = omega (arith, smalls (c .before .before .before) .length-below)
 
-mul-t41 : tie.Need-mul-t41 Inv-loop μ-loop
-mul-t41 c = omega (arith, smalls (c .before .before) .owner-below)
+add-t41 : tie.Need-add-t41 Inv-loop μ-loop
+add-t41 c = omega (arith, smalls (c .before .before .before))
 
-element-copy-out-t44 : tie.Need-element-copy-out-t44 Inv-loop μ-loop
-element-copy-out-t44 c = smalls (c .before .before) .owner-below
+mul-t43 : tie.Need-mul-t43 Inv-loop μ-loop
+mul-t43 c = omega (arith, smalls (c .before .before .before) .owner-below)
 
-mul-t45 : tie.Need-mul-t45 Inv-loop μ-loop
-mul-t45 c = omega (arith, smalls (c .before .before .before) .owner-below)
+element-copy-out-t46 : tie.Need-element-copy-out-t46 Inv-loop μ-loop
+element-copy-out-t46 c = smalls (c .before .before .before) .owner-below
 
-element-copy-out-t48 : tie.Need-element-copy-out-t48 Inv-loop μ-loop
-element-copy-out-t48 c = smalls (c .before .before .before) .owner-below
+mul-t47 : tie.Need-mul-t47 Inv-loop μ-loop
+mul-t47 c = omega (arith, smalls (c .before .before .before .before) .owner-below)
+
+element-copy-out-t50 : tie.Need-element-copy-out-t50 Inv-loop μ-loop
+element-copy-out-t50 c = smalls (c .before .before .before .before) .owner-below
 
 sub-run-turn : tie.Need-sub-run-turn Inv-loop μ-loop
-sub-run-turn c = omega (arith, more (c .before .before .before .before .before .before) .0)
+sub-run-turn c = omega (arith, more (c .before .before .before .before .before .before .before) .0)
 
 run-turn-requires : tie.Need-run-turn-requires Inv-loop μ-loop
 run-turn-requires c κs =
-    let at = c .before .before .before .before .before .before .before .before .before in
+    let placed = c .before .before .before .before .before .before .before .before in
+    let at = placed .before .before in
     let pre = start at .pre in
     let count = counts _ (pre .0) in
     let inv = at .before .loop .inv in
@@ -138,7 +152,7 @@ run-turn-requires c κs =
       pre .2,
       inv .cache-long ∙ pre .3,
       inv .boxes-long ∙ pre .4,
-      small .log,
+      rw (placed .place-of .ensures, inv .log-long) (pre .5 _ (small .declared)),
     )
 
 mul-present : tie.Need-mul-present Inv-loop μ-loop
@@ -177,15 +191,15 @@ loop-again c =
     let at = in-loop ran in
     let inv = at .before .loop .inv in
     let did = ran .run-turn .ensures in
-    let kept = ran .run-turn .kept .1 .1 .1 .1 .1 .1 in
-    going-turn (start at .args .t1) _ _ _ _ (at .before .loop .present) _ _ _ _ _ _
+    let kept = ran .run-turn .kept .1 .1 .1 .1 .1 .1 .1 in
+    going-turn _ (start at .args .t1) _ _ _ _ (at .before .loop .present) _ _ _ _ _ _
     (turn at) (ran .run-turn .result) _ _ _ _
-    inv (here at .end-is) (inv .slots (more at .0)) (did .0) (did .1 _ _ (here at) refl)
+    inv (here at .end-is) (inv .slots (more at .0)) (did .0) (did .1 _ _ _ (sym (ran .before .before .before .before .before .before .before .before .before .place-of .ensures)) (here at) refl)
     (c .before .next-slot .ensures) (kept .0) (kept .1 .0) (kept .1 .1 .0)
 
 returns : tie.Need-returns Inv-loop μ-loop
 returns c =
-    going-done _ _ _ _ _ _ _ _ _ (c .before .loop .inv)
+    going-done _ _ _ _ _ _ _ _ _ _ (c .before .loop .inv)
     (rw (c .before .before .before .before .windows-total .ensures) at (c .loop-test .left))
 
 pub run-steps-spec : {M : Type 1} → statement M
@@ -193,9 +207,9 @@ run-steps-spec =
     tie.close
     (tie.spec
     Inv-loop μ-loop (λ c. search needs) (λ c. search needs) windows-total-requires
-    window-start-requires rem-slot loop-holds mul-owner element-copy-out-owner cast-owner mul-t32
-    element-copy-out-t35 cast-t38 add-t39 mul-t41 element-copy-out-t44 mul-t45
-    element-copy-out-t48 sub-run-turn run-turn-requires mul-present element-write-present
+    window-start-requires rem-slot loop-holds mul-owner element-copy-out-owner cast-owner place-of-requires mul-t34
+    element-copy-out-t37 cast-t40 add-t41 mul-t43 element-copy-out-t46 mul-t47
+    element-copy-out-t50 sub-run-turn run-turn-requires mul-present element-write-present
     mul-present-2 element-write-present-2 next-slot-requires add-steps loop-less loop-again
     (λ c. c .before .loop .inv .cache-long) (λ c. c .before .loop .inv .boxes-long)
     (λ c. c .before .loop .inv .log-long) returns)

@@ -12,14 +12,14 @@ use Rattle.machine.proofs.stepping.run_window.Statement.{statement}
 use Rattle.machine.proofs.stepping.run_window.Tie as tie
 
 abbrev Inv-loop : tie.InvT-loop
-Inv-loop rights masks scripts limit first cache₀ boxes₀ log₀ most _ _ cache boxes log steps clock =
-    Turning rights masks scripts most first cache₀ boxes₀ log₀ cache boxes log steps clock
+Inv-loop rights masks scripts limit place first cache₀ boxes₀ log₀ most _ _ cache boxes log steps clock =
+    Turning rights masks scripts most place first cache₀ boxes₀ log₀ cache boxes log steps clock
 
 abbrev μ-loop : tie.MeasureT-loop
-μ-loop _ _ _ _ _ _ _ _ most _ _ _ _ _ steps _ = most - steps
+μ-loop _ _ _ _ _ _ _ _ _ most _ _ _ _ _ steps _ = most - steps
 
 loop-holds : tie.Need-loop-holds Inv-loop μ-loop
-loop-holds c = turn-first _ _ _ _ _ _ _ _ (c .before .before .before .before .before .pre .1)
+loop-holds c = turn-first _ _ _ _ _ _ _ _ _ (c .before .before .before .before .before .pre .1)
 
 -- in the loop: one op more is allowed
 abbrev start : tie.In-loop Inv-loop μ-loop → tie.Start Inv-loop μ-loop
@@ -46,7 +46,8 @@ op-step-requires c κs =
       omega (arith, begins .inTime, pre .2),
       inv .cache-long ∙ pre .4,
       inv .boxes-long ∙ pre .5,
-      omega (arith, begins .room, inv .log-long, pre .6),
+      begins .room,
+      rw (inv .log-long) (pre .6),
     )
 
 -- the loop, from the call of an op
@@ -66,12 +67,12 @@ loop-again c =
     let ran = c .before .before .before .before .before .before in
     let at = in-loop ran in
     let chosen = sym (ran .before .before .before .before .before .next .given .1) ∙ ran .before .before .before .before .before .before .before .next-step .ensures in
-    let kept = ran .op-step .kept .1 .1 .1 .1 .1 .1 in
-    turn-more _ _ _ _ _ _ _ _ _ _ _ _ _ (at .before .loop .inv) _ _ _ _ _
+    let kept = ran .op-step .kept .1 .1 .1 .1 .1 .1 .1 in
+    turn-more _ _ _ _ _ _ _ _ _ _ _ _ _ _ (at .before .loop .inv) _ _ _ _ _
     (at .loop-test .taken) chosen (ran .op-step .ensures) (kept .0) (kept .1 .0) (kept .1 .1 .0)
 
-add-t21 : tie.Need-add-t21 Inv-loop μ-loop
-add-t21 c =
+add-t22 : tie.Need-add-t22 Inv-loop μ-loop
+add-t22 c =
     let at = c .before .before in
     omega (
       arith,
@@ -80,8 +81,8 @@ add-t21 c =
       at .before .before .before .before .before .before .good,
     )
 
-add-t22 : tie.Need-add-t22 Inv-loop μ-loop
-add-t22 c =
+add-t23 : tie.Need-add-t23 Inv-loop μ-loop
+add-t23 c =
     let at = c .before .before .before in
     omega (
       arith,
@@ -98,16 +99,16 @@ returns c =
       omega (arith, inv .within, allowed),
       refl,
       inv .late,
-      λ plan state begins.
+      λ places plan state placed begins.
           record {
-            ran = inv .done plan state begins .0;
+            ran = inv .done places plan state placed begins .0;
             due = λ fewer.
-                turn-ends _ _ _ _ _ _ _ _ _ _ _ _ _ inv
+                turn-ends _ _ _ _ _ _ _ _ _ _ _ _ _ _ inv
                 (⊎-elim
                 (λ out. next-disallowed _ (at .args .first) _ _ _ _ allowed (out .left) fewer)
                 (λ out. sym (out .3 .given .1) ∙ out .1 .ensures)
                 (c .before .before .loop-test .came))
-                plan state begins;
+                places plan state placed begins;
           },
     )
 
@@ -116,7 +117,7 @@ run-window-spec =
     tie.close
     (tie.spec
     Inv-loop μ-loop (λ c κs. search needs) loop-holds next-step-requires (λ c. search needs)
-    (λ c. search needs) op-step-requires add-steps loop-less loop-again add-t21 add-t22
+    (λ c. search needs) op-step-requires add-steps loop-less loop-again add-t22 add-t23
     (λ c. c .before .before .before .loop .inv .cache-long)
     (λ c. c .before .before .before .loop .inv .boxes-long)
     (λ c. c .before .before .before .loop .inv .log-long) returns)
