@@ -1,7 +1,7 @@
 -- Document 01, "The plan text", and document 02, E8: the refusals of the entry points that work on
--- a plan value: lengths (11), plan validity (12), table validity (13), state validity (14), and last
--- a domain that is not declared (4), in this order, each where the call takes that thing. Assumes
--- nothing.
+-- a plan value: lengths (11), plan validity (12), table validity (13), state validity (14), and
+-- last a domain that is not declared (4), in this order, each where the call takes that thing.
+-- Assumes nothing.
 use Prim.Native.Nat.{ℕ, _*_}
 use mathlib.Core.Bool.{Bool, _&&_}
 use mathlib.Core.List.{List}
@@ -17,7 +17,8 @@ use Rattle.state.specs.declared.State.{State}
 use Rattle.state.specs.TableValidity.{tablesValid}
 use Rattle.state.specs.StateValidity.{stateValid}
 use Rattle.state.specs.World.{World}
-use Rattle.refusal.specs.declared.Refusal.the-variants.{DamagedTable, ImpossiblePlan, ImpossibleState, WrongDomain, WrongLength}
+use Rattle.refusal.specs.declared.Refusal.the-variants.{DamagedTable, ImpossiblePlan}
+use Rattle.refusal.specs.declared.Refusal.the-variants.{ImpossibleState, WrongDomain, WrongLength}
 use Rattle.refusal.specs.declared.Verdict.{Verdict}
 use Rattle.refusal.specs.declared.Verdict.the-variants.{Accepted}
 use Rattle.refusal.specs.Checks.{unless}
@@ -57,7 +58,8 @@ keptVerdict plan scripts domain quota world =
     (unless (stateValid plan quota (world .state)) ImpossibleState
     (unless (ltb domain (plan .domains)) (WrongDomain 0) Accepted)))
 
--- a log query takes plan, state, log and a domain: 12, 14, and last 4 for a domain that is not declared
+-- a log query takes plan, state, log and a domain: 12, 14, and last 4 for a domain that is not
+-- declared
 unfoldable pub logVerdict : Plan → State → List ℕ → ℕ → Verdict
 logVerdict plan state log domain =
     unless (planValid plan) ImpossiblePlan

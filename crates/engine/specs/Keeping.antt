@@ -13,8 +13,8 @@ use Rattle.machine.specs.Steps.{runKeeping}
 use Rattle.engine.specs.Checks.{keptVerdict}
 use Rattle.engine.specs.Running.{RunOutcome, outcomeFrom, runCallOf}
 
--- running with a limit, where only one domain's records are stored, in a buffer as long as one part,
--- which holds `quota` records. The world's log is that buffer.
+-- running with a limit, where only one domain's records are stored, in a buffer as long as one
+-- part, which holds `quota` records. The world's log is that buffer.
 unfoldable pub keptCallOf : Plan → List ℕ → ℕ → ℕ → World → ℕ → RunOutcome
 keptCallOf plan scripts domain quota world limit =
     outcomeFrom (keptVerdict plan scripts domain quota world) plan

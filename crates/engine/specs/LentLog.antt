@@ -1,5 +1,5 @@
--- A run by the log that it is lent, document 01's whole one or document 02's, E8, of one domain: one
--- definition, for the code that does both. Assumes nothing.
+-- A run by the log that it is lent, document 01's whole one or document 02's, E8, of one domain:
+-- one definition, for the code that does both. Assumes nothing.
 use Prim.Native.Nat.{ℕ, _*_}
 use mathlib.Core.Bool.{Bool, true}
 use mathlib.Core.List.{List}

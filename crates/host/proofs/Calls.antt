@@ -63,7 +63,7 @@ unfit-answer plan state answer differs =
 
 -- ---- a refused call
 
-not-zero : (number : ℕ) → isRefusal number ≡ true → number ≡ 0 → ⊥
+pub not-zero : (number : ℕ) → isRefusal number ≡ true → number ≡ 0 → ⊥
 not-zero number refused zero = false≢true (sym (ap isRefusal zero) ∙ refused)
 
 -- an array that a call left as it was handed leaves the list's own as it was
@@ -71,7 +71,7 @@ array-kept :
     (thing : Handed (List ℕ)) (held left : List ℕ) → left ≡ handed thing held → leftIn thing held left ≡ held
 array-kept thing held left kept = ap (leftIn thing held) kept ∙ left-same thing held
 
-arrays-kept :
+pub arrays-kept :
     (arrays : RunArrays) (held : Arrays) (left : RunCall)
     → RunKept (handed (arrays .state) (held .state)) (handed (arrays .cache) (held .cache))
     (handed (arrays .boxes) (held .boxes)) (handed (arrays .log) (held .log)) left

@@ -8,3 +8,4 @@ pub mod StepBounds
 pub mod WrittenBack
 pub mod Latest
 pub mod Examples
+pub mod Keeping

@@ -3,3 +3,4 @@ pub mod Statement
 pub mod StepBounds
 pub mod WrittenBack
 pub mod Latest
+pub mod Keeping

@@ -1,6 +1,6 @@
 -- Document 02, E8, and document 01, "Two lists of calls": lists whose runs keep only one domain's
--- log. Such a list leaves what the same list of runs leaves, with that domain's part for the log, so
--- that a domain may be watched by such runs alone. Assumes nothing.
+-- log. Such a list leaves what the same list of runs leaves, with that domain's part for the log,
+-- so that a domain may be watched by such runs alone. Assumes nothing.
 use Prim.Native.Nat.{ℕ, _+_, _*_, _≤_, _<_}
 use mathlib.Core.Bool.{Bool, true, false, cond}
 use mathlib.Core.List.{List, [], _∷_}
@@ -66,8 +66,8 @@ module _ (plan : Plan) (scripts : List ℕ) where
   abbrev pub keptRefused : KeptCall → World → Bool
   keptRefused call world = isRefused (keptAnswer call world .verdict)
 
-  -- the list's own world after some runs, and the steps that they counted together: those that a run
-  -- asks for, and none where it is refused
+  -- the list's own world after some runs, and the steps that they counted together: those that a
+  -- run asks for, and none where it is refused
   unfoldable pub afterKeptCalls : List KeptCall → World → World
   afterKeptCalls [] world = world
   afterKeptCalls (call ∷ calls) world = afterKeptCalls calls (afterKept call world)

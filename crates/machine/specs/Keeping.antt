@@ -1,5 +1,5 @@
--- Document 02, E8: keeping only one operator's log. What a run that keeps one domain's records has to
--- do with the run that keeps everyone's. Assumes nothing.
+-- Document 02, E8: keeping only one operator's log. What a run that keeps one domain's records has
+-- to do with the run that keeps everyone's. Assumes nothing.
 use Prim.Native.Nat.{ℕ, _≤_}
 use mathlib.Core.Bool.{false}
 use mathlib.Core.List.{List}
@@ -39,7 +39,8 @@ pub record KeptRunsAlike : Type 0 where
       (plan : Plan) (scripts : List ℕ) (quota domain limit : ℕ) (world : World)
       → runKeeping (One domain) plan scripts quota limit (keptWorld quota domain world)
       ≡ keptEffect quota domain (runOf plan scripts quota limit world)
-  -- a domain whose part would be full is idle, whether its records are kept or not: a switch is next
+  -- a domain whose part would be full is idle, whether its records are kept or not: a switch is
+  -- next
   pub idle :
       (plan : Plan) (scripts : List ℕ) (quota domain : ℕ) (world : World)
       → endedOf plan (world .state) ≡ false

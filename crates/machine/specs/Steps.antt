@@ -46,12 +46,14 @@ abbrev pub isEnd : ScriptItem → Bool
 isEnd (Fetch op) = false
 isEnd End = true
 
--- a switch is due: the clock has reached the window's end, or the script has ended, or the domain's log is full
+-- a switch is due: the clock has reached the window's end, or the script has ended, or the domain's
+-- log is full
 unfoldable pub switchDue : List ℕ → Turn → Bool
 switchDue scripts turn =
     leb (turn .end) (turn .clock) || isEnd (nextItem scripts turn) || leb (turn .quota) (turn .records)
 
--- the next step in a window: where no switch is due, the op that stands next in the script; `End` is the switch
+-- the next step in a window: where no switch is due, the op that stands next in the script; `End`
+-- is the switch
 unfoldable pub nextStepOf : List ℕ → Turn → ScriptItem
 nextStepOf scripts turn = cond (switchDue scripts turn) End (nextItem scripts turn)
 
@@ -68,8 +70,8 @@ oneMore ran = record { done = ran .done + 1; world = ran .world }
 
 -- what an op of a domain leaves of a world, by its effect: the next position, one record more, the
 -- clock after the op, and the effect's cache table and boxes. The record goes where the domain's
--- records go; it is counted also where that is nowhere. What the op's accesses put out is no part of
--- a world.
+-- records go; it is counted also where that is nowhere. What the op's accesses put out is no part
+-- of a world.
 abbrev pub afterEffect : Place → ℕ → Effect → World → World
 afterEffect place domain effect world =
     let clock = world .state .clock + effect .ticks in

@@ -1,6 +1,6 @@
 -- Document 02, E7: what its write-back changes. Document 01's own machine is that of the old board,
--- on which a dirty line that is replaced changes nothing in L2. It is defined here to say that no run
--- from a fresh start shows which of the two boards it ran on. Assumes nothing.
+-- on which a dirty line that is replaced changes nothing in L2. It is defined here to say that no
+-- run from a fresh start shows which of the two boards it ran on. Assumes nothing.
 use Prim.Native.Nat.{ℕ, _≤_}
 use mathlib.Core.Bool.{true}
 use mathlib.Core.List.{List}

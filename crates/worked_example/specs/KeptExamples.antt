@@ -1,5 +1,5 @@
--- Document 02, E8: examples of runs that keep only one domain's log, on the settled plan of document
--- 01. Assumes nothing.
+-- Document 02, E8: examples of runs that keep only one domain's log, on the settled plan of
+-- document 01. Assumes nothing.
 use Prim.Native.Nat.{ℕ, _*_, _^_}
 use mathlib.Core.List.{List, [], _++_}
 use mathlib.Core.Path.{_≡_}
@@ -27,8 +27,8 @@ abbrev pub keptRun : ℕ → ℕ → ℕ → RunOutcome
 keptRun domain quota limit = keptFrom domain quota (recordSize * quota) limit
 
 pub record KeptExamples : Type 0 where
-  -- ten records a part: the run does its seven steps and ends, and the buffer holds domain 0's three
-  -- records, or domain 1's two, as the settled output has them
+  -- ten records a part: the run does its seven steps and ends, and the buffer holds domain 0's
+  -- three records, or domain 1's two, as the settled output has them
   pub ends : (keptRun 0 10 100 .verdict ≡ Accepted) × (keptRun 0 10 100 .ending ≡ Ended)
   pub steps : (keptRun 0 10 100 .steps ≡ 7) × (keptRun 1 10 100 .steps ≡ 7)
   pub first :
@@ -41,8 +41,8 @@ pub record KeptExamples : Type 0 where
       (keptRun 1 10 5 .steps ≡ 5)
       × (take 8 (keptRun 1 10 5 .world .log) ≡ recordBytes (Got 77) 881)
       × (recordsAt (keptRun 1 10 5 .world .state) 0 ≡ 3)
-  -- one record a part: domain 0 is idle after its first op, though its records are not kept, so that
-  -- its word is never sent, and domain 1 finds the box empty
+  -- one record a part: domain 0 is idle after its first op, though its records are not kept, so
+  -- that its word is never sent, and domain 1 finds the box empty
   pub idle :
       (keptRun 1 1 100 .steps ≡ 4)
       × (keptRun 1 1 100 .world .log ≡ recordBytes (Empty 0) 881)
