@@ -1,22 +1,19 @@
 -- Running with only one domain's log answers and leaves what running does, with that domain's part for the log. Assumes
 -- nothing.
-use Prim.Native.Nat.{ℕ, _+_, _*_, _≤_, _<_}
-use mathlib.Core.Bool.{Bool, true}
+use Prim.Native.Nat.{ℕ, _*_, _≤_, _<_}
 use mathlib.Core.List.{List}
-use mathlib.Core.Path.{_≡_, refl, sym, ap, _∙_}
+use mathlib.Core.Path.{_≡_, refl, ap, _∙_}
 use native.Mathlib.Omega.{arith}
-use lib.Dec.{eqb, ltb}
 use lib.ListN.{length}
 use borrow.Author.Tests.{eq-eqb, lt-ltb}
 use Rattle.lists.proofs.Parts.{part-length}
 use Rattle.plan.specs.declared.Plan.{Plan}
-use Rattle.records.specs.declared.Keep.the-variants.{One}
 use Rattle.records.specs.Records.{logPart, partRecords, recordIndex, recordSize}
 use Rattle.records.proofs.Parts.{parts-fit}
 use Rattle.records.proofs.Places.{part-ends}
 use Rattle.state.specs.World.{World}
 use Rattle.machine.specs.Keeping.{keptEffect, keptWorld}
-use Rattle.machine.specs.Steps.{RunEffect, runKeeping, runOf}
+use Rattle.machine.specs.Steps.{RunEffect, runOf}
 use Rattle.machine.proofs.Keeping.{kept-runs-alike}
 use Rattle.refusal.specs.declared.Verdict.{Verdict}
 use Rattle.refusal.specs.declared.Verdict.the-variants.{Accepted, Refused}

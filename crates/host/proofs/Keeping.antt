@@ -7,7 +7,7 @@ use mathlib.Core.Path.{_≡_, refl, sym, ap, ap₂, subst, _∙_}
 use native.Mathlib.Nat.{zero-add}
 use lib.ListN.{length}
 use Rattle.plan.specs.declared.Plan.{Plan}
-use Rattle.records.specs.Records.{inParts, logPart, partRecords}
+use Rattle.records.specs.Records.{inParts, partRecords}
 use Rattle.state.specs.World.{World}
 use Rattle.machine.specs.Steps.{RunEffect}
 use Rattle.machine.specs.View.{worldWith}
@@ -23,7 +23,7 @@ use Rattle.pirkvezo.specs.Numbers.{planOf, stateOf}
 use Rattle.pirkvezo.specs.Running.{RunCall, hostRun, hostRunBy, runDone}
 use Rattle.pirkvezo.proofs.Kept.{kept-run-kept}
 use Rattle.pirkvezo.proofs.KeptNumbers.{kept-numbers-alike}
-use Rattle.host.specs.Calls.{Arrays, HostCall, IsHostList, OwnRunArrays, ProperCalls, RunArrays, afterHostCall, afterHostCalls}
+use Rattle.host.specs.Calls.{Arrays, HostCall, OwnRunArrays, ProperCalls, afterHostCall, afterHostCalls}
 use Rattle.host.specs.Calls.{arraysLeft, hostRunCall, hostStepsCounted, hostStepsOf, isRefusal, numberReturned, runReturn}
 use Rattle.host.specs.Calls.{startArrays}
 use Rattle.host.specs.Keeping.{HostKeptCall, HostKeptList, HostKeptListsAlike, IsHostKeptList, IsWholeHostLog, OwnKeptArrays}

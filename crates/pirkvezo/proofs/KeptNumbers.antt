@@ -1,10 +1,7 @@
 -- `pirkvezo_run_kept` in numbers is `pirkvezo_run` with one domain's part for the log. Assumes nothing.
-use Prim.Native.Nat.{ℕ, _<_}
 use mathlib.Core.Bool.{Bool, true, false}
-use mathlib.Core.List.{List}
 use mathlib.Core.Path.{_≡_, refl, ap}
-use lib.ListN.{length}
-use Rattle.records.specs.Records.{logPart, partRecords}
+use Rattle.records.specs.Records.{logPart}
 use Rattle.machine.specs.View.{worldWith}
 use Rattle.engine.specs.Running.{RunOutcome}
 use Rattle.engine.proofs.KeptCalls.{kept-calls-alike}

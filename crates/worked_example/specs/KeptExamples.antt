@@ -1,7 +1,7 @@
 -- Document 02, E8: examples of runs that keep only one domain's log, on the settled plan of
 -- document 01. Assumes nothing.
 use Prim.Native.Nat.{ℕ, _*_, _^_}
-use mathlib.Core.List.{List, [], _++_}
+use mathlib.Core.List.{[], _++_}
 use mathlib.Core.Path.{_≡_}
 use lib.ListN.{replicate, take}
 use Rattle.records.specs.declared.Observation.the-variants.{Empty, Got, Hit1, Miss, Sent}

@@ -3,7 +3,6 @@ use mathlib.Core.List.{[]}
 use mathlib.Core.Path.{_∙_, refl, sym}
 use Prim.Native.Nat.{_-_, _<_}
 use native.Mathlib.Omega.{arith}
-use lib.ListN.{length}
 use borrow.Author.Needs.{needs}
 use Rattle.plan.specs.Windows.{windowsTotal}
 use Rattle.plan.proofs.ValidPlans.{counts}
