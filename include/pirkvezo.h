@@ -33,7 +33,9 @@ extern "C" {
 #define PIRKVEZO_TEXT 32768
 
 /* Reads a plan text. Accepted: the scripts and the plan are written, and 0 is returned. Refused: the scripts stay, and
- * the plan is all zeros; with a plan or an answer of another length the plan stays too. answer: number, companion, 0, 0. */
+ * the plan is all zeros; with a plan or an answer of another length the plan stays too. A pad is 376 at least: a text
+ * with a smaller one is refused with 3, and by the other calls a plan with a smaller one with 12.
+ * answer: number, companion, 0, 0. */
 uint32_t pirkvezo_read_plan(const uint8_t *text, size_t text_length,
                             uint32_t *scripts, size_t scripts_length,
                             uint32_t *plan, size_t plan_length,
@@ -47,7 +49,10 @@ uint32_t pirkvezo_fresh_start(const uint32_t *plan, size_t plan_length,
                               uint32_t *boxes, size_t boxes_length,
                               uint64_t *answer, size_t answer_length);
 
-/* One step, an op or a switch: the same as pirkvezo_run with limit 1. */
+/* One step, an op or a switch: the same as pirkvezo_run with limit 1. A switch empties the kernel's sets and L1, and
+ * then reads line 60, for 100 ticks. So every window but the run's first starts with 61 in the cache table at index 12
+ * (L1) and at index 256 (the front of set 60), and with 0 in the rest of L1 and of the kernel's sets, 256 to 271. The
+ * run's last switch leaves all of these 0. */
 uint32_t pirkvezo_step(const uint32_t *plan, size_t plan_length,
                        const uint32_t *scripts, size_t scripts_length,
                        uint64_t *state, size_t state_length,
@@ -108,15 +113,17 @@ uint32_t pirkvezo_write_plan(const uint32_t *plan, size_t plan_length,
                              uint64_t *answer, size_t answer_length);
 
 /* The latest that a domain can finish a window: the most ticks from the window's end until the
- * switch has emptied L1, in any run from a fresh start and whatever any script holds. It comes from
- * the plan alone. Accepted: `script` holds 256 stored ops for the domain, 0 behind the last. Its
- * first window finishes exactly then, whatever the other scripts hold, where its part of the log
- * has room for 256 records. Refused, in this order; `script` stays:
+ * switch has emptied L1 and read line 60, that read's 100 ticks counted, in any run from a fresh
+ * start and whatever any script holds. It comes from the plan alone. Accepted: `script` holds 256
+ * stored ops for the domain, 0 behind the last. Its first window finishes exactly then, whatever the
+ * other scripts hold, where its part of the log has room for 256 records. The script of a domain
+ * that does not have the plan's first window begins with all sixteen messages: a send to each of
+ * the domains 0 to 7, then a receive from each. Refused, in this order; `script` stays:
  *   - 11: plan, script or answer of another length;
  *   - 12: an impossible plan;
  *   - 18, with the domain as companion: it is not declared, has no window, or has a window of fewer
  *     than 4,000 or more than 20,000 ticks.
- * answer: number, companion, the ticks (0 where refused; 260 at most), 0. */
+ * answer: number, companion, the ticks (0 where refused; 360 at most), 0. */
 uint32_t pirkvezo_latest(const uint32_t *plan, size_t plan_length,
                          uint32_t domain,
                          uint32_t *script, size_t script_length,

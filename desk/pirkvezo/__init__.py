@@ -3,7 +3,7 @@ how many steps a run can take, and how late a domain can finish; write a plan's 
 windows by weights.
 
     >>> import pirkvezo
-    >>> plan = pirkvezo.read(b"(pad 276)\\n(domain 0 (share 400) (may))\\n"
+    >>> plan = pirkvezo.read(b"(pad 376)\\n(domain 0 (share 400) (may))\\n"
     ...                      b"(window 0 (length 300))\\n(run 1)\\n(op 0 (read 3))\\n")
     >>> plan.bound
     2

@@ -41,9 +41,9 @@ class Difference:
 def departure(text: bytes, canonical: bytes) -> Optional[Departure]:
     """Where a text leaves its canonical text; None where it is that text.
 
-    >>> departure(b"(pad 0276)", b"(pad 276)")
-    Departure(line=1, column=6, words='"(pad 0276)" stands here, and the canonical text has "(pad 276)"')
-    >>> departure(b"(pad 276)", b"(pad 276)") is None
+    >>> departure(b"(pad 0376)", b"(pad 376)")
+    Departure(line=1, column=6, words='"(pad 0376)" stands here, and the canonical text has "(pad 376)"')
+    >>> departure(b"(pad 376)", b"(pad 376)") is None
     True
     """
     if text == canonical:
@@ -69,7 +69,7 @@ def differences(a: bytes, b: bytes) -> List[Difference]:
 
     Windows are told apart by their order, and ops by their place in their domain's script.
 
-    >>> found = differences(b"(pad 276)\\n(run 1)", b"(pad 276)\\n(run 2)\\n(op 0(read 3))")
+    >>> found = differences(b"(pad 376)\\n(run 1)", b"(pad 376)\\n(run 2)\\n(op 0(read 3))")
     >>> [difference.about for difference in found]
     ['the run', 'op 0 of domain 0']
     >>> found[0].a, found[1].a

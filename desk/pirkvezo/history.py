@@ -42,9 +42,9 @@ def history(plan: Plan, log_length: int = 16384, windows: Optional[int] = None) 
 
         >>> first, second = history(read(open("examples/worked_example.plan", "rb").read()))
         >>> first.start, first.end, first.padded_end, len(first.ops), first.steps
-        (0, 400, 676, 3, 4)
+        (0, 400, 776, 3, 4)
         >>> second.ops[0]
-        Event(record=Record(kind='got', value=77, clock=881), begin=676, end=881, position=0)
+        Event(record=Record(kind='got', value=77, clock=882), begin=776, end=882, position=0)
     """
     return history_of(World.fresh(plan, log_length), windows)
 

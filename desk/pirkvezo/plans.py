@@ -78,7 +78,8 @@ def decode_script(numbers) -> List[Op]:
 
 @dataclasses.dataclass(frozen=True)
 class Latest:
-    """The latest finish of a domain's windows: the ticks from a window's end until the switch has emptied L1.
+    """The latest finish of a domain's windows: the ticks from a window's end until the switch has emptied L1
+    and touched line 60, touch counted.
 
     `Plan.latest` makes it; the ticks and `script`, 256 stored numbers, are the library's. In no run from a
     fresh start does a window of the domain take more ticks, whatever any script holds. With this script its
@@ -86,7 +87,7 @@ class Latest:
 
         >>> latest = read(open("examples/late_finish.plan", "rb").read()).latest(0)
         >>> latest
-        Latest(domain=0, ticks=260)
+        Latest(domain=0, ticks=360)
         >>> len(latest.ops), latest.lines[0], latest.lines[-1]
         (29, '(op 0 (write 0))', '(op 0 (send 1 0))')
     """
@@ -115,11 +116,11 @@ class Plan:
 
         >>> plan = read(open("examples/worked_example.plan", "rb").read())
         >>> plan.pad, plan.run, plan.shares, plan.recipients
-        (276, 1, (400, 300), ((1,), ()))
+        (376, 1, (400, 300), ((1,), ()))
         >>> plan.colours(0), plan.holding(1)
         ([0, 1, 2, 3, 4, 5], 5)
         >>> plan.window_start(1), plan.window_end(1), plan.windows_total, plan.ticks_total
-        (676, 976, 2, 1252)
+        (776, 1076, 2, 1452)
         >>> [str(op) for op in plan.ops(1)]
         ['(receive 0)', '(read 100)']
         >>> plan.bound
@@ -259,7 +260,7 @@ def _given_by(text):
 def read(text) -> Plan:
     """Reads a plan text (bytes), or raises Refused.
 
-        >>> read(b"(pad 276)")
+        >>> read(b"(pad 376)")
         Traceback (most recent call last):
         ...
         pirkvezo.refusals.Refused: 1:10: the plan has no domain, window or run [5]

@@ -14,6 +14,10 @@ from .shares import COLOURS, SHARES, colours_of, least_share, mended
 TEXT_BYTES, TICKS, WINDOWS, OPS, LEAST_SHARE = 32768, 4294967295, 32, 256, least_share(1)
 # of a log that was asked for, where the plan declares no such domain
 NO_DOMAIN = 4
+# what the least pad has room for: the dearest op, begun in a window's last tick; both flushes; the touch of the
+# return path, which the switch did not make at first
+OVERRUN, FLUSHES, TOUCH = 212, 64, 100
+LEAST_PAD, LEAST_PAD_BEFORE = OVERRUN + FLUSHES + TOUCH, OVERRUN + FLUSHES
 
 CALLS = {
     4: "the plan does not declare that domain",
@@ -65,6 +69,7 @@ class Number:
 DOMAIN = Number("domain", 0, 7)
 LINE, WORD = Number("line", 0, 65535), Number("word", 0, 65535)
 LENGTH = Number("length", 1, 1000000)
+PAD = Number("pad", LEAST_PAD, 1000000)
 COUNT, WEIGHT = Number("window count", 1, 32), Number("weight", 0, 1000)
 # of every window of a domain whose latest finish is asked for
 LATEST_LENGTH = Number("length", 4000, 20000)
@@ -73,14 +78,14 @@ OP_NUMBERS = {
     "receive": [Number("sender", 0, 7)], "compute": [Number("number of ticks", 1, 200)],
 }
 FORMS = {
-    "pad": [Number("pad", 276, 1000000), ")"],
+    "pad": [PAD, ")"],
     "run": [Number("run", 1, 1000), ")"],
     "domain": [DOMAIN, "(", ("share",), Number("share", 1, 1000), ")", "(", ("may",), ")", ")"],
     "window": [DOMAIN, "(", ("length",), LENGTH, ")", ")"],
     "op": [DOMAIN, "(", tuple(OP_NUMBERS)],
 }
 SHAPES = {
-    "pad": "(pad 276)", "run": "(run 1)", "domain": "(domain 0 (share 400) (may 1))",
+    "pad": f"(pad {LEAST_PAD})", "run": "(run 1)", "domain": "(domain 0 (share 400) (may 1))",
     "window": "(window 0 (length 400))", "op": "(op 0 (read 3))",
 }
 OP_SHAPES = {
@@ -139,7 +144,7 @@ def tokens(text: bytes, start: int = 0) -> List[Token]:
 def line_and_column(text: bytes, offset: int) -> Tuple[int, int]:
     """Line and column of an offset, as an editor counts them.
 
-    >>> line_and_column(b"(pad 276)\\n(run 1)", 15)
+    >>> line_and_column(b"(pad 376)\\n(run 1)", 15)
     (2, 6)
     """
     start = text.rfind(b"\n", 0, offset) + 1
@@ -304,11 +309,23 @@ def _range(offset, text):
     if due.name == "domain" or due is RECIPIENT:
         return offset, f"{due.name} {int(token.text)}: domains are numbered {limits}", \
             "a plan has at most eight domains"
-    if int(token.text) < due.low:
-        return offset, f"the {due.name} is {int(token.text)}; it is at least {due.low}", \
-            f"write a number from {limits}"
-    return offset, f"the {due.name} is {int(token.text)}; it is at most {due.high}", \
-        f"write a number from {limits}"
+    number = int(token.text)
+    if due is PAD and number < due.low:
+        return (offset,) + _short_pad(number)
+    if due.low <= number <= due.high:
+        # the desk sees no cause
+        return offset, f"the {due.name} is {number}, which is outside its limits", "see the limits of its form"
+    bound = f"least {due.low}" if number < due.low else f"most {due.high}"
+    return offset, f"the {due.name} is {number}; it is at {bound}", f"write a number from {limits}"
+
+
+def _short_pad(pad):
+    """Cause and fix for a pad below the least, with what that is made of."""
+    before = "; such a pad was enough before the touch" if pad >= LEAST_PAD_BEFORE else ""
+    return f"the pad is {pad}; it is at least {LEAST_PAD}: {OVERRUN} (the dearest op, begun in the last tick) + " \
+        f"{FLUSHES} (both flushes) + {TOUCH} (the touch of the return path){before}", \
+        f"write a number from {PAD.low} to {PAD.high}; plans that were written for {LEAST_PAD_BEFORE} need at " \
+        f"least {LEAST_PAD}"
 
 
 def _token(text, offset):

@@ -51,7 +51,7 @@ class World:
         >>> world.run_windows(1)
         Run(steps=3, ended=False)
         >>> world.windows, world.clock, world.positions[:2]
-        (1, 676, (3, 0))
+        (1, 776, (3, 0))
         >>> world.boxes[8 * 0 + 1]
         78
         >>> world.run()

@@ -20,7 +20,7 @@ def plan_text(random):
     """A plan's text; `random` is a random.Random with a seed of the test's own."""
     domains = random.randint(1, 8)
     shares = shares_at_random(random, domains)
-    lines = [f"(pad {random.choice([276, 300, 1000])})"]
+    lines = [f"(pad {random.choice([376, 400, 1000])})"]
     for domain, share in enumerate(shares):
         may = random.sample([b for b in range(domains) if b != domain], random.randint(0, domains - 1))
         lines.append(f"(domain {domain} (share {share}) (may {' '.join(map(str, may))}))")

@@ -30,7 +30,7 @@ ACCEPTED = [name for name in EXAMPLES if not pathlib.Path(name[:-5] + ".out").re
 WORKED = os.path.join(ROOT, "examples", "worked_example.plan")
 SUFFICES = "A limit that always suffices: a run with it ends, however long its log is."
 
-HEAD = "(pad 276)\n(domain 0 (share 400) (may 1))\n(domain 1 (share 300) (may))\n"
+HEAD = "(pad 376)\n(domain 0 (share 400) (may 1))\n(domain 1 (share 300) (may))\n"
 # three ops and two, and all of them run
 ALL_RUN = HEAD + ("(window 0 (length 1000))\n(window 1 (length 1000))\n(run 3)\n(op 0 (compute 5))\n(op 0 (read 3))\n"
                   "(op 0 (send 1 7))\n(op 1 (receive 0))\n(op 1 (read 9999))\n")
@@ -150,7 +150,7 @@ class BadInput(unittest.TestCase):
 
     def test_values_that_no_text_gives(self):
         plan = pirkvezo.read(ALL_RUN)
-        for at, number in [(0, 275), (1, 0), (1, 1001), (2, 9), (3, 0), (3, 33), (4, 1001), (84, 0)]:
+        for at, number in [(0, 375), (1, 0), (1, 1001), (2, 9), (3, 0), (3, 33), (4, 1001), (84, 0)]:
             numbers = plan.numbers[:at] + (number,) + plan.numbers[at + 1:]
             with self.subTest(f"{at} {number}"), self.assertRaises(pirkvezo.Refused) as caught:
                 dataclasses.replace(plan, numbers=numbers).bound
@@ -171,7 +171,7 @@ class Bound(unittest.TestCase):
             "Switches: 2 windows x 1 round = 2",
             "Added up: 5 ops and 2 switches make 7 steps, as the library says."])
         self.assertTrue(out.isascii())
-        one = with_file("(pad 276)\n(domain 0 (share 34) (may))\n(window 0 (length 1))\n(run 1)", "bound")[1]
+        one = with_file("(pad 376)\n(domain 0 (share 34) (may))\n(window 0 (length 1))\n(run 1)", "bound")[1]
         self.assertIn("plan: a run takes at most 1 step\n", one)
         self.assertIn("Switches: 1 window x 1 round = 1\nAdded up: 0 ops and 1 switch make 1 step,", one)
 
@@ -222,7 +222,7 @@ class Bound(unittest.TestCase):
 
     def test_any_scripts(self):
         """The library counts a script's ops up to the first number that is none, and so does the desk."""
-        chance, plan = random.Random(26), pirkvezo.read("(pad 276)\n" + "".join(
+        chance, plan = random.Random(26), pirkvezo.read("(pad 376)\n" + "".join(
             f"(domain {domain} (share 99) (may))\n" for domain in range(8)) + "(window 3 (length 9))\n(run 5)")
         for _ in range(40):
             # some numbers that are no ops, near those that are

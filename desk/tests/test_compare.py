@@ -134,7 +134,7 @@ def random_op(dice):
 
 def random_plan(dice):
     domains = dice.randrange(2, 5)
-    lines = [f"(pad {dice.randrange(276, 400)})", f"(run {dice.randrange(1, 4)})"]
+    lines = [f"(pad {dice.randrange(376, 500)})", f"(run {dice.randrange(1, 4)})"]
     for d in range(domains):
         may = " ".join(str(r) for r in range(domains) if r != d and dice.random() < 0.5)
         # at most three colours each

@@ -268,7 +268,7 @@ class Plans(unittest.TestCase):
                 with self.subTest(f"{count} {weights}"):
                     domains = [f"(domain {domain} (share 99) (may))" for domain in range(len(weights))]
                     printed = said("frame", str(count), *map(str, weights), "--lines", "--length", "450")[1]
-                    text = "\n".join(["(pad 276)", *domains, printed + "(run 1)"])
+                    text = "\n".join(["(pad 376)", *domains, printed + "(run 1)"])
                     pathlib.Path(name).write_text(text)
                     status, out, _ = said("check", name)
                     self.assertEqual(status, 0, out)
@@ -279,7 +279,7 @@ class Plans(unittest.TestCase):
 
     def test_the_longest_run_of_the_default_length(self):
         printed = said("frame", "32", "1", "--lines")[1]
-        text = f"(pad 276)\n(domain 0 (share 34) (may))\n{printed}(run 1000)"
+        text = f"(pad 376)\n(domain 0 (share 34) (may))\n{printed}(run 1000)"
         self.assertEqual(pirkvezo.read(text).windows_total, 32000)
 
 

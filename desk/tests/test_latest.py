@@ -1,5 +1,6 @@
 """latest: bad input first; then figures by hand, and the scripts run, with their lateness counted in the tables."""
 import dataclasses
+import itertools
 import json
 import os
 import pathlib
@@ -13,6 +14,7 @@ from unittest import mock
 import pirkvezo
 from pirkvezo import library
 from pirkvezo.report import page
+from pirkvezo.shares import least_share
 from plans_at_random import plan_text, shares_at_random
 from test_bound import ACCEPTED, WORKED, contents, ran, told_as_by_table, told_to_be_missing
 from test_bound import told_without_the_library, with_file
@@ -22,35 +24,56 @@ from test_refusals import CASES
 
 LATE = os.path.join(ROOT, "examples", "late_finish.plan")
 NOTES = [
-    "at most: ticks from a window's end until the switch has emptied L1, in every run from a fresh",
-    "start and whatever any script holds. left: what no script of the domain uses of the pad.",
-    "--script prints scripts that take so long, each in its domain's first window."]
+    "at most: ticks from a window's end until the switch has emptied L1 and touched line 60, touch",
+    "counted, in every run from a fresh start and whatever any script holds. left: what no script of",
+    "the domain uses of the pad. --script prints scripts that take so long, each in its domain's",
+    "first window."]
 ROOM = 8 * 8 * 256
 
-# shares, who may send to whom, and the latest finish of each domain, worked out by hand
+# the switch's read of line 60, which always misses
+TOUCH = 100
+
+# shares, who may send to whom, and the latest finish of each domain, worked out by hand; domain 0 has the first window
 FIGURES = [
-    # fourteen colours and one right: 212 past the end, 8 and two kernel lines, 8 and fifteen dirty lines;
-    # colour 14 alone, which meets no kernel line in L1: 204, 8 and 2, 8 and five dirty lines
-    ([934, 66], {0: [1]}, [260, 232]),
-    ([934, 66], {1: [0]}, [260, 232]),
-    # nobody may send: 199, 8 and the entry line, 8 and every own line dirty
-    ([934, 66], {}, [248, 224]),
-    ([34], {}, [224]),
-    ([1000], {}, [248]),
-    # one colour each, 0 to 3: the last one meets the kernel's lines in L1
-    ([34] * 4, {0: [1], 2: [3]}, [232, 232, 232, 236]),
-    ([34] * 4, {3: [0]}, [232, 224, 224, 236]),
+    # fourteen colours and one right: 212 past the end, 8 and two kernel lines, 8 and fifteen dirty lines, the touch;
+    # colour 14 alone, in a later window: 199, 8 and two kernel lines, 8 and five dirty lines, the touch
+    ([934, 66], {0: [1]}, [360, 327]),
+    ([934, 66], {1: [0]}, [360, 327]),
+    # nobody may send: 199, 8 and the entry line, 8 and every own line dirty, the touch, in any window
+    ([934, 66], {}, [348, 324]),
+    ([34], {}, [324]),
+    ([1000], {}, [348]),
+    # one colour each, 0 to 3: the last one meets the kernel's lines in L1, so that its dirty lines are four, not five
+    ([34] * 4, {0: [1], 2: [3]}, [332, 327, 327, 325]),
+    ([34] * 4, {3: [0]}, [332, 324, 324, 325]),
     # two colours each, 0 to 7; three, 0 to 8, where only the first domain has none of 3, 7, 11
-    ([134] * 4, {0: [1, 2, 3]}, [240, 244, 240, 244]),
-    ([134] * 4, {}, [232] * 4),
-    ([200] * 3, {1: [0, 2]}, [248, 252, 252]),
-    ([200] * 3, {}, [240] * 3),
+    ([134] * 4, {0: [1, 2, 3]}, [340, 333, 335, 333]),
+    ([134] * 4, {}, [332] * 4),
+    ([200] * 3, {1: [0, 2]}, [348, 342, 341]),
+    ([200] * 3, {}, [340] * 3),
     # four and more have every index of L1
-    ([267, 333, 400], {2: [0], 0: [1]}, [260] * 3),
+    ([267, 333, 400], {2: [0], 0: [1]}, [360, 349, 349]),
+    # in a later window each box is one kernel line more, up to four, which fill their set
+    ([34] * 6, {0: [5]}, [332, 324, 324, 324, 324, 327]),
+    ([34] * 6, {0: [5], 1: [5]}, [332, 327, 324, 324, 324, 328]),
+    ([34] * 6, {0: [5], 1: [5], 2: [5]}, [332, 327, 327, 324, 324, 329]),
+    ([34] * 6, {0: [5], 1: [5], 2: [5], 3: [5]}, [332, 327, 327, 325, 324, 330]),
+    ([34] * 6, {0: [5], 1: [5], 2: [5], 3: [5], 4: [5]}, [332, 327, 327, 325, 327, 330]),
+    # both ways between two domains are two boxes
+    ([34] * 2, {0: [1], 1: [0]}, [332, 328]),
+    # fourteen boxes each
+    ([67] * 8, {domain: [other for other in range(8) if other != domain] for domain in range(8)},
+     [332, 330, 330, 328, 330, 330, 330, 328]),
 ]
+# with 4 * held indexes of L1, held from 1 to 4: no box; a box in the run's first window; one to four in a later one.
+# Four colours in a row always meet the kernel's lines
+EVERY_FIGURE = {316 + 8 * held for held in (1, 2, 3, 4)} \
+    | {324 + 8 * held for held in (1, 2, 3)} | {328 + 8 * held for held in (1, 2, 3, 4)} \
+    | {318 + boxes + 8 * held for held in (1, 2, 3) for boxes in (1, 2, 3, 4)} \
+    | {316 + boxes + 8 * held for held in (1, 2, 3, 4) for boxes in (1, 2, 3, 4)}
 
 
-def text_of(shares, may, windows, pad=276):
+def text_of(shares, may, windows, pad=376):
     """A plan's text with these shares, rights and windows, each an owner and a length; no ops."""
     lines = [f"(pad {pad})"]
     for domain, share in enumerate(shares):
@@ -77,13 +100,17 @@ def asked(text, *arguments):
 
 
 def by_the_rule(plan, domain):
-    """The figure by the lines that a domain can bring into L1, counted one by one."""
+    """The figure by the lines that a domain can bring into L1 and the kernel's sets, counted one by one."""
     own = {line % 16 for line in range(4096) if plan.masks[domain] >> (line % 64 // 4) & 1}
-    if not plan.recipients[domain] and not any(domain in may for may in plan.recipients):
-        return 199 + 8 + 1 + 8 + 2 * len(own)
-    # the entry line, 60, and a box's line, 61 and so on by 64
+    # the lines of the boxes that it may fill or empty: 61 and so on by 64, all in one set of four ways
+    boxes = {61 + 64 * (8 * a + b) for a, may in enumerate(plan.recipients) for b in may if domain in (a, b)}
+    if plan.windows[0].owner != domain or not boxes:
+        # a compute of 200 is the dearest: a message finds the entry line, or there is none but denied ones
+        dirty = own | {line % 16 for line in boxes}
+        return 199 + 8 + 1 + min(4, len(boxes)) + 8 + 2 * len(dirty) + TOUCH
+    # the window's first message misses the entry line, 60, and a box's line, and may replace two dirty lines
     met = {60 % 16, 61 % 16} & own
-    return 5 + 2 * 100 + 4 * len(met) - 1 + 8 + 2 + 8 + 2 * (len(own) - len(met) + 1)
+    return 5 + 2 * 100 + 4 * len(met) - 1 + 8 + 2 + 8 + 2 * (len(own) - len(met) + 1) + TOUCH
 
 
 def latenesses(plan, scripts, length=ROOM):
@@ -96,7 +123,7 @@ def latenesses(plan, scripts, length=ROOM):
             end = plan.window_end(len(found))
             kernel = sum(number > 0 for number in cache[256:])
             dirty = sum(number >= 32768 for number in cache[:16])
-            found.append(max(clock, end) - end + 8 + kernel + 8 + 2 * dirty)
+            found.append(max(clock, end) - end + 8 + kernel + 8 + 2 * dirty + TOUCH)
     return found
 
 
@@ -219,14 +246,14 @@ class BadInput(unittest.TestCase):
     def test_the_limits_are_taken(self):
         for length in (4000, 4001, 19999, 20000):
             latest = pirkvezo.read(two((0, length), (1, 1), (0, 4000), (0, 20000))).latest(0)
-            self.assertEqual(latest.ticks, 260)
+            self.assertEqual(latest.ticks, 360)
             self.assertTrue(0 < len(latest.ops) <= 256)
         for length in (3999, 20001):
             self.assertRaises(pirkvezo.Refused, pirkvezo.read(two((0, length))).latest, 0)
 
     def test_values_that_no_text_gives(self):
         plan = pirkvezo.read(GOOD)
-        for at, number in [(0, 275), (1, 0), (1, 1001), (2, 9), (3, 0), (3, 33), (4, 1001), (84, 0)]:
+        for at, number in [(0, 375), (1, 0), (1, 1001), (2, 9), (3, 0), (3, 33), (4, 1001), (84, 0)]:
             numbers = plan.numbers[:at] + (number,) + plan.numbers[at + 1:]
             # 12 comes before 18
             for domain in (0, 2):
@@ -254,21 +281,21 @@ class Latest(unittest.TestCase):
         status, out, errors = said("latest", LATE)
         self.assertEqual((status, errors), (0, ""))
         self.assertEqual(out.splitlines(), [
-            f"{LATE}: how late a window can finish, of a pad of 276 ticks", "",
+            f"{LATE}: how late a window can finish, of a pad of 376 ticks", "",
             "domain  at most  left",
-            "     0      260    16",
-            "     1      232    44"] + NOTES)
+            "     0      360    16",
+            "     1      327    49"] + NOTES)
         self.assertTrue(out.isascii())
         self.assertEqual(said("latest", LATE, "1")[1].splitlines(), [
-            f"{LATE}: how late a window can finish, of a pad of 276 ticks", "",
+            f"{LATE}: how late a window can finish, of a pad of 376 ticks", "",
             "domain  at most  left",
-            "     1      232    44"] + NOTES)
+            "     1      327    49"] + NOTES)
 
     def test_a_refused_domain_does_not_stop_the_others(self):
-        text = text_of([267, 200, 134, 134], {0: [1]}, [(0, 4000), (2, 700), (1, 4000)], pad=300)
+        text = text_of([267, 200, 134, 134], {0: [1]}, [(0, 4000), (2, 700), (1, 4000)], pad=400)
         rows = ["domain  at most  left  refused",
-                "     0      260    40",
-                "     1      248    52",
+                "     0      360    40",
+                "     1      343    57",
                 "     2        -     -  line 7: domain 2 has a window of 700 ticks, outside 4000 to 20000 [18]",
                 "     3        -     -  line 5: domain 3 has no window [18]"]
         status, out, errors = asked(text)
@@ -278,7 +305,7 @@ class Latest(unittest.TestCase):
         status, out, errors = asked(text, "--json")
         self.assertEqual((status, errors), (0, ""))
         values = json.loads(out)
-        self.assertEqual([entry["ticks"] for entry in values["domains"]], [260, 248, None, None])
+        self.assertEqual([entry["ticks"] for entry in values["domains"]], [360, 343, None, None])
         self.assertEqual([entry["refusal"] and (entry["refusal"]["number"], entry["refusal"]["companion"],
                                                 entry["refusal"]["line"]) for entry in values["domains"]],
                          [None, None, (18, 2, 7), (18, 3, 5)])
@@ -305,9 +332,9 @@ class Latest(unittest.TestCase):
         status, out, errors = asked(GOOD, "--json")
         self.assertEqual((status, errors), (0, ""))
         plan = pirkvezo.read(GOOD)
-        self.assertEqual(json.loads(out), dict(file="plan", refusal=None, pad=276, domains=[
-            dict(domain=0, ticks=260, left=16, script=plan.latest(0).lines, refusal=None),
-            dict(domain=1, ticks=232, left=44, script=plan.latest(1).lines, refusal=None)]))
+        self.assertEqual(json.loads(out), dict(file="plan", refusal=None, pad=376, domains=[
+            dict(domain=0, ticks=360, left=16, script=plan.latest(0).lines, refusal=None),
+            dict(domain=1, ticks=327, left=49, script=plan.latest(1).lines, refusal=None)]))
         one = json.loads(said("latest", LATE, "1", "--json")[1])
         self.assertEqual([entry["domain"] for entry in one["domains"]], [1])
 
@@ -326,14 +353,23 @@ class Latest(unittest.TestCase):
                 self.assertEqual([latest.ticks for latest in plan.latest_of_each], ticks)
                 self.assertEqual([by_the_rule(plan, domain) for domain in range(plan.domains)], ticks)
                 rows = [row.split() for row in asked(text)[1].splitlines()[3:3 + len(shares)]]
-                self.assertEqual(rows, [[str(domain), str(number), str(276 - number)]
+                self.assertEqual(rows, [[str(domain), str(number), str(376 - number)]
                                         for domain, number in enumerate(ticks)])
 
+    def test_who_has_the_first_window(self):
+        """Only the run's first window starts without line 60, whoever has it and whatever windows follow."""
+        for windows, ticks in [([(0, 4000), (1, 4000)], [360, 327]), ([(1, 4000), (0, 4000)], [349, 332]),
+                               ([(1, 4000), (0, 4000), (1, 20000)], [349, 332]),
+                               ([(0, 4000)] * 2 + [(1, 4000)] * 30, [360, 327]),
+                               ([(0, 20000), (1, 4000), (0, 4000)], [360, 327])]:
+            plan = pirkvezo.read(text_of([934, 66], {0: [1]}, windows))
+            self.assertEqual([latest.ticks for latest in plan.latest_of_each], ticks)
+
     def test_left_is_of_the_plan_s_own_pad(self):
-        for pad in (276, 277, 300, 1000000):
+        for pad in (376, 377, 400, 1000000):
             out = asked(text_of([934, 66], {0: [1]}, [(0, 4000)], pad))[1]
             self.assertIn(f", of a pad of {pad} ticks\n", out)
-            self.assertRegex(out, rf"\n     0      260 +{pad - 260}\n")
+            self.assertRegex(out, rf"\n     0      360 +{pad - 360}\n")
 
     def test_no_script_is_looked_at(self):
         chance, plan = random.Random(41), pirkvezo.read(contents(LATE))
@@ -398,17 +434,43 @@ class Scripts(unittest.TestCase):
                                       latest.domain, latest.script)
                 found = latenesses(plan, scripts)
                 self.assertEqual(found[first_window(plan, latest.domain)], latest.ticks, plan.text)
-                self.assertTrue(max(found) <= 260)
+                self.assertTrue(max(found) <= 360)
                 figures.add(latest.ticks)
-        # all that there are
-        self.assertEqual(figures, {224, 232, 236, 240, 244, 248, 252, 260})
+        self.assertTrue(figures <= EVERY_FIGURE)
+        self.assertGreater(len(figures), 15)
+
+    def test_every_figure(self):
+        """Domain 1 with every number of colours from every lowest one, with every number of boxes that counts."""
+        figures = set()
+        for first, lowest, held, boxes in itertools.product((True, False), (1, 2, 3, 4), (1, 2, 3, 4), range(6)):
+            shares = [least_share(colours) for colours in [lowest, held] + [1] * 5]
+            windows = [(1, 4000)] if first else [(0, 1), (1, 4000)]
+            plan = pirkvezo.read(text_of(shares, {domain: [1] for domain in range(2, 2 + boxes)}, windows))
+            latest = plan.latest(1)
+            self.assertEqual(latest.ticks, by_the_rule(plan, 1), plan.text)
+            self.assertEqual(latenesses(plan, with_script([0] * 2048, 1, latest.script))[-1], latest.ticks, plan.text)
+            figures.add(latest.ticks)
+        self.assertEqual(figures, EVERY_FIGURE)
+
+    def test_the_opening(self):
+        """In the run's first window a script opens with no message, or with one that is denied; in others with all."""
+        every = [f"(send {other} 0)" for other in range(8)] + [f"(receive {other})" for other in range(8)]
+        for windows, may, opening in [([(0, 4000)], {}, every[:1]), ([(0, 4000)], {0: [1]}, []),
+                                      ([(1, 1), (0, 4000)], {}, every), ([(1, 1), (0, 4000)], {0: [1]}, every)]:
+            ops = list(map(str, pirkvezo.read(text_of([34, 34], may, windows)).latest(0).ops))
+            self.assertEqual(ops[:len(opening) + 4], opening + [f"(write {line})" for line in range(4)])
+            self.assertEqual(ops[-1], "(send 1 0)" if may and windows[0] == (0, 4000) else "(compute 200)")
 
     def test_every_first_length(self):
         for length in list(range(4000, 4220)) + [19999, 20000]:
             for may in ({0: [1]}, {}):
                 plan = pirkvezo.read(text_of([34, 66], may, [(0, length)]))
                 self.assertEqual(latenesses(plan, with_script([0] * 2048, 0, plan.latest(0).script)),
-                                 [232 if may else 224])
+                                 [332 if may else 324])
+                # and behind another domain's window, which is idle: 8, 8 and the touch
+                plan = pirkvezo.read(text_of([34, 66], may, [(1, 1), (0, length)]))
+                self.assertEqual(latenesses(plan, with_script([0] * 2048, 0, plan.latest(0).script)),
+                                 [116, 327 if may else 324])
 
     def test_none_is_later(self):
         for chance, plan in self.plans(44, 40):
@@ -436,9 +498,10 @@ class Scripts(unittest.TestCase):
     def test_a_log_without_room(self):
         plan = pirkvezo.read(contents(LATE))
         scripts, ops = plan.scripts, len(plan.latest(0).ops)
-        self.assertEqual(latenesses(plan, scripts, 16 * ops)[0], 260)
-        self.assertLess(latenesses(plan, scripts, 16 * (ops - 1))[0], 260)
-        self.assertEqual(latenesses(plan, scripts, 0), [16, 16])
+        self.assertEqual(latenesses(plan, scripts, 16 * ops)[0], 360)
+        self.assertLess(latenesses(plan, scripts, 16 * (ops - 1))[0], 360)
+        # the second window starts with line 60 among the kernel's
+        self.assertEqual(latenesses(plan, scripts, 0), [116, 117])
 
     def test_the_log_of_run_has_room(self):
         """Eight domains have 256 records each in the log that run takes by itself."""
@@ -452,10 +515,11 @@ class Scripts(unittest.TestCase):
 
 class Shown(unittest.TestCase):
     def test_report(self):
-        told = ("<p>The library says how many of the pad's 276 ticks a domain can use at most: 260 for domain 0, "
-                "232 for domain 1. They count from")
+        told = ("<p>The library says how many of the pad's 376 ticks a domain can use at most: 360 for domain 0, "
+                "327 for domain 1. They count from a window's end until the switch has emptied L1 and touched line 60, "
+                "touch counted.</p>")
         self.assertIn(told, page("plan", pirkvezo.read(GOOD)))
-        self.assertIn("at most: 232 for domain 1. They", page("plan", pirkvezo.read(two((0, 3999), (1, 4000)))))
+        self.assertIn("at most: 327 for domain 1. They", page("plan", pirkvezo.read(two((0, 3999), (1, 4000)))))
         # nothing is said where nothing is told
         for name in ACCEPTED:
             if name != LATE:
@@ -473,7 +537,7 @@ class Wrong(unittest.TestCase):
             self.assertIn("has no window, or has one that is too short or too long [18]", out)
         with mock.patch.object(library, "latest", return_value=(0, 0, 5, 0)):
             for domain in ("0", "7"):
-                self.assertRegex(said("latest", WORKED, domain)[1], rf"\n     {domain}        5   271\n")
+                self.assertRegex(said("latest", WORKED, domain)[1], rf"\n     {domain}        5   371\n")
 
     def test_another_refusal(self):
         for number in (11, 12):
@@ -486,13 +550,13 @@ class Wrong(unittest.TestCase):
     def test_what_cannot_be(self):
         def behind_the_ops(_plan, _domain, script):
             script[0], script[2] = 1 << 20, 1 << 20
-            return 0, 0, 260, 0
+            return 0, 0, 360, 0
 
         def no_op(_plan, _domain, script):
             script[0] = 6 << 20
-            return 0, 0, 260, 0
+            return 0, 0, 360, 0
 
-        for answer in (behind_the_ops, no_op, lambda *_: (0, 0, 277, 0), lambda *_: (0, 0, 2**64 - 1, 0)):
+        for answer in (behind_the_ops, no_op, lambda *_: (0, 0, 377, 0), lambda *_: (0, 0, 2**64 - 1, 0)):
             with mock.patch.object(library, "latest", answer):
                 self.assertRaises(pirkvezo.Fault, pirkvezo.read(GOOD).latest, 0)
                 for arguments in ([], ["0"], ["--json"], ["--script"]):

@@ -126,7 +126,7 @@ class BadInput(unittest.TestCase):
             self.assertNotIn("\x1b", out + errors)
 
     def test_an_undeclared_domain(self):
-        one = b"(pad 276)\n(domain 0 (share 34) (may))\n(window 0 (length 9))\n(run 1)"
+        one = b"(pad 376)\n(domain 0 (share 34) (may))\n(window 0 (length 9))\n(run 1)"
         for text, domain, fix in [(ALL_RUN, 2, "one of the domains 0 to 1"), (ALL_RUN, 7, "one of the domains 0 to 1"),
                                   (ALL_RUN, 8, "one of the domains 0 to 1"), (ALL_RUN, 2**32 - 1, "one of the domains"),
                                   (one, 1, "domain 0")]:
@@ -184,7 +184,7 @@ class BadInput(unittest.TestCase):
 
     def test_values_that_no_text_gives(self):
         plan = pirkvezo.read(ALL_RUN)
-        for at, number in [(0, 275), (1, 0), (2, 9), (3, 33), (4, 1001), (84, 0)]:
+        for at, number in [(0, 375), (1, 0), (2, 9), (3, 33), (4, 1001), (84, 0)]:
             numbers = plan.numbers[:at] + (number,) + plan.numbers[at + 1:]
             # 12 comes before 4
             for domain in (0, 7):
@@ -196,7 +196,7 @@ class BadInput(unittest.TestCase):
         """All that can be wrong is, and is put right from the first to the last; nothing that is lent changes."""
         plan, scripts, state, cache, boxes = lent(ALL_RUN)
         kept = ctypes.create_string_buffer(b"x" * 40, 40)
-        plan[0], boxes[0], state[11] = 275, 1, 5
+        plan[0], boxes[0], state[11] = 375, 1, 5
 
         def answer(length, domain=2, part=4):
             before = [bytes(array) for array in (plan, scripts, state, cache, boxes, kept)]
@@ -211,7 +211,7 @@ class BadInput(unittest.TestCase):
         for length, part in [(0, 2**61), (32, 2**61 + 4), (0, 2**63), (32, 2**64 - 1)]:
             self.assertEqual(answer(length, part=part), (11, 0, 0, 0))
         self.assertEqual(answer(32), (12, 0, 0, 0))
-        plan[0] = 276
+        plan[0] = 376
         self.assertEqual(answer(32), (13, 0, 0, 0))
         boxes[0] = 0
         # records of a domain that is not kept
@@ -357,12 +357,12 @@ class Worlds(unittest.TestCase):
 
 class Only(unittest.TestCase):
     def test_another_domain_goes_idle_where_its_part_would_be_full(self):
-        sent, missed = "(seen 1 881 (got 77))", "(seen 1 881 (empty 0))"
-        for part, lines, steps in [(0, [], 2), (1, [missed], 4), (2, [missed, "(seen 1 981 (miss 100))"], 6),
-                                   (3, [sent, "(seen 1 981 (miss 100))"], 7),
-                                   (256, [sent, "(seen 1 981 (miss 100))"], 7)]:
+        sent, missed = "(seen 1 882 (got 77))", "(seen 1 882 (empty 0))"
+        for part, lines, steps in [(0, [], 2), (1, [missed], 4), (2, [missed, "(seen 1 982 (miss 100))"], 6),
+                                   (3, [sent, "(seen 1 982 (miss 100))"], 7),
+                                   (256, [sent, "(seen 1 982 (miss 100))"], 7)]:
             status, out, errors = said(*only(1, part), WORKED)
-            self.assertEqual((status, out.splitlines()), (0, lines + ["(end 2 1252)"]))
+            self.assertEqual((status, out.splitlines()), (0, lines + ["(end 2 1452)"]))
             self.assertEqual(errors, f"{WORKED}: {steps} steps of at most 7\n")
 
     def test_no_room_for_anybody(self):

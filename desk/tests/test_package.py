@@ -147,7 +147,7 @@ class Advice(unittest.TestCase):
                                      record.kind in ("barred", "denied"), (op, record))
 
     def test_warnings(self):
-        eight = "(pad 276)\n" + "".join(f"(domain {d} (share 99) (may))\n" for d in range(8))
+        eight = "(pad 376)\n" + "".join(f"(domain {d} (share 99) (may))\n" for d in range(8))
         found = advice.warnings(pirkvezo.read(eight + "(window 0 (length 100))\n(run 1)\n"
                                               "(op 0 (read 0))\n(op 0 (read 1))\n(op 0 (read 60))\n"))
         self.assertIn("rounding loses 3 of 11 colours that the shares pay for: they total 792, and the domains hold "

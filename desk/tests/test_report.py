@@ -29,7 +29,7 @@ def longest():
 
     Seven scripts take 256 rounds, so that 8192 windows must be drawn.
     """
-    lines = ["(pad 276)", "(run 1000)"]
+    lines = ["(pad 376)", "(run 1000)"]
     lines += [f"(domain {d}(share 99)(may))" for d in range(8)]
     lines += [f"(window {min(k, 7)}(length 1))" for k in range(32)]
     lines += [f"(op {d}(read 0))" for d in range(8) for _ in range(256)]
@@ -101,7 +101,7 @@ class Pages(unittest.TestCase):
                 self.assertEqual(style, wanted)
 
     def test_rounding(self):
-        text = b"(pad 276)\n(domain 0 (share 300) (may))\n(domain 1 (share 75) (may))\n" \
+        text = b"(pad 376)\n(domain 0 (share 300) (may))\n(domain 1 (share 75) (may))\n" \
                b"(domain 2 (share 400) (may))\n(window 0 (length 9))\n(run 1)"
         tree = xml.fromstring(page("rounding", read(text)))
         found = [row for row in tree.iter() if row.tag.endswith("}tr")][:4]
@@ -118,7 +118,7 @@ class Pages(unittest.TestCase):
         self.assertEqual(len(arrows), 3)
 
     def test_an_overwritten_word_has_no_arrow(self):
-        text = b"(pad 276)\n(domain 0 (share 100) (may 1))\n(domain 1 (share 100) (may))\n" \
+        text = b"(pad 376)\n(domain 0 (share 100) (may 1))\n(domain 1 (share 100) (may))\n" \
                b"(window 0 (length 900))\n(window 1 (length 900))\n(run 1)\n(op 0 (send 1 5))\n" \
                b"(op 0 (send 1 6))\n(op 1 (receive 0))\n(op 1 (receive 0))"
         plan = read(text)
@@ -145,7 +145,7 @@ class Pages(unittest.TestCase):
         self.assertEqual(sum(1 for e in tree.iter() if e.get("data-record")), 2048)
 
     def test_refused(self):
-        text = b"(pad 276)\n(domain 0 (share 400)\t(may))\n<b>&\n"
+        text = b"(pad 376)\n(domain 0 (share 400)\t(may))\n<b>&\n"
         with self.assertRaises(Refused) as caught:
             read(text)
         written = refused_page("tab.plan", caught.exception, text)
@@ -156,7 +156,7 @@ class Pages(unittest.TestCase):
         self.assertIn("<b>&", words)
 
     def test_binary_plans(self):
-        for text in (bytes(range(256)), b"\xff\xfe\x00(", b"\xef\xbb\xbf(pad 276)", b"\x00" * 40000,
+        for text in (bytes(range(256)), b"\xff\xfe\x00(", b"\xef\xbb\xbf(pad 376)", b"\x00" * 40000,
                      b""):
             with self.assertRaises(Refused) as caught:
                 read(text)

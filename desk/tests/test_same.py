@@ -117,7 +117,7 @@ class Same(Two):
     def test_spellings_of_one_plan(self):
         worked = contents(WORKED)
         for other in (worked, CANONICAL, CANONICAL + b"\n", b"\n \n" + worked + b"  ", worked.replace(b" ", b"   "),
-                      worked.replace(b"276", b"0000000276"), b"(run 1)\n" + worked.replace(b"(run 1)\n", b""),
+                      worked.replace(b"376", b"0000000376"), b"(run 1)\n" + worked.replace(b"(run 1)\n", b""),
                       worked.replace(b"(op 1 (receive 0))\n", b"").replace(b"(run 1)", b"(op 1 (receive 0))\n(run 1)")):
             self.assertEqual(self.two(worked, other), (0, "A: a\nB: b\n" + SAME, ""), other)
             status, out, errors = self.two(worked, other, "--json")

@@ -26,7 +26,7 @@ CHANGE = re.compile(r"domain (\d) (?:a share|one) of (\d+) \((?:(\d+)(?: colours
 
 def text_of(sold, rest="(window 0 (length 400))\n(run 1)\n"):
     """A plan's text with these shares, from line 2 on."""
-    return "(pad 276)\n" + "".join(f"(domain {d} (share {share}) (may))\n" for d, share in enumerate(sold)) + rest
+    return "(pad 376)\n" + "".join(f"(domain {d} (share {share}) (may))\n" for d, share in enumerate(sold)) + rest
 
 
 def refused(text):
@@ -201,7 +201,7 @@ class BadInput(unittest.TestCase):
         self.assertEqual(refusal_lines("a", pirkvezo.Refused(16, 17)),
                          ["a: the shares give more than 15 colours [16]"])
         # a number that belongs to no text, beside one
-        self.assertEqual(len(refusal_lines("a", pirkvezo.Refused(12, 0, b"(pad 276)"))), 1)
+        self.assertEqual(len(refusal_lines("a", pirkvezo.Refused(12, 0, b"(pad 376)"))), 1)
         # the verdict is the library's, also where the desk sees nothing to cut
         with mock.patch.object(library, "read_plan", return_value=(16, 16, 0, 0)):
             said = refused(text_of([400, 300]))

@@ -29,7 +29,7 @@ from test_report import longest
 EXAMPLES = sorted(glob.glob(os.path.join(ROOT, "examples", "*.plan")))
 ACCEPTED = [name for name in EXAMPLES if not pathlib.Path(name[:-5] + ".out").read_text().startswith("(refused ")]
 WORKED = os.path.join(ROOT, "examples", "worked_example.plan")
-CANONICAL = (b"(pad 276)\n(domain 0(share 400)(may 1))\n(domain 1(share 300)(may))\n(window 0(length 400))\n"
+CANONICAL = (b"(pad 376)\n(domain 0(share 400)(may 1))\n(domain 1(share 300)(may))\n(window 0(length 400))\n"
              b"(window 1(length 300))\n(run 1)\n(op 0(write 3))\n(op 0(read 3))\n(op 0(send 1 77))\n"
              b"(op 1(receive 0))\n(op 1(read 100))")
 FORMS = ([], ["--check"], ["--in-place"])
@@ -190,7 +190,7 @@ class BadInput(Folder):
     def test_values_that_no_text_gives(self):
         plan = pirkvezo.read(contents(WORKED))
         with_numbers = [plan.numbers[:at] + (number,) + plan.numbers[at + 1:] for at, number in
-                        [(0, 275), (1, 0), (2, 9), (3, 0), (3, 33), (4, 1001), (12, 1), (12, 4), (22, 1), (84, 0)]]
+                        [(0, 375), (1, 0), (2, 9), (3, 0), (3, 33), (4, 1001), (12, 1), (12, 4), (22, 1), (84, 0)]]
         with_scripts = [plan.scripts[:at] + (number,) + plan.scripts[at + 1:] for at, number in
                         # no op, an op behind the end, and a script of a domain that is not declared
                         [(0, 2**32 - 1), (4, 1 << 20), (2047, 1 << 20), (512, 1 << 20), (3, 5 << 20)]]
@@ -283,10 +283,10 @@ class Check(Folder):
                 (contents(WORKED), "2:10", "(domain 0 (share 400) (may 1))", second),
                 ("\n".join(["", *lines]), "1:1", None, lines[0]),
                 ("\n".join([*lines[:5], "  ", *lines[5:]]), "6:1", "  ", "(run 1)"),
-                (" " + "\n".join(lines), "1:1", " (pad 276)", "(pad 276)"),
-                ("\n".join(["(pad 276) ", *lines[1:]]), "1:10", "(pad 276) ", "(pad 276)"),
-                ("\n".join(["(pad 0000000276)", *lines[1:]]), "1:6", "(pad 0000000276)", "(pad 276)"),
-                ("\n".join([lines[5], *lines[:5], *lines[6:]]), "1:2", "(run 1)", "(pad 276)"),
+                (" " + "\n".join(lines), "1:1", " (pad 376)", "(pad 376)"),
+                ("\n".join(["(pad 376) ", *lines[1:]]), "1:10", "(pad 376) ", "(pad 376)"),
+                ("\n".join(["(pad 0000000376)", *lines[1:]]), "1:6", "(pad 0000000376)", "(pad 376)"),
+                ("\n".join([lines[5], *lines[:5], *lines[6:]]), "1:2", "(run 1)", "(pad 376)"),
                 ("\n".join([*lines[:7], lines[9], eighth, lines[8], last]), "8:5", "(op 1(receive 0))", eighth),
                 ("\n".join(lines) + "  ", "11:17", last + "  ", last),
                 ("\n".join([*lines[:-1], last.replace("(read", "( read")]), "11:7", "(op 1( read 100))", last)]:
@@ -295,7 +295,7 @@ class Check(Folder):
                 stands = "an empty line" if stands is None else f'"{stands}"'
                 line = f'{name}:{at}: not canonical: {stands} stands here, and the canonical text has "{due}"\n'
                 self.assertEqual(said("write", "--check", name), (3, line.encode(), ""))
-        recipients = b"(pad 276)\n" + b"".join(b"(domain %d(share 99)(may%b))\n" % (domain, may) for domain, may in
+        recipients = b"(pad 376)\n" + b"".join(b"(domain %d(share 99)(may%b))\n" % (domain, may) for domain, may in
                                                enumerate([b" 2 1", b"", b""])) + b"(window 0(length 9))\n(run 1)"
         self.assertIn(b':2:25: not canonical: "(domain 0(share 99)(may 2 1))"',
                       said("write", "--check", self.file(recipients))[1])
@@ -308,7 +308,7 @@ class Check(Folder):
             ).encode()))
 
     def test_a_long_line_is_cut(self):
-        name = self.file(CANONICAL.replace(b"(pad 276)", b"(pad" + b" " * 9000 + b"276)" + b" " * 9000))
+        name = self.file(CANONICAL.replace(b"(pad 376)", b"(pad" + b" " * 9000 + b"376)" + b" " * 9000))
         status, out, _ = said("write", "--check", name)
         self.assertEqual((status, out.count(b"\n")), (3, 1))
         self.assertIn(b':1:6: not canonical: "(pad  ', out)

@@ -1,8 +1,9 @@
 /* A whole list of calls: a plan is read, started, run in parts and to its end, and each domain's
  * log is asked for; then runs limited by the step bound; then calls that are refused, which change
  * nothing; then frames by weights; then a plan written back; then how late a domain can finish, with
- * a run that does so; then steps on cache tables of the host's own; then runs that keep one domain's
- * log. tests/host/expected.txt is what it prints. */
+ * runs that do so; then steps on cache tables of the host's own; then runs that keep one domain's
+ * log; then the least pad, and what a switch's touch leaves in the cache table.
+ * tests/host/expected.txt is what it prints. */
 #include <inttypes.h>
 #include <stdio.h>
 #include <string.h>
@@ -28,7 +29,7 @@ static uint32_t script[PIRKVEZO_SCRIPT];
 static uint8_t kept[KEPT + 1];
 
 static const char *const settled =
-    "(pad 276)\n"
+    "(pad 376)\n"
     "(domain 0 (share 400) (may 1))\n"
     "(domain 1 (share 300) (may))\n"
     "(window 0 (length 400))\n"
@@ -42,7 +43,7 @@ static const char *const settled =
 
 /* Fourteen colours and one right to send; the other domain has the fifteenth colour. */
 static const char *const long_windows =
-    "(pad 276)\n"
+    "(pad 376)\n"
     "(domain 0 (share 934) (may 1))\n"
     "(domain 1 (share 66) (may))\n"
     "(window 0 (length 4000))\n"
@@ -51,7 +52,7 @@ static const char *const long_windows =
 
 /* Two lines of set 0, which has four ways. */
 static const char *const reads =
-    "(pad 276)\n"
+    "(pad 376)\n"
     "(domain 0 (share 400) (may))\n"
     "(window 0 (length 400))\n"
     "(run 1)\n"
@@ -186,10 +187,10 @@ static void refused_calls(void)
 /* A refused reading leaves the scripts, and its plan is all zeros, which no other call takes. */
 static void refused_readings(void)
 {
-    print_call("read_plan, pad 275", read_text("(pad 275)\n"));
+    print_call("read_plan, pad 375", read_text("(pad 375)\n"));
     print_call("read_plan, no text", read_text(""));
     print_call("read_plan, sixteen colours",
-               read_text("(pad 276)\n(domain 0 (share 500) (may))\n(domain 1 (share 500) (may))\n"
+               read_text("(pad 376)\n(domain 0 (share 500) (may))\n(domain 1 (share 500) (may))\n"
                          "(window 0 (length 1))\n(run 1)\n"));
     print_call("fresh_start, the plan beside a refused reading", start());
 }
@@ -380,25 +381,34 @@ static void refused_latest(void)
     plan[53] = 20000;
 }
 
-/* The script's ops run in the first window, up to its switch. What that will wait for is in the clock
- * and the cache table: each flush takes 8 ticks, and the kernel's sets one more for each line, L1 two
- * more for each dirty line. */
-static void late_run(void)
+/* The ticks of the switch that comes next, by the cache table: each flush takes 8, and the kernel's
+ * sets one more for each line, L1 two more for each dirty line; the touch takes 100. */
+static uint64_t switch_ticks(void)
 {
-    uint64_t late = 16;
-    memcpy(scripts, script, sizeof script);
+    uint64_t ticks = 8 + 8 + 100;
+    for (size_t at = 0; at < 16; at++) {
+        ticks += cache[at] >= 32768 ? 2 : 0;
+    }
+    for (size_t at = 256; at < PIRKVEZO_CACHE; at++) {
+        ticks += cache[at] != 0 ? 1 : 0;
+    }
+    return ticks;
+}
+
+/* The script runs in its domain's first window, which has this index and ends then, up to its switch.
+ * Other domains have no ops. */
+static void late_run(uint32_t domain, uint64_t window, uint64_t end)
+{
+    memset(scripts, 0, sizeof scripts);
+    memcpy(scripts + PIRKVEZO_SCRIPT * domain, script, sizeof script);
     print_call("fresh_start, with this script", start());
+    while (state[0] < window && step() == 0) {
+    }
     for (size_t op = 0; op < PIRKVEZO_SCRIPT && script[op] != 0; op++) {
         step();
     }
-    for (size_t at = 0; at < 16; at++) {
-        late += cache[at] >= 32768 ? 2 : 0;
-    }
-    for (size_t at = 256; at < PIRKVEZO_CACHE; at++) {
-        late += cache[at] != 0 ? 1 : 0;
-    }
     printf("clock %" PRIu64 " in window %" PRIu64 ", which finishes %" PRIu64 " ticks after its end\n",
-           state[1], state[0], state[1] - 4000 + late);
+           state[1], state[0], state[1] - end + switch_ticks());
     print_call("step, the switch", step());
     printf("clock %" PRIu64 " in window %" PRIu64 "\n", state[1], state[0]);
 }
@@ -408,12 +418,17 @@ static void latest_finishes(void)
 {
     print_call("read_plan, long windows", read_text(long_windows));
     refused_latest();
-    print_latest("latest, domain 1", latest_of(1));
     plan[12] = 0;
     print_latest("latest, domain 0 without its right to send", latest_of(0));
+    print_latest("latest, domain 1 without a box", latest_of(1));
     plan[12] = 2;
+    plan[13] = 1;
+    print_latest("latest, domain 1 with a right to send too", latest_of(1));
+    plan[13] = 0;
     print_latest("latest, domain 0", latest_of(0));
-    late_run();
+    late_run(0, 0, 4000);
+    print_latest("latest, domain 1", latest_of(1));
+    late_run(1, 1, 24376);
 }
 
 /* A step on a fresh start but for what the host lends: the position in the script, line 0 dirty in L1,
@@ -551,6 +566,83 @@ static void kept_runs(void)
     print_call("run_kept after the end", keep(0, 1, 0, 1));
 }
 
+/* What L1 and the kernel's sets hold: each number that is not 0, with its index. */
+static void print_l1_and_kernel(void)
+{
+    size_t found = 0;
+    printf("L1 and the kernel's sets:");
+    for (size_t at = 0; at < PIRKVEZO_CACHE; at = at == 15 ? 256 : at + 1) {
+        if (cache[at] != 0) {
+            printf("%s %u at index %zu", found == 0 ? "" : ",", cache[at], at);
+            found++;
+        }
+    }
+    printf("%s\n", found == 0 ? " empty" : "");
+}
+
+/* A pad of 375 is too short, in a text and in a plan; 376 is taken. */
+static void least_pad(void)
+{
+    static char short_pad[256];
+    strcpy(short_pad, settled);
+    memcpy(short_pad, "(pad 375)", 9);
+    print_call("read_plan, a whole plan with pad 375", read_text(short_pad));
+    print_call("read_plan, with pad 376", read_text(settled));
+    plan[0] = 375;
+    print_call("fresh_start, a plan with pad 375", start());
+    print_call("run, the same", run(1));
+    print_call("step_bound, the same", bound(PIRKVEZO_PLAN, PIRKVEZO_SCRIPTS));
+    plan[0] = 376;
+    print_call("fresh_start, with pad 376", start());
+}
+
+/* Line 60 is in both caches after the switch between the two windows, and in neither after the last.
+ * The host may lend it wherever a line of the kernel's may be: not in L1 after the end. */
+static void touched_tables(void)
+{
+    print_l1_and_kernel();
+    print_call("run, the first window and its switch", run(4));
+    print_l1_and_kernel();
+    print_call("run, to the end", run(1000));
+    print_l1_and_kernel();
+
+    cache[12] = 61;
+    print_call("run, line 60 in L1 after the end", run(1));
+    cache[12] = 0;
+    cache[256] = 61;
+    print_call("run, line 60 in set 60 after the end", run(1));
+
+    print_call("fresh_start", start());
+    cache[256] = 61;
+    cache[12] = 61;
+    print_call("step, line 60 in both caches in the first window", step());
+    cache[12] = 32829;
+    print_call("step, the same and dirty", step());
+    cache[13] = 61;
+    print_call("step, line 60 at another index", step());
+}
+
+/* A state and a table that no run leaves: the clock 212 ticks past the first window's end, a dirty line at
+ * each index of L1, and the kernel's sets full. No switch takes more, and its touch is done in the tick in
+ * which the next window starts. */
+static void longest_switch(void)
+{
+    print_call("fresh_start", start());
+    for (uint16_t line = 0; line < 16; line++) {
+        cache[line] = (uint16_t)(32769 + line);
+    }
+    for (uint16_t at = 0; at < 16; at++) {
+        cache[256 + at] = (uint16_t)(61 + at / 4 + 64 * (at % 4));
+    }
+    state[1] = 613;
+    print_call("step, the clock 213 past the end", step());
+    state[1] = 612;
+    printf("clock %" PRIu64 ", and the switch takes %" PRIu64 " ticks\n", state[1], switch_ticks());
+    print_call("step, the clock 212 past the end", step());
+    printf("clock %" PRIu64 " in window %" PRIu64 "\n", state[1], state[0]);
+    print_l1_and_kernel();
+}
+
 int main(void)
 {
     static struct tables before, after;
@@ -566,5 +658,8 @@ int main(void)
     latest_finishes();
     lent_tables();
     kept_runs();
+    least_pad();
+    touched_tables();
+    longest_switch();
     return 0;
 }

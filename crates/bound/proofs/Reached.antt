@@ -32,7 +32,7 @@ inTurn = 0 ∷ 1 ∷ 2 ∷ 3 ∷ 4 ∷ 5 ∷ 6 ∷ 7 ∷ []
 abbrev longest : Plan
 longest =
     record {
-      pad = 276;
+      pad = 376;
       run = 1_000;
       domains = 8;
       windows = 32;

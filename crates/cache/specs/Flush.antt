@@ -1,11 +1,12 @@
--- Document 01, "Window, switch, run": the two flushes of a switch, their counts and ticks. Assumes
--- nothing.
+-- Document 01, "Window, switch, run": the two flushes of a switch, their counts and ticks; and
+-- document 02, E9: a line that is emptied from both caches. Assumes nothing.
 use Prim.Native.Nat.{ℕ, _+_, _*_}
 use mathlib.Core.Bool.{Bool, cond}
 use mathlib.Core.List.{List, [], _∷_}
-use lib.ListN.{replicate}
+use lib.ListN.{replicate, set}
 use Rattle.lists.specs.Part.{part, splice}
-use Rattle.cache.specs.Lines.{l1Length, isDirty, isValid, kernelEntries, kernelIndex}
+use Rattle.cache.specs.Lines.{l1Index, l1Length, isDirty, isValid, kernelEntries}
+use Rattle.cache.specs.Lines.{kernelIndex, setIndex, setOf}
 
 -- the ticks of either flush, whatever it empties
 abbrev pub flushTicks : ℕ
@@ -43,3 +44,12 @@ kernelFlushed table = splice kernelIndex kernelEntries (replicate kernelEntries 
 -- the table with L1 emptied
 unfoldable pub l1Flushed : List ℕ → List ℕ
 l1Flushed table = splice 0 l1Length (replicate l1Length 0) table
+
+-- the table once both are done, one after the other
+abbrev pub flushedCache : List ℕ → List ℕ
+flushedCache table = l1Flushed (kernelFlushed table)
+
+-- a line that was just accessed, emptied again: the two entries where an access puts it, its L1
+-- index and the front of its set
+unfoldable pub lineEmptied : ℕ → List ℕ → List ℕ
+lineEmptied line table = set (set table (l1Index line) 0) (setIndex (setOf line)) 0

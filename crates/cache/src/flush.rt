@@ -1,18 +1,20 @@
 // The two flushes of a switch: the kernel's sets, and L1. Each counts what it empties, since that
-// is what its ticks depend on.
+// is what its ticks depend on. And a line that is emptied without cost.
 use crate::choose_number;
 use crate::limits::DIRTY_LINE_TICKS;
 use crate::limits::DIRTY_MARK;
 use crate::limits::FLUSH_TICKS;
 use crate::limits::KERNEL_INDEX;
 use crate::limits::L1_LENGTH;
+use crate::limits::SET_COUNT;
+use crate::limits::WAYS_PER_SET;
 ghost use mathlib.Core.Path.{_≡_};
 ghost use Prim.Native.Nat.{_+_, _≤_};
 ghost use lib.ListN.{length, replicate};
 ghost use Rattle.lists.specs.Part.{part};
 ghost use Rattle.cache.specs.Lines.{isDirty, isValid, kernelEntries, l1Length, tableLength};
 ghost use Rattle.cache.specs.Flush.{countWhere, kernelFlushed, kernelFlushTicks, l1Flushed};
-ghost use Rattle.cache.specs.Flush.{l1FlushTicks};
+ghost use Rattle.cache.specs.Flush.{l1FlushTicks, lineEmptied};
 
 // The dirty lines among `left` numbers from an index on.
 fn count_dirty(numbers: &[u16], at: usize, left: usize) -> u64
@@ -80,4 +82,15 @@ pub fn flush_l1(table: &mut [u16]) -> u64
     let dirty = count_dirty(&table[from..to], 0, L1_LENGTH);
     empty(&mut table[from..to]);
     FLUSH_TICKS + DIRTY_LINE_TICKS * dirty
+}
+
+// Empties a line that was just accessed: its L1 index and the front of its set.
+pub fn empty_line(table: &mut [u16], line: u16)
+    requires { ⌜ length (now table) ≡ tableLength ⌝ }
+    ensures { λ _. ⌜ now (table .exit) ≡ lineEmptied line (now (table .entry)) ⌝ }
+{
+    let index = line as usize % L1_LENGTH;
+    let front = L1_LENGTH + WAYS_PER_SET * (line as usize % SET_COUNT);
+    table[index] = 0;
+    table[front] = 0;
 }

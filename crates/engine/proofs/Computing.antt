@@ -8,7 +8,7 @@ use Rattle.plan.specs.Sums.{sumTo, allBelow}
 use Rattle.plan.specs.Validity.{countsValid, declaredValid, undeclaredValid, domainValid, maskValid, windowValid, planValid}
 use Rattle.plan.specs.Windows.{windowOwner, windowLength, windowStart, windowEnd, windowsTotal, ticksTotal}
 use Rattle.cache.specs.Access.{lookupL1, lookupL2, lookupOf, lookupAt, writeBackOf, writeBackAt, writtenBack, seekOf, accessOf}
-use Rattle.cache.specs.Flush.{countWhere, dirtyLines, validLines, kernelFlushTicks, l1FlushTicks, kernelFlushed, l1Flushed}
+use Rattle.cache.specs.Flush.{countWhere, dirtyLines, validLines, kernelFlushTicks, l1FlushTicks, kernelFlushed, l1Flushed, lineEmptied}
 use Rattle.cache.specs.Sets.{has, moveToFront, without}
 use Rattle.records.specs.Records.{logPart, onlyOf, partRecords, recordBytes, storedAt}
 use Rattle.ops.specs.Ops.{ownsLine, touchBy, messageBy, boxObservation, receiveBy, computeOf, effectBy}
@@ -17,7 +17,7 @@ use Rattle.state.specs.TableValidity.{lineAllowed, l1EntryValid, allEmpty, ways
 use Rattle.state.specs.World.{endedOf, freshState}
 use Rattle.machine.specs.Fresh.{freshWorld}
 use Rattle.machine.specs.Steps.{activeStepBy, nextStepOf, opStepBy, runBy, stepBy, switchDue}
-use Rattle.machine.specs.Switch.{flushedClock, paddedClock, switchOf}
+use Rattle.machine.specs.Switch.{flushedClock, paddedClock, switchBy, switchedCacheBy, touchedClockBy}
 use Rattle.engine.specs.Checks.{freshVerdict, keptVerdict, lentVerdict, logVerdict, runVerdict}
 use Rattle.engine.specs.FreshStart.{freshStartOf}
 use Rattle.engine.specs.Keeping.{keptCallOf}
@@ -32,13 +32,13 @@ unfolding
     countsValid declaredValid undeclaredValid domainValid maskValid windowValid planValid
     windowOwner windowLength windowStart windowEnd windowsTotal ticksTotal
     lookupL1 lookupL2 lookupOf lookupAt writeBackOf writeBackAt writtenBack seekOf accessOf has moveToFront without
-    countWhere dirtyLines validLines kernelFlushTicks l1FlushTicks kernelFlushed l1Flushed
+    countWhere dirtyLines validLines kernelFlushTicks l1FlushTicks kernelFlushed l1Flushed lineEmptied
     recordBytes partRecords onlyOf storedAt logPart
     ownsLine touchBy messageBy boxObservation receiveBy computeOf effectBy
     clockValid domainCountsValid stateValid
     lineAllowed l1EntryValid allEmpty waysValid setValid boxValid tablesValid
     endedOf freshState freshWorld opStepBy switchDue nextStepOf activeStepBy stepBy runBy
-    flushedClock paddedClock switchOf
+    flushedClock touchedClockBy paddedClock switchedCacheBy switchBy
     freshVerdict lentVerdict runVerdict keptVerdict logVerdict freshStartOf logQueryOf logStatusOf
     ranFrom runCallOf stepCallOf keptCallOf
 computing = 0

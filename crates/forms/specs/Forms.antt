@@ -29,7 +29,7 @@ abbrev pub thenForm : {A : Type 0} → FormParse → (Refusal → A) → (Form �
 thenForm (Took form end) refused go = go form end
 thenForm (RefusedForm refusal) refused go = refused refusal
 
--- ---- (pad 276) and (run 1)
+-- ---- (pad 376) and (run 1)
 
 -- the number of a pad
 unfoldable pub padForm : List ℕ → ℕ → FormParse

@@ -43,7 +43,7 @@ use Rattle.host.proofs.Isolation.{host-isolation}
 -- the worked example's plan: domain 0 may send to 1, and each has one window
 abbrev plan : List ℕ
 plan =
-    276 ∷ 1 ∷ 2 ∷ 2
+    376 ∷ 1 ∷ 2 ∷ 2
     ∷ ((400 ∷ 300 ∷ replicate (mostDomains - 2) 0)
     ++ ((2 ∷ replicate (mostDomains - 1) 0)
     ++ ((0 ∷ 1 ∷ replicate (mostWindows - 2) 0)
@@ -189,7 +189,7 @@ comparable =
 pub seen : HostSameSeen 1 one other
 seen = host-isolation .isolated 1 one other one-is other-is comparable
 
--- after 6 and after 5 steps: the word 77 got at 881, and a miss of line 100 at 981
+-- after 6 and after 5 steps: the word 77 got at 882, and a miss of line 100 at 982
 pub shown :
     (hostPointOf one ≡ 6)
     × (hostPointOf other ≡ 5)
@@ -197,7 +197,7 @@ pub shown :
     ≡ record {
       number = 0;
       answer = 0 ∷ 0 ∷ 80 ∷ 16 ∷ [];
-      bytes = 5 ∷ 0 ∷ 77 ∷ 0 ∷ 113 ∷ 3 ∷ 0 ∷ 0 ∷ 3 ∷ 0 ∷ 100 ∷ 0 ∷ 213 ∷ 3 ∷ 0 ∷ 0 ∷ [];
+      bytes = 5 ∷ 0 ∷ 77 ∷ 0 ∷ 114 ∷ 3 ∷ 0 ∷ 0 ∷ 3 ∷ 0 ∷ 100 ∷ 0 ∷ 214 ∷ 3 ∷ 0 ∷ 0 ∷ [];
     })
 unfolding computing
 shown = (refl, refl, refl)

@@ -23,6 +23,7 @@ use Rattle.plan.specs.Windows.{windowOwner, windowsTotal}
 use Rattle.plan.proofs.Sums.{all-below}
 use Rattle.cache.specs.Lines.{tableLength}
 use Rattle.ops.specs.Ops.{boxIndex, boxesLength}
+use Rattle.machine.specs.LeastPad.{withPad}
 use Rattle.state.specs.declared.State.{State}
 use Rattle.state.specs.World.{World, positionAt, recordsAt}
 use Rattle.engine.specs.LogQuery.{logQueryOf}
@@ -45,14 +46,14 @@ use Rattle.isolation.proofs.TwoRuns.Progress.{no-fewer, one-start}
 abbrev pub plan : Plan
 plan =
     record {
-      pad = 276;
+      pad = 376;
       run = 2;
       domains = 3;
       windows = 3;
       shares = 300 ∷ 400 ∷ 270 ∷ 0 ∷ 0 ∷ 0 ∷ 0 ∷ 0 ∷ [];
       rights = 0 ∷ 1 ∷ 2 ∷ 0 ∷ 0 ∷ 0 ∷ 0 ∷ 0 ∷ [];
       owners = 1 ∷ 0 ∷ 2 ∷ replicate (mostWindows - 3) 0;
-      lengths = 300 ∷ 400 ∷ 300 ∷ replicate (mostWindows - 3) 0;
+      lengths = 300 ∷ 300 ∷ 300 ∷ replicate (mostWindows - 3) 0;
       masks = 31 ∷ 2_016 ∷ 30_720 ∷ 0 ∷ 0 ∷ 0 ∷ 0 ∷ 0 ∷ [];
     }
 
@@ -109,7 +110,7 @@ one =
           ∷ [];
     }
 
--- the second asks between two runs; its run takes a step more to the same point
+-- the second asks between two runs; its run takes two steps more to the same point
 abbrev pub other : CallList
 other =
     record {
@@ -119,7 +120,7 @@ other =
       oldState = garbage;
       oldCache = replicate tableLength 9;
       oldBoxes = replicate boxesLength 1;
-      calls = runCall ownThings 9 ∷ logCall logThings 0 ∷ runCall ownThings 6 ∷ [];
+      calls = runCall ownThings 9 ∷ logCall logThings 0 ∷ runCall ownThings 7 ∷ [];
     }
 
 -- every definition that the examples compute with, named once
@@ -213,9 +214,9 @@ boxes-there window at at′ second s s′ =
 boxes-there window at at′ fifth s s′ =
     rw (
       one-start (runOfList one) 4 at 12 s (starts-after (runOfList one) refl 3 11 refl refl),
-      one-start (runOfList other) 4 at′ 13 s′ (starts-after (runOfList other) refl 3 12 refl refl),
+      one-start (runOfList other) 4 at′ 14 s′ (starts-after (runOfList other) refl 3 13 refl refl),
     )
-    (boxes-by-test 0 (worldAfter (runOfList one) 12) (worldAfter (runOfList other) 13) refl)
+    (boxes-by-test 0 (worldAfter (runOfList one) 12) (worldAfter (runOfList other) 14) refl)
 
 pub comparable : Comparable 0 one other
 unfolding computing
@@ -241,19 +242,19 @@ seen = isolation .isolated 0 one other one-is other-is comparable
 abbrev handedBack : CallList → ℕ → List ℕ
 handedBack list domain = logQueryOf (list .plan) (leavesOf list .state) (leavesOf list .log) domain
 
--- the lists end after 14 and after 15 steps, both in the observer's second window, after two of its ops there
+-- the lists end after 14 and after 16 steps, both in the observer's second window, after two of its ops there
 pub mid-window :
     (pointOf one ≡ 14)
-    × (pointOf other ≡ 15)
+    × (pointOf other ≡ 16)
     × InWindowOf (Only 0) (runOfList one) (pointOf one)
     × (opsOf (runOfList one) 4 (pointOf one) ≡ 2)
 unfolding computing
 mid-window = (refl, refl, record { notEnded = omega arith; owner = refl }, refl)
 
--- a host that stops both after 14 steps shows the observer five records of one run and four of the other: a limit on
+-- a host that stops both after 14 steps shows the observer five records of one run and three of the other: a limit on
 -- steps is no corresponding point
 pub fourteen-steps :
-    (recordsAt (worldAfter (runOfList one) 14 .state) 0 ≡ 5) × (recordsAt (worldAfter (runOfList other) 14 .state) 0 ≡ 4)
+    (recordsAt (worldAfter (runOfList one) 14 .state) 0 ≡ 5) × (recordsAt (worldAfter (runOfList other) 14 .state) 0 ≡ 3)
 unfolding computing
 fourteen-steps = (refl, refl)
 
@@ -393,23 +394,7 @@ masks-needed claim =
 
 -- the plan above without its pad
 abbrev noPad : FreshRun
-noPad =
-    record {
-      plan =
-          record {
-            pad = 0;
-            run = plan .run;
-            domains = plan .domains;
-            windows = plan .windows;
-            shares = plan .shares;
-            rights = plan .rights;
-            owners = plan .owners;
-            lengths = plan .lengths;
-            masks = plan .masks;
-          };
-      scripts = replicate scriptsLength 0;
-      log = replicate 192 0;
-    }
+noPad = record { plan = withPad plan 0; scripts = replicate scriptsLength 0; log = replicate 192 0 }
 
 -- nobody has an op: the first step is the first window's switch
 first-switch : (earlier : ℕ) → earlier < 1 → windowsAfter noPad earlier < 1
@@ -417,12 +402,12 @@ unfolding computing
 first-switch zero below = omega arith
 first-switch (suc earlier) below = absurd (omega arith)
 
--- (A) fails: the two flushes take 8 ticks each, and the second window starts at 316 and not at 300
+-- (A) fails: the two flushes take 8 ticks each and the touch takes 100, and the second window starts at 416 and not at 300
 pub pad-needed :
     ((run : FreshRun) (count window : ℕ) → window ≤ windowsAfter run count → StartedOnTime run count window) → ⊥
 unfolding computing
 pad-needed claim =
     let t = claim noPad 1 1 (omega arith) in
     let at-first : t .at ≡ 1 = one-start noPad 1 (t .at) 1 (t .starts) (record { reached = refl; first = first-switch }) in
-    let late : _≡_ {A = ℕ} 316 300 = ap (λ (at : ℕ). worldAfter noPad at .state .clock) (sym at-first) ∙ t .onTime in
+    let late : _≡_ {A = ℕ} 416 300 = ap (λ (at : ℕ). worldAfter noPad at .state .clock) (sym at-first) ∙ t .onTime in
     omega arith

@@ -7,3 +7,4 @@ pub mod Texts
 pub mod TextExample
 pub mod Lent
 pub mod Keeping
+pub mod WindowStarts

@@ -28,7 +28,7 @@ use Rattle.isolation.proofs.Texts.{accepted-isolation}
 -- the text of the example's plan
 abbrev pub exampleText : String
 exampleText =
-    "(pad 276)\n(domain 0(share 300)(may))\n(domain 1(share 400)(may 0))\n(domain 2(share 270)(may 1))\n(window 1(length 300))\n(window 0(length 400))\n(window 2(length 300))\n(run 2)"
+    "(pad 376)\n(domain 0(share 300)(may))\n(domain 1(share 400)(may 0))\n(domain 2(share 270)(may 1))\n(window 1(length 300))\n(window 0(length 300))\n(window 2(length 300))\n(run 2)"
 
 is-text : canonicalText plan noOps ≡ bytesOf exampleText
 unfolding

@@ -5,7 +5,7 @@ pub mod Access
 pub mod Indices
 pub mod Relations
 pub mod Ops
-pub mod Flush
+pub mod Switch
 pub mod Log
 pub mod OpStep
 pub mod Step

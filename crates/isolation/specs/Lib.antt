@@ -6,3 +6,4 @@ pub mod Solo
 pub mod StepBounds
 pub mod Lent
 pub mod Keeping
+pub mod WindowStarts

@@ -17,6 +17,10 @@ use Rattle.cache.proofs.Counts.{count-more, count-none}
 abbrev pub one : Bool → ℕ
 one passes = cond passes 1 0
 
+pub one-most : (passes : Bool) → one passes ≤ 1
+one-most true = omega arith
+one-most false = omega arith
+
 -- a test that passes only where another does
 one-under : (first second : Bool) → (first ≡ true → second ≡ true) → one first ≤ one second
 one-under true true only = omega arith
@@ -25,7 +29,7 @@ one-under false second only = omega arith
 
 module _ (test : ℕ → Bool) (first : ℕ) (table : List ℕ) where
   -- the count is a sum over the part's indices
-  count-is : (count : ℕ) → first + count ≤ length table
+  pub count-is : (count : ℕ) → first + count ≤ length table
       → sumTo (λ index. one (test (getD table (first + index) 0))) count ≡ countWhere test (part first count table)
   unfolding sumTo
   count-is zero within = count-none test first table

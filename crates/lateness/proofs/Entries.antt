@@ -1,5 +1,5 @@
--- A read of the kernel's entry line in a window of a domain, which every message begins with: the first of a window misses, and from then on
--- the line is in its set at least. Assumes nothing.
+-- A read of the kernel's entry line in a window of a domain, which every message begins with: the first of the run's first window
+-- misses, and from then on, and in every other window, the line is in its set at least. Assumes nothing.
 use Prim.Native.Nat.{ℕ, _+_, _≤_, _<_}
 use mathlib.Core.Bool.{Bool, true, false, false≢true, _&&_}
 use mathlib.Core.List.{List, [], _∷_}
@@ -47,7 +47,7 @@ module _ (table : List ℕ) (long : length table ≡ tableLength) where
       → getD (entryAfter table) (kernelIndex + index) 0 ≡ getD entryWays index 0
   entry-near left index less = access-way false kernelEntryLine table long index less ∙ ap (λ (ways : List ℕ). getD ways index 0) left
 
-  -- ---- the first of a window
+  -- ---- the first of the run's first window
 
   pub record FirstEntry : Type 0 where
     pub ticks : oldAccessOf false kernelEntryLine table .ticks ≡ missTicks + replaceTicks (getD table entryIndex 0)

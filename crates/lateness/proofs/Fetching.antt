@@ -21,10 +21,10 @@ use Rattle.script.proofs.Laws.{decode-stored}
 use Rattle.script.proofs.ScriptEnd.{end-is-none}
 use Rattle.latest.specs.declared.LateScript.{LateScript}
 use Rattle.latest.specs.Bounds.{Fitting}
-use Rattle.latest.specs.Reach.{lowestRecipient, lowestSender}
-use Rattle.latest.specs.Script.{lastOp, lateNumber, lateScriptOf, latestScript}
+use Rattle.latest.specs.Reach.{lowestRecipient, lowestSender, startsRun}
+use Rattle.latest.specs.Script.{allMessages, firstMessage, lastOp, lateNumber, lateScriptOf, latestScript, messageAt}
 use Rattle.latest.proofs.Numbers.{number-past, numbers-length}
-use Rattle.latest.proofs.Ranges.{domain-below, indices-most, opening-most, parts-bounded, waiting}
+use Rattle.latest.proofs.Ranges.{indices-most, opening-most, parts-bounded, waiting}
 use Rattle.lateness.specs.Theorems.{HoldsScript, IsScript}
 
 -- ---- the numbers of a script
@@ -36,7 +36,7 @@ module _ (script : LateScript) where
   abbrev waited : ℕ
   waited = written + script .waits
 
-  pub number-opening : (position : ℕ) → position < script .opening → lateNumber script position ≡ script .entry
+  pub number-opening : (position : ℕ) → position < script .opening → lateNumber script position ≡ storedOf (messageAt position)
   unfolding lateNumber
   number-opening position before = rw (lt-ltb position (script .opening) before) refl
 
@@ -89,10 +89,11 @@ module _ (script : LateScript) where
 
   -- an op stands at each position up to the last
   op-at : OpWithinLimits (Compute mostTicks) → OpWithinLimits (Compute (script .rest))
+      → ((position : ℕ) → position < script .opening → OpWithinLimits (messageAt position))
       → ((count : ℕ) → count < script .writes → OpWithinLimits (Write (script .line + count)))
-      → (entry last : Op) → script .entry ≡ storedOf entry → OpWithinLimits entry → script .last ≡ storedOf last → OpWithinLimits last
+      → (last : Op) → script .last ≡ storedOf last → OpWithinLimits last
       → (position : ℕ) → position < waited + 2 → decodeOf (lateNumber script position) ≡ End → ⊥
-  op-at wait-good rest-good write-good entry last entry-is entry-good last-is last-good position before =
+  op-at wait-good rest-good message-good write-good last last-is last-good position before =
       go (ltb position (script .opening)) refl (ltb position written) refl (ltb position waited) refl (eqb position waited) refl
     where
       none : (number : ℕ) (op : Op) → number ≡ storedOf op → OpWithinLimits op → decodeOf number ≡ End → ⊥
@@ -103,7 +104,9 @@ module _ (script : LateScript) where
           → (waits : Bool) → ltb position waited ≡ waits
           → (rests : Bool) → eqb position waited ≡ rests
           → decodeOf (lateNumber script position) ≡ End → ⊥
-      go true opens w _ x _ y _ = none _ entry (number-opening position (ltb-true _ _ opens) ∙ entry-is) entry-good
+      go true opens w _ x _ y _ =
+          let early : position < script .opening = ltb-true _ _ opens in
+          none _ (messageAt position) (number-opening position early) (message-good position early)
       go false opens true writes x _ y _ =
           let from : script .opening ≤ position = ltb-false _ _ opens in
           let to : position < written = ltb-true _ _ writes in
@@ -126,16 +129,36 @@ module _ (script : LateScript) where
 -- ---- the whole script
 
 -- its ops are within their limits
-pub last-within : (plan : Plan) (domain : ℕ) → OpWithinLimits (lastOp plan domain)
-unfolding lastOp OpWithinLimits
-last-within plan domain = go (ltb (lowestRecipient plan domain) mostDomains) refl (ltb (lowestSender plan domain) mostDomains) refl
+pub message-within : (position : ℕ) → position < allMessages → OpWithinLimits (messageAt position)
+unfolding messageAt OpWithinLimits
+message-within position below = go (ltb position mostDomains) refl
+  where
+    go : (sends : Bool) → ltb position mostDomains ≡ sends → OpWithinLimits (cond sends (Send position 0) (Receive (position - mostDomains)))
+    go true sends = let some : position < mostDomains = ltb-true _ _ sends in (omega arith, omega arith)
+    go false sends = let past : mostDomains ≤ position = ltb-false _ _ sends in omega arith
+
+pub compute-within : OpWithinLimits (Compute mostTicks)
+unfolding OpWithinLimits
+compute-within = (omega arith, omega arith)
+
+pub first-within : (plan : Plan) (domain : ℕ) → OpWithinLimits (firstMessage plan domain)
+unfolding firstMessage OpWithinLimits
+first-within plan domain = go (ltb (lowestRecipient plan domain) mostDomains) refl (ltb (lowestSender plan domain) mostDomains) refl
   where
     go : (sends : Bool) → ltb (lowestRecipient plan domain) mostDomains ≡ sends
         → (receives : Bool) → ltb (lowestSender plan domain) mostDomains ≡ receives
         → OpWithinLimits (cond sends (Send (lowestRecipient plan domain) 0) (cond receives (Receive (lowestSender plan domain)) (Compute mostTicks)))
     go true sends receives _ = let some : lowestRecipient plan domain < mostDomains = ltb-true _ _ sends in (omega arith, omega arith)
     go false sends true receives = let some : lowestSender plan domain < mostDomains = ltb-true _ _ receives in omega arith
-    go false sends false receives = (omega arith, omega arith)
+    go false sends false receives = compute-within
+
+pub last-within : (plan : Plan) (domain : ℕ) → OpWithinLimits (lastOp plan domain)
+unfolding lastOp
+last-within plan domain = go (startsRun plan domain)
+  where
+    go : (starts : Bool) → OpWithinLimits (cond starts (firstMessage plan domain) (Compute mostTicks))
+    go true = first-within plan domain
+    go false = compute-within
 
 module _ (plan : Plan) (domain : ℕ) (fitting : Fitting plan domain) where
   abbrev parts : LateScript
@@ -160,8 +183,9 @@ module _ (plan : Plan) (domain : ℕ) (fitting : Fitting plan domain) where
   unfolding lateScriptOf OpWithinLimits
   ops-before =
       op-at parts (omega arith, omega arith) (omega arith, omega arith)
+      (λ position early. message-within position (omega (arith, opening-most plan domain)))
       (λ count below. omega (arith, parts-bounded plan domain fitting .lines-most))
-      (Send domain 0) (lastOp plan domain) refl (omega (arith, domain-below plan domain fitting), omega arith) refl (last-within plan domain)
+      (lastOp plan domain) refl (last-within plan domain)
 
   zeros-behind : (position : ℕ) → end ≤ position → getD (latestScript plan domain) position 0 ≡ 0
   zeros-behind position past = go (decLt position mostOps)

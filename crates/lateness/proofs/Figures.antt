@@ -1,4 +1,5 @@
--- How long the flushes of a switch take at most in a window of a domain, and an op with the flushes after it. Assumes nothing.
+-- How long the flushes of a switch and its touch of the entry line take at most in a window of a domain, and an op with them after
+-- it. Assumes nothing.
 use Prim.Native.Nat.{ℕ, _+_, _*_, _-_, _≤_, _<_}
 use mathlib.Core.Bool.{Bool, true, false, false≢true, cond, not, _&&_, _||_}
 use mathlib.Core.List.{List}
@@ -26,13 +27,13 @@ use Rattle.lateness.proofs.Indices.{afterMessage, apart-kernel, boxes-c
 use Rattle.lateness.proofs.Indices.{meets, message-count, own-count, ownIndex, withBoxes}
 use Rattle.lateness.proofs.Windows.{Entered, InWindow, Quiet, entered, mayHold, quiet}
 
--- both flushes
-abbrev pub flushesTicks : List ℕ → ℕ
-flushesTicks table = kernelFlushTicks table + l1FlushTicks table
+-- both flushes, and the touch, which misses
+abbrev pub switchTicks : List ℕ → ℕ
+switchTicks table = kernelFlushTicks table + l1FlushTicks table + missTicks
 
 -- so many valid and dirty lines at most
-flushes-most : (table : List ℕ) (valid dirty : ℕ) → validLines table ≤ valid → dirtyLines table ≤ dirty
-    → flushesTicks table ≤ flushTicks + valid + (flushTicks + dirtyLineTicks * dirty)
+pub flushes-most : (table : List ℕ) (valid dirty : ℕ) → validLines table ≤ valid → dirtyLines table ≤ dirty
+    → switchTicks table ≤ flushTicks + valid + (flushTicks + dirtyLineTicks * dirty) + missTicks
 unfolding kernelFlushTicks l1FlushTicks
 flushes-most table valid dirty few some = omega arith
 
@@ -67,77 +68,83 @@ module _ (table : List ℕ) (long : length table ≡ tableLength) where
 
 -- so many valid and dirty lines at least
 pub flushes-least : (table : List ℕ) (valid dirty : ℕ) → valid ≤ validLines table → dirty ≤ dirtyLines table
-    → flushTicks + valid + (flushTicks + dirtyLineTicks * dirty) ≤ flushesTicks table
+    → flushTicks + valid + (flushTicks + dirtyLineTicks * dirty) + missTicks ≤ switchTicks table
 unfolding kernelFlushTicks l1FlushTicks
 flushes-least table valid dirty few some = omega arith
 
--- a domain's figure, by its colours and whether it has a box
+-- a domain's figure in the run's first window, by its colours and whether it has a box
 abbrev pub figureOf : ℕ → ℕ → Bool → ℕ
 figureOf lowest held box =
     cond box (cond (meets lowest held) (latestMeeting (indicesOf held)) (latestApart (indicesOf held)))
     (latestAlone (indicesOf held))
 
--- the numbers of the kernel's sets that a window's first message fills
+-- the numbers of the kernel's sets that the first message of the run's first window fills
 abbrev pub messageHolds : ℕ → Bool
 messageHolds index = eqb index 0 || eqb index boxesSet
 
 module _ (lowest held : ℕ) (within : lowest + held ≤ domainColours) (some : 1 ≤ held) where
   -- ---- between ops
 
-  quiet-flushes : (box : Bool) (table : List ℕ) → Quiet lowest held box table
-      → flushesTicks table ≤ flushTicks + 0 + (flushTicks + dirtyLineTicks * indicesOf held)
+  pub quiet-flushes : (box : Bool) (table : List ℕ) → Quiet lowest held box table
+      → switchTicks table ≤ flushTicks + 0 + (flushTicks + dirtyLineTicks * indicesOf held) + missTicks
   unfolding sumTo
   quiet-flushes box table q =
       flushes-most table 0 (indicesOf held)
       (valid-most table (q .long) (λ index. false) (λ index below is. rw (q .empty index below) at is))
       (omega (arith, dirty-most table (q .long) (ownIndex lowest held) (q .dirty), own-count lowest held (omega arith) (omega arith)))
 
-  entered-boxes : (table : List ℕ) → Entered lowest held true table
-      → flushesTicks table ≤ flushTicks + 5 + (flushTicks + dirtyLineTicks * (indicesOf held + cond (meets lowest held) 0 1))
-  unfolding sumTo
-  entered-boxes table e =
-      flushes-most table 5 (indicesOf held + cond (meets lowest held) 0 1)
-      (valid-most table (e .long) (mayHold true) (e .valid))
-      (omega (arith, dirty-most table (e .long) (withBoxes lowest held) (e .dirty), boxes-count lowest held (omega arith) (omega arith)))
-
-  entered-alone : (table : List ℕ) → Entered lowest held false table
-      → flushesTicks table ≤ flushTicks + 1 + (flushTicks + dirtyLineTicks * indicesOf held)
-  unfolding sumTo
-  entered-alone table e =
-      flushes-most table 1 (indicesOf held)
-      (valid-most table (e .long) (mayHold false) (e .valid))
-      (omega (
+  -- dirty are own indices, and with a box that of the boxes' lines
+  pub entered-dirty : (box : Bool) (table : List ℕ) → Entered lowest held box table
+      → dirtyLines table ≤ indicesOf held + cond box (cond (meets lowest held) 0 1) 0
+  entered-dirty true table e =
+      omega (arith, dirty-most table (e .long) (withBoxes lowest held) (e .dirty), boxes-count lowest held (omega arith) (omega arith))
+  entered-dirty false table e =
+      omega (
         arith,
         dirty-most table (e .long) (ownIndex lowest held) (λ index below is. or-nothing _ (e .dirty index below is)),
         own-count lowest held (omega arith) (omega arith),
-      ))
+      )
     where
       or-nothing : (test : Bool) → (test || false) ≡ true → test ≡ true
       or-nothing true is = refl
       or-nothing false is = is
 
+  entered-boxes : (table : List ℕ) → Entered lowest held true table
+      → switchTicks table ≤ flushTicks + 5 + (flushTicks + dirtyLineTicks * (indicesOf held + cond (meets lowest held) 0 1)) + missTicks
+  unfolding sumTo
+  entered-boxes table e =
+      flushes-most table 5 (indicesOf held + cond (meets lowest held) 0 1)
+      (valid-most table (e .long) (mayHold true) (e .valid)) (entered-dirty true table e)
+
+  entered-alone : (table : List ℕ) → Entered lowest held false table
+      → switchTicks table ≤ flushTicks + 1 + (flushTicks + dirtyLineTicks * (indicesOf held + 0)) + missTicks
+  unfolding sumTo
+  entered-alone table e =
+      flushes-most table 1 (indicesOf held + 0)
+      (valid-most table (e .long) (mayHold false) (e .valid)) (entered-dirty false table e)
+
   -- an op of no more ticks than the longest compute
   pub common-late : (box : Bool) (table : List ℕ) (ticks : ℕ) → InWindow lowest held box table → ticks ≤ mostTicks
-      → ticks + flushesTicks table ≤ figureOf lowest held box + 1
+      → ticks + switchTicks table ≤ figureOf lowest held box + 1
   unfolding latestMeeting latestApart latestAlone lateBy
   common-late true table ticks (quiet q) few = go (meets lowest held)
     where
-      flushes : flushesTicks table ≤ flushTicks + 0 + (flushTicks + dirtyLineTicks * indicesOf held)
+      flushes : switchTicks table ≤ flushTicks + 0 + (flushTicks + dirtyLineTicks * indicesOf held) + missTicks
       flushes = quiet-flushes true table q
 
-      go : (meet : Bool) → ticks + flushesTicks table ≤ cond meet (latestMeeting (indicesOf held)) (latestApart (indicesOf held)) + 1
+      go : (meet : Bool) → ticks + switchTicks table ≤ cond meet (latestMeeting (indicesOf held)) (latestApart (indicesOf held)) + 1
       go true = omega (arith, flushes)
       go false = omega (arith, flushes)
   common-late true table ticks (entered e) few = go (meets lowest held) refl
     where
       go : (meet : Bool) → meets lowest held ≡ meet
-          → ticks + flushesTicks table ≤ cond meet (latestMeeting (indicesOf held)) (latestApart (indicesOf held)) + 1
+          → ticks + switchTicks table ≤ cond meet (latestMeeting (indicesOf held)) (latestApart (indicesOf held)) + 1
       go true test = omega (arith, rw test at (entered-boxes table e))
       go false test = omega (arith, rw test at (entered-boxes table e))
   common-late false table ticks (quiet q) few = omega (arith, quiet-flushes false table q)
   common-late false table ticks (entered e) few = omega (arith, entered-alone table e)
 
-  -- ---- a window's first message, by a box
+  -- ---- the run's first window: its first message, by a box
 
   module _ (sender recipient : ℕ) (table : List ℕ) (q : Quiet lowest held true table) where
     abbrev middle : List ℕ
@@ -219,17 +226,17 @@ module _ (lowest held : ℕ) (within : lowest + held ≤ domainColours) (some : 
 
     pub message-late :
         messageTicks + oldAccessOf false kernelEntryLine table .ticks + oldAccessOf true (boxLine sender recipient) middle .ticks
-        + flushesTicks last
+        + switchTicks last
         ≤ figureOf lowest held true + 1
     unfolding latestMeeting latestApart lateBy
     message-late = go (meets lowest held) refl
       where
-        flushes : flushesTicks last ≤ flushTicks + 2 + (flushTicks + dirtyLineTicks * indexCount (afterMessage lowest held))
+        flushes : switchTicks last ≤ flushTicks + 2 + (flushTicks + dirtyLineTicks * indexCount (afterMessage lowest held)) + missTicks
         flushes = flushes-most last 2 _ message-valid message-dirty
 
         go : (meet : Bool) → meets lowest held ≡ meet
             → messageTicks + oldAccessOf false kernelEntryLine table .ticks + oldAccessOf true (boxLine sender recipient) middle .ticks
-            + flushesTicks last
+            + switchTicks last
             ≤ cond meet (latestMeeting (indicesOf held)) (latestApart (indicesOf held)) + 1
         go true test =
             let count = rw test at (message-count lowest held (omega arith) (omega arith)) in

@@ -63,6 +63,17 @@ messagePasses lowest held =
 abbrev countsPass : ℕ → ℕ → Bool
 countsPass lowest held = ownPasses lowest held && (boxesPasses lowest held && messagePasses lowest held)
 
+-- how many of the first lines of these colours have the index of the boxes' lines, one for each own index: one, where own lines
+-- have the kernel's indices
+abbrev writtenPasses : ℕ → ℕ → Bool
+writtenPasses lowest held =
+    eqb (sumTo (λ count. cond (eqb (l1Index (setsPerColour * lowest + count)) boxesIndex) 1 0) (indicesOf held))
+    (cond (meets lowest held) 1 0)
+
+written-pass : allBelow (λ lowest. allBelow (writtenPasses lowest) (suc domainColours)) domainColours ≡ true
+unfolding allBelow sumTo
+written-pass = refl
+
 counts-pass : allBelow (λ lowest. allBelow (countsPass lowest) (suc domainColours)) domainColours ≡ true
 unfolding allBelow sumTo
 counts-pass = refl
@@ -83,6 +94,15 @@ module _ (lowest held : ℕ) (low : lowest < domainColours) (few : held ≤ doma
 
   pub message-count : indexCount (afterMessage lowest held) + cond (meets lowest held) 2 0 ≡ indicesOf held + 1
   message-count = eqb-true _ _ (both (boxesPasses lowest held) (messagePasses lowest held) (entry-passes .1) .1)
+
+  pub written-count :
+      sumTo (λ count. cond (eqb (l1Index (setsPerColour * lowest + count)) boxesIndex) 1 0) (indicesOf held)
+      ≡ cond (meets lowest held) 1 0
+  written-count =
+      eqb-true _ _
+      (all-below (writtenPasses lowest) (suc domainColours) held
+      (all-below (λ lowest. allBelow (writtenPasses lowest) (suc domainColours)) domainColours lowest written-pass low)
+      (omega arith))
 
 -- ---- a line's index
 

@@ -1,15 +1,15 @@
--- The last op of the script that is handed back, on tables in which every own index of L1 is dirty: with the flushes after it, it takes as
--- long as the domain's figure says. Assumes nothing.
-use Prim.Native.Nat.{ℕ, _+_, _*_, _-_, _≤_, _<_}
-use mathlib.Core.Bool.{Bool, true, false, false≢true, cond, not, _||_}
+-- The last op of the script that is handed back, on tables in which every own index of L1 is dirty: with the switch after it, up to its
+-- touch, it takes as long as the domain's figure says. Assumes nothing.
+use Prim.Native.Nat.{ℕ, zero, suc, _+_, _*_, _-_, _≤_, _<_, min}
+use mathlib.Core.Bool.{Bool, true, false, false≢true, cond, not, _&&_, _||_}
 use mathlib.Core.List.{List}
 use mathlib.Core.Logic.{_⊎_, inl, inr}
 use mathlib.Core.Path.{_≡_, refl, sym, ap, subst, _∙_}
 use native.Mathlib.Decide.{ℕ-discrete}
 use native.Mathlib.Omega.{arith}
-use lib.Dec.{eqb}
+use lib.Dec.{eqb, leb, ltb}
 use lib.ListN.{getD, length}
-use borrow.Author.Tests.{eq-eqb, eqb-true, lt-ltb, ne-eqb}
+use borrow.Author.Tests.{eq-eqb, eqb-true, leb-true, lt-ltb, ltb-true, ne-eqb}
 use Rattle.lists.proofs.Tests.{both}
 use Rattle.plan.specs.Limits.{domainColours}
 use Rattle.plan.specs.Sums.{sumTo}
@@ -21,21 +21,43 @@ use Rattle.cache.specs.Lines.{mostLine, setsPerColour, tableLength, waysPerSet}
 use Rattle.ops.specs.Ops.{boxLine, kernelEntryLine, messageTicks}
 use Rattle.latest.specs.Latest.{lateBy, latestAlone, latestApart, latestMeeting}
 use Rattle.lateness.proofs.Accesses.{sought-length}
-use Rattle.lateness.proofs.Boxes.{box-kernel, box-l1, boxesSet, missed-entry, missed-front, missed-ticks}
+use Rattle.lateness.proofs.Boxes.{box-kernel, box-l1, boxesSet, inBoxesSet, missed-entry, missed-front, missed-ticks}
+use Rattle.lateness.proofs.Counting.{one}
 use Rattle.lateness.proofs.Entries.{FirstEntry, entryAfter, entry-l1, first-entry}
-use Rattle.lateness.proofs.Figures.{dirty-least, figureOf, flushes-least, flushesTicks, messageHolds, valid-least}
+use Rattle.lateness.proofs.Figures.{dirty-least, figureOf, flushes-least, switchTicks, messageHolds, valid-least}
 use Rattle.lateness.proofs.Indices.{afterMessage, boxesIndex, entryIndex, indexCount, indicesOf, meeting, meets, message-count}
-use Rattle.lateness.proofs.Indices.{own-count, own-line-index, ownIndex}
+use Rattle.lateness.proofs.Indices.{boxes-count, own-count, own-line-index, ownIndex, withBoxes}
+use Rattle.lateness.proofs.Usable.{boxWay}
 use Rattle.lateness.proofs.Windows.{entryNumber}
 use Rattle.lateness.proofs.Writing.{OwnDirty, Written, lineAt, own-dirty}
 
 dirty-entry : (line : ℕ) → isDirty (dirtyEntry line) ≡ true
 dirty-entry line = lt-ltb dirtyMark (dirtyEntry line) (omega arith)
 
+-- of the four ways the first ones, as many as there are boxes
+first-ways : (boxes : ℕ) → one (ltb 0 boxes) + one (ltb 1 boxes) + one (ltb 2 boxes) + one (ltb 3 boxes) ≡ min waysPerSet boxes
+first-ways zero = refl
+first-ways (suc zero) = refl
+first-ways (suc (suc zero)) = refl
+first-ways (suc (suc (suc zero))) = refl
+first-ways (suc (suc (suc (suc boxes)))) =
+    let all : ℕ = suc (suc (suc (suc boxes))) in
+    rw (lt-ltb 0 all (omega arith), lt-ltb 1 all (omega arith), lt-ltb 2 all (omega arith), lt-ltb 3 all (omega arith)) (omega arith)
+
 module _ (lowest held : ℕ) (within : lowest + held ≤ domainColours) (some : 1 ≤ held) (before table : List ℕ)
     (written : Written lowest held within (indicesOf held) before table) where
   long : length table ≡ tableLength
   long = written .long
+
+  -- an index that is not an own one is as before the writes
+  not-written : (index : ℕ) → index < l1Length → ownIndex lowest held index ≡ false → getD table index 0 ≡ getD before index 0
+  not-written index below none =
+      written .rest index below
+      (λ line few same.
+      false≢true
+      (sym none
+      ∙ subst (λ i. ownIndex lowest held i ≡ true) (sym same)
+      (own-line-index lowest held (lineAt lowest held within line) within (omega arith) (omega arith))))
 
   -- every own index is dirty
   dirty-own : (index : ℕ) → index < l1Length → ownIndex lowest held index ≡ true → isDirty (getD table index 0) ≡ true
@@ -43,9 +65,9 @@ module _ (lowest held : ℕ) (within : lowest + held ≤ domainColours) (some : 
       let line = own-dirty lowest held within before table written index below own in
       rw (line .has) (dirty-entry (lineAt lowest held within (line .line)))
 
-  -- ---- a compute, where the kernel's sets have the entry line
+  -- ---- a compute in the run's first window, where the kernel's sets have the entry line
 
-  pub compute-least : getD before kernelIndex 0 ≡ entryNumber → latestAlone (indicesOf held) + 1 ≤ mostTicks + flushesTicks table
+  pub compute-least : getD before kernelIndex 0 ≡ entryNumber → latestAlone (indicesOf held) + 1 ≤ mostTicks + switchTicks table
   unfolding latestAlone lateBy sumTo
   compute-least entered =
       let dirty = dirty-least table long (ownIndex lowest held) dirty-own in
@@ -56,6 +78,67 @@ module _ (lowest held : ℕ) (within : lowest + held ≤ domainColours) (some : 
     where
       holds : (index : ℕ) → eqb index 0 ≡ true → isValid (getD table (kernelIndex + index) 0) ≡ true
       holds index first = rw (eqb-true index 0 first, written .kernel 0 (omega arith), entered) refl
+
+  -- ---- a compute, where a switch has come before: the boxes' set has lines too, and their L1 index was dirty, or has an own line
+
+  module _ (box : Bool) (boxes : ℕ) (front : getD before kernelIndex 0 ≡ entryNumber)
+      (filled : (way : ℕ) → way < waysPerSet → way < boxes → isValid (boxWay before way) ≡ true)
+      (dirtied : box ≡ true → isDirty (getD before boxesIndex 0) ≡ true) where
+    -- the entry line, and the first ways of the boxes' set
+    abbrev held-lines : ℕ → Bool
+    held-lines index = eqb index 0 || (inBoxesSet index && ltb (index - boxesSet) boxes)
+
+    later-valid : 1 + min waysPerSet boxes ≤ validLines table
+    unfolding sumTo
+    later-valid =
+        let least = valid-least table long held-lines (λ index below. go index below (eqb index 0) refl) in
+        omega (arith, first-ways boxes)
+      where
+        go : (index : ℕ) → index < kernelEntries → (first : Bool) → eqb index 0 ≡ first
+            → (first || (inBoxesSet index && ltb (index - boxesSet) boxes)) ≡ true
+            → isValid (getD table (kernelIndex + index) 0) ≡ true
+        go index below true first named = rw (eqb-true index 0 first, written .kernel 0 (omega arith), front) refl
+        go index below false first named =
+            let parts = both (inBoxesSet index) (ltb (index - boxesSet) boxes) named in
+            let inside = both (leb boxesSet index) (ltb index (boxesSet + waysPerSet)) (parts .0) in
+            let from : boxesSet ≤ index = leb-true _ _ (inside .0) in
+            let to : index < boxesSet + waysPerSet = ltb-true _ _ (inside .1) in
+            let few : index - boxesSet < boxes = ltb-true _ _ (parts .1) in
+            let same : kernelIndex + (boxesSet + (index - boxesSet)) ≡ kernelIndex + index = omega arith in
+            rw (written .kernel index below)
+            (subst (λ i. isValid (getD before i 0) ≡ true) same (filled (index - boxesSet) (omega arith) few))
+
+    -- the index of the boxes' lines has an own line now, or what it had
+    boxes-dirty : box ≡ true → isDirty (getD table boxesIndex 0) ≡ true
+    boxes-dirty is = go (ownIndex lowest held boxesIndex) refl
+      where
+        go : (own : Bool) → ownIndex lowest held boxesIndex ≡ own → isDirty (getD table boxesIndex 0) ≡ true
+        go true test = dirty-own boxesIndex (omega arith) test
+        go false test = rw (not-written boxesIndex (omega arith) test) (dirtied is)
+
+    later-dirty : indicesOf held + cond box (cond (meets lowest held) 0 1) 0 ≤ dirtyLines table
+    later-dirty = go box refl
+      where
+        dirty-index : box ≡ true → (index : ℕ) → index < l1Length → (own : Bool) → ownIndex lowest held index ≡ own
+            → (own || eqb index boxesIndex) ≡ true → isDirty (getD table index 0) ≡ true
+        dirty-index is index below true own named = dirty-own index below own
+        dirty-index is index below false own named = rw (eqb-true index boxesIndex named) (boxes-dirty is)
+
+        go : (has-box : Bool) → box ≡ has-box → indicesOf held + cond has-box (cond (meets lowest held) 0 1) 0 ≤ dirtyLines table
+        go true is =
+            omega (
+              arith,
+              boxes-count lowest held (omega arith) (omega arith),
+              dirty-least table long (withBoxes lowest held) (λ index below. dirty-index is index below (ownIndex lowest held index) refl),
+            )
+        go false is =
+            omega (arith, own-count lowest held (omega arith) (omega arith), dirty-least table long (ownIndex lowest held) dirty-own)
+
+    pub later-least :
+        lateBy (mostTicks - 1) (1 + min waysPerSet boxes) (indicesOf held + cond box (cond (meets lowest held) 0 1) 0) + 1
+        ≤ mostTicks + switchTicks table
+    unfolding lateBy
+    later-least = omega (arith, flushes-least table (1 + min waysPerSet boxes) _ later-valid later-dirty)
 
   -- ---- a message, where L1 had nothing else and the kernel's sets are empty
 
@@ -68,15 +151,7 @@ module _ (lowest held : ℕ) (within : lowest + held ≤ domainColours) (some : 
       where
         go : (own : Bool) → ownIndex lowest held index ≡ own → OwnDirty lowest held within index table ⊎ (getD table index 0 ≡ 0)
         go true test = inl (own-dirty lowest held within before table written index below test)
-        go false test =
-            inr
-            (written .rest index below
-            (λ line few same.
-            false≢true
-            (sym test
-            ∙ subst (λ i. ownIndex lowest held i ≡ true) (sym same)
-            (own-line-index lowest held (lineAt lowest held within line) within (omega arith) (omega arith))))
-            ∙ l1 index below)
+        go false test = inr (not-written index below test ∙ l1 index below)
 
     -- so it has no line of the kernel's
     lacks : (index line : ℕ) → index < l1Length → setsPerColour * domainColours ≤ line → line ≤ mostLine
@@ -170,17 +245,17 @@ module _ (lowest held : ℕ) (within : lowest + held ≤ domainColours) (some : 
     pub message-least :
         figureOf lowest held true + 1
         ≤ messageTicks + oldAccessOf false kernelEntryLine table .ticks + oldAccessOf true (boxLine sender recipient) middle .ticks
-        + flushesTicks last
+        + switchTicks last
     unfolding latestMeeting latestApart lateBy
     message-least = go (meets lowest held) refl
       where
-        flushes : flushTicks + 2 + (flushTicks + dirtyLineTicks * indexCount (afterMessage lowest held)) ≤ flushesTicks last
+        flushes : flushTicks + 2 + (flushTicks + dirtyLineTicks * indexCount (afterMessage lowest held)) + missTicks ≤ switchTicks last
         flushes = flushes-least last 2 _ message-valid message-dirty
 
         go : (meet : Bool) → meets lowest held ≡ meet
             → cond meet (latestMeeting (indicesOf held)) (latestApart (indicesOf held)) + 1
             ≤ messageTicks + oldAccessOf false kernelEntryLine table .ticks + oldAccessOf true (boxLine sender recipient) middle .ticks
-            + flushesTicks last
+            + switchTicks last
         go true test =
             let count = rw test at (message-count lowest held (omega arith) (omega arith)) in
             omega (arith, message-ticks, flushes, replaced test entryIndex (omega arith) (omega arith), replaced test boxesIndex (omega arith) (omega arith))

@@ -32,27 +32,31 @@ use Rattle.ops.specs.Ops.{Effect, computeOf, effectBy, messageBy, receiveBy}
 use Rattle.reachable.specs.OldBoard.{oldEffectOf}
 use Rattle.ops.proofs.Ticks.{effect-takes}
 use Rattle.state.specs.World.{World}
-use Rattle.machine.specs.Switch.{flushedClock, switchOf}
+use Rattle.machine.specs.Switch.{switchBy, switchOf}
 use Rattle.isolation.specs.Points.{FreshRun, windowsAfter, worldAfter}
 use Rattle.isolation.proofs.OneRun.OnTime.{every-start}
 use Rattle.isolation.proofs.TwoRuns.Progress.{before, no-fewer, one-more}
 use Rattle.isolation.proofs.TwoRuns.Windows.{whole}
 use Rattle.latest.specs.Answer.{latestVerdict}
-use Rattle.latest.specs.Latest.{latestTicks}
-use Rattle.latest.specs.Reach.{firstWindow, hasBox, lowestColour, lowestRecipient, lowestSender, ownIndices}
-use Rattle.latest.specs.Script.{lastOp, lateNumber, lateScriptOf, latestScript}
+use Rattle.latest.specs.Latest.{boxIndices, latestLater, latestTicks}
+use Rattle.latest.specs.Reach.{boxCount, firstWindow, hasBox, lowestColour, lowestRecipient, lowestSender, meetsKernel, ownIndices, startsRun}
+use Rattle.latest.specs.Script.{firstMessage, lastOp, lateNumber, lateScriptOf, latestScript}
 use Rattle.latest.proofs.Answers.{accepted-fits, accepted-told, told-is}
 use Rattle.latest.proofs.Ranges.{domain-declared, first-window}
 use Rattle.lateness.specs.Lateness.{Finishes, latenessOf}
 use Rattle.lateness.specs.Theorems.{EachFinishes, HasLateness, HoldsScript, IsLatest, LatestFinish, OneLatest, freshRun}
 use Rattle.lateness.proofs.Colours.{Row}
 use Rattle.lateness.proofs.Fetching.{is-script, last-within, number-last}
-use Rattle.lateness.proofs.Figures.{flushesTicks}
-use Rattle.lateness.proofs.Last.{compute-least, message-least}
+use Rattle.lateness.proofs.Figures.{figureOf, switchTicks}
+use Rattle.lateness.proofs.Bounds.{first-told, later-told}
+use Rattle.lateness.proofs.Last.{compute-least, later-least, message-least}
 use Rattle.latest.proofs.Lowest.{lowest-passes}
-use Rattle.lateness.proofs.NoneLater.{l1-after-kernel, none-later}
+use Rattle.lateness.proofs.Indices.{boxesIndex}
+use Rattle.lateness.proofs.NoneLater.{none-later, touched-is}
+use Rattle.lateness.proofs.Opening.{Opened, opens}
 use Rattle.lateness.proofs.Ops.{figure-is}
-use Rattle.lateness.proofs.Running.{Judged, WaitedAt, base, colours, last-few, last-tick, lastAt, next-op, opens, start, worldAt, old-op}
+use Rattle.lateness.proofs.Running.{Judged, colours, next-op, old-op, start, worldAt}
+use Rattle.lateness.proofs.Waiting.{WaitedAt, base, last-few, last-tick, lastAt}
 use Rattle.lateness.proofs.Starting.{first-length, first-owner, windows-in-run}
 use Rattle.lateness.proofs.Stepping.{Stepped, switch-steps}
 
@@ -92,54 +96,81 @@ module _ (plan : Plan) (domain : ℕ) (j : Judged plan domain) (scripts log : Li
   last-number =
       ap (lateNumber (lateScriptOf plan domain)) (sym (add-one _)) ∙ number-last (lateScriptOf plan domain)
 
-  -- an op is as long, with the flushes after it, as the figure says
+  -- an op is as long, with the switch after it, as the figure says
   abbrev Reaches : Op → Type 0
   Reaches op =
       latestTicks plan domain + 1
       ≤ oldEffectOf plan domain op (world .cache) (world .boxes) .ticks
-      + flushesTicks (oldEffectOf plan domain op (world .cache) (world .boxes) .cache)
+      + switchTicks (oldEffectOf plan domain op (world .cache) (world .boxes) .cache)
 
   abbrev row : Row plan domain
   row = colours plan domain j scripts log holds room
 
-  -- a message over a box that it may use
-  message-reaches : (sender recipient : ℕ) (denied passed : Observation) (number : ℕ) → hasBox plan domain ≡ true
-      → sender < mostDomains → recipient < mostDomains → maySend plan sender recipient ≡ true
-      → latestTicks plan domain + 1
-      ≤ messageBy oldAccessOf plan sender recipient denied passed number (world .cache) (world .boxes) .ticks
-      + flushesTicks (messageBy oldAccessOf plan sender recipient denied passed number (world .cache) (world .boxes) .cache)
-  unfolding messageBy
-  message-reaches sender recipient denied passed number box from to may =
-      let opened = opens plan domain j scripts log holds room .opened in
-      rw (figure-is plan domain (j .valid) (j .declared), box, may)
-      (message-least (lowestColour plan domain) (holdingOf plan domain) (row .within) (row .some)
-      (base plan domain j scripts log holds room) (world .cache) (waited .written) sender recipient (omega arith) (opened .l1 box) (opened .kernel box))
+  opened : Opened plan domain (base plan domain j scripts log holds room)
+  opened = opens plan domain j scripts log holds room .opened
 
-  compute-reaches : hasBox plan domain ≡ false → latestTicks plan domain + 1 ≤ mostTicks + flushesTicks (world .cache)
-  compute-reaches alone =
-      rw (figure-is plan domain (j .valid) (j .declared), alone)
-      (compute-least (lowestColour plan domain) (holdingOf plan domain) (row .within) (row .some)
-      (base plan domain j scripts log holds room) (world .cache) (waited .written)
-      (opens plan domain j scripts log holds room .opened .entered alone))
+  -- ---- in the run's first window
+
+  module _ (first : startsRun plan domain ≡ true) where
+    told : latestTicks plan domain ≡ figureOf (lowestColour plan domain) (holdingOf plan domain) (hasBox plan domain)
+    told = first-told plan domain first ∙ figure-is plan domain (j .valid) (j .declared)
+
+    -- a message over a box that it may use
+    message-reaches : (sender recipient : ℕ) (denied passed : Observation) (number : ℕ) → hasBox plan domain ≡ true
+        → sender < mostDomains → recipient < mostDomains → maySend plan sender recipient ≡ true
+        → latestTicks plan domain + 1
+        ≤ messageBy oldAccessOf plan sender recipient denied passed number (world .cache) (world .boxes) .ticks
+        + switchTicks (messageBy oldAccessOf plan sender recipient denied passed number (world .cache) (world .boxes) .cache)
+    unfolding messageBy
+    message-reaches sender recipient denied passed number box from to may =
+        let empty = opened .untouched first box in
+        rw (told, box, may)
+        (message-least (lowestColour plan domain) (holdingOf plan domain) (row .within) (row .some)
+        (base plan domain j scripts log holds room) (world .cache) (waited .written) sender recipient (omega arith) (empty .l1) (empty .kernel))
+
+    compute-reaches : hasBox plan domain ≡ false → latestTicks plan domain + 1 ≤ mostTicks + switchTicks (world .cache)
+    compute-reaches alone =
+        rw (told, alone)
+        (compute-least (lowestColour plan domain) (holdingOf plan domain) (row .within) (row .some)
+        (base plan domain j scripts log holds room) (world .cache) (waited .written) (opened .alone first alone))
+
+    first-reaches : Reaches (firstMessage plan domain)
+    unfolding firstMessage hasBox lowestRecipient lowestSender effectBy receiveBy computeOf
+    first-reaches = go (ltb (lowestRecipient plan domain) mostDomains) refl (ltb (lowestSender plan domain) mostDomains) refl
+      where
+        go : (sends : Bool) → ltb (lowestRecipient plan domain) mostDomains ≡ sends
+            → (receives : Bool) → ltb (lowestSender plan domain) mostDomains ≡ receives
+            → Reaches (cond sends (Send (lowestRecipient plan domain) 0) (cond receives (Receive (lowestSender plan domain)) (Compute mostTicks)))
+        go true sends receives _ =
+            let some : lowestRecipient plan domain < mostDomains = ltb-true _ _ sends in
+            message-reaches domain (lowestRecipient plan domain) _ _ _
+            (first-passes _ (ltb (lowestSender plan domain) mostDomains) sends) below some
+            (lowest-passes (maySend plan domain) mostDomains some)
+        go false sends true receives =
+            let some : lowestSender plan domain < mostDomains = ltb-true _ _ receives in
+            message-reaches (lowestSender plan domain) domain _ _ _
+            (second-passes (ltb (lowestRecipient plan domain) mostDomains) _ receives) some below
+            (lowest-passes (λ sender. maySend plan sender domain) mostDomains some)
+        go false sends false receives = compute-reaches (rw (sends, receives) refl)
+
+  -- ---- in any other
+
+  later-reaches : startsRun plan domain ≡ false → latestTicks plan domain + 1 ≤ mostTicks + switchTicks (world .cache)
+  unfolding latestLater boxIndices ownIndices meetsKernel
+  later-reaches later =
+      rw (later-told plan domain later)
+      (later-least (lowestColour plan domain) (holdingOf plan domain) (row .within) (row .some)
+      (base plan domain j scripts log holds room) (world .cache) (waited .written) (hasBox plan domain) (boxCount plan domain)
+      (opened .front later) (opened .filled later)
+      (λ box. rw (later, box) at (opened .dirty boxesIndex (omega arith))))
 
   last-reaches : Reaches (lastOp plan domain)
-  unfolding lastOp hasBox lowestRecipient lowestSender effectBy receiveBy computeOf
-  last-reaches = go (ltb (lowestRecipient plan domain) mostDomains) refl (ltb (lowestSender plan domain) mostDomains) refl
+  unfolding lastOp effectBy computeOf
+  last-reaches = go (startsRun plan domain) refl
     where
-      go : (sends : Bool) → ltb (lowestRecipient plan domain) mostDomains ≡ sends
-          → (receives : Bool) → ltb (lowestSender plan domain) mostDomains ≡ receives
-          → Reaches (cond sends (Send (lowestRecipient plan domain) 0) (cond receives (Receive (lowestSender plan domain)) (Compute mostTicks)))
-      go true sends receives _ =
-          let some : lowestRecipient plan domain < mostDomains = ltb-true _ _ sends in
-          message-reaches domain (lowestRecipient plan domain) _ _ _
-          (first-passes _ (ltb (lowestSender plan domain) mostDomains) sends) below some
-          (lowest-passes (maySend plan domain) mostDomains some)
-      go false sends true receives =
-          let some : lowestSender plan domain < mostDomains = ltb-true _ _ receives in
-          message-reaches (lowestSender plan domain) domain _ _ _
-          (second-passes (ltb (lowestRecipient plan domain) mostDomains) _ receives) some below
-          (lowest-passes (λ sender. maySend plan sender domain) mostDomains some)
-      go false sends false receives = compute-reaches (rw (sends, receives) refl)
+      go : (first : Bool) → startsRun plan domain ≡ first → Reaches (cond first (firstMessage plan domain) (Compute mostTicks))
+      go true first = first-reaches first
+      go false later = later-reaches later
 
   -- ---- the window's end
 
@@ -178,13 +209,13 @@ module _ (plan : Plan) (domain : ℕ) (j : Judged plan domain) (scripts log : Li
       (suc ops) _ final (last-step .stands) (omega (arith, j .least, takes))
 
   completes : windowsAfter (freshRun plan scripts log) (suc at) ≡ suc window
-  unfolding switchOf
+  unfolding switchBy
   completes =
       ap (λ (next : World). next .state .windows) switched ∙ ap (λ n. n + 1) (last-step .stands .windows) ∙ add-one window
 
   -- and its lateness is the figure at least
   late-enough : latestTicks plan domain ≤ latenessOf plan final
-  unfolding latenessOf flushedClock windowEnd
+  unfolding latenessOf windowEnd
   late-enough =
       let stands = last-step .stands in
       let cache = last-step .cache-is in
@@ -192,7 +223,7 @@ module _ (plan : Plan) (domain : ℕ) (j : Judged plan domain) (scripts log : Li
       let least = rw (sym cache) at last-reaches in
       let start-is = ap (windowStart plan) (stands .windows) in
       let length-is = ap (windowLength plan) (stands .windows) in
-      omega (arith, stands .clock, l1-after-kernel (final .cache) long, takes, j .least)
+      omega (arith, stands .clock, touched-is (final .state .clock) (windowEnd plan (final .state .windows)) (final .cache) long, takes, j .least)
 
   finishes : Finishes (freshRun plan scripts log) window (latenessOf plan final)
   finishes = record { at = at; before = last-step .stands .windows; after = completes; is = refl }

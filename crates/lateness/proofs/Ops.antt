@@ -1,16 +1,12 @@
--- What an op leaves in a window of its domain, and that it ends, with the flushes after it, no later than the domain's figure
--- where it begins in the window. Assumes nothing.
+-- What an op leaves in a window of its domain, the run's first among them, and that it ends, with the switch after it, no later than the
+-- domain's figure for that one, where it begins in the window. Assumes nothing.
 use Prim.Native.Nat.{ℕ, _+_, _≤_, _<_}
 use mathlib.Core.Bool.{Bool, true, false, false≢true}
 use mathlib.Core.List.{List}
 use mathlib.Core.Path.{_≡_, refl}
 use native.Mathlib.Omega.{arith}
-use lib.Dec.{ltb}
-use borrow.Author.Tests.{lt-ltb}
-use Rattle.lists.proofs.Tests.{first-passes, second-passes}
 use Rattle.plan.specs.declared.Plan.{Plan}
 use Rattle.plan.specs.Colours.{holdingOf}
-use Rattle.plan.specs.Limits.{mostDomains}
 use Rattle.plan.specs.Rights.{maySend}
 use Rattle.plan.specs.Validity.{planValid}
 use Rattle.script.specs.declared.Op.{Op}
@@ -20,15 +16,15 @@ use Rattle.cache.specs.Access.{oldAccessOf}
 use Rattle.records.specs.declared.Observation.{Observation}
 use Rattle.ops.specs.Ops.{Effect, boxLine, computeOf, effectBy, kernelEntryLine, messageBy, messageTicks, ownsLine, receiveBy, touchBy}
 use Rattle.ops.proofs.Operations.{owned}
-use Rattle.latest.specs.Latest.{latestTicks}
-use Rattle.latest.specs.Reach.{hasBox, lowestColour, lowestRecipient, lowestSender, meetsKernel, ownIndices}
+use Rattle.latest.specs.Latest.{latestFirst}
+use Rattle.latest.specs.Reach.{hasBox, lowestColour, meetsKernel, ownIndices}
 use Rattle.reachable.specs.OldBoard.{oldEffectOf}
 use Rattle.lateness.proofs.Accesses.{sought-ticks}
 use Rattle.lateness.proofs.Boxes.{box-enters}
 use Rattle.lateness.proofs.Colours.{Row, row}
 use Rattle.lateness.proofs.Entries.{entryAfter, later-enters, later-ticks, quiet-enters}
-use Rattle.lateness.proofs.Figures.{common-late, figureOf, flushesTicks, message-late}
-use Rattle.latest.proofs.Lowest.{lowest-found}
+use Rattle.lateness.proofs.Figures.{common-late, figureOf, switchTicks, message-late}
+use Rattle.lateness.proofs.Places.{receives-box, sends-box}
 use Rattle.lateness.proofs.Windows.{Entered, InWindow, Quiet, entered, own-in-window, quiet}
 
 -- what the tables hold in a window of a domain
@@ -38,19 +34,7 @@ Inside plan domain table = InWindow (lowestColour plan domain) (holdingOf plan d
 -- what an op of a domain leaves, and how late
 pub record OpLate (plan : Plan) (domain : ℕ) (effect : Effect) : Type 0 where
   pub in-window : Inside plan domain (effect .cache)
-  pub late : effect .ticks + flushesTicks (effect .cache) ≤ latestTicks plan domain + 1
-
--- a domain that may exchange a message has a box
-sends-box : (plan : Plan) (domain recipient : ℕ) → recipient < mostDomains → maySend plan domain recipient ≡ true → hasBox plan domain ≡ true
-unfolding hasBox lowestRecipient
-sends-box plan domain recipient below may =
-    first-passes _ (ltb (lowestSender plan domain) mostDomains) (lt-ltb _ _ (lowest-found (maySend plan domain) mostDomains recipient below may))
-
-receives-box : (plan : Plan) (domain sender : ℕ) → sender < mostDomains → maySend plan sender domain ≡ true → hasBox plan domain ≡ true
-unfolding hasBox lowestSender
-receives-box plan domain sender below may =
-    second-passes (ltb (lowestRecipient plan domain) mostDomains) _
-    (lt-ltb _ _ (lowest-found (λ other. maySend plan other domain) mostDomains sender below may))
+  pub late : effect .ticks + switchTicks (effect .cache) ≤ latestFirst plan domain + 1
 
 module _ (plan : Plan) (domain : ℕ) (valid : planValid plan ≡ true) (declared : domain < plan .domains) where
   abbrev lowest : ℕ
@@ -62,8 +46,8 @@ module _ (plan : Plan) (domain : ℕ) (valid : planValid plan ≡ true) (declare
   colours : Row plan domain
   colours = row plan domain valid declared
 
-  pub figure-is : latestTicks plan domain ≡ figureOf lowest held (hasBox plan domain)
-  unfolding latestTicks ownIndices meetsKernel
+  pub figure-is : latestFirst plan domain ≡ figureOf lowest held (hasBox plan domain)
+  unfolding latestFirst ownIndices meetsKernel
   figure-is = refl
 
   -- an op of no more ticks than the longest compute
@@ -75,7 +59,7 @@ module _ (plan : Plan) (domain : ℕ) (valid : planValid plan ≡ true) (declare
       }
 
   -- no op at all
-  pub flushes-late : (table : List ℕ) → Inside plan domain table → flushesTicks table ≤ latestTicks plan domain
+  pub flushes-late : (table : List ℕ) → Inside plan domain table → switchTicks table ≤ latestFirst plan domain
   flushes-late table inside =
       omega (arith, figure-is, common-late lowest held (colours .within) (colours .some) (hasBox plan domain) table 1 inside (omega arith))
 
@@ -108,7 +92,7 @@ module _ (plan : Plan) (domain : ℕ) (valid : planValid plan ≡ true) (declare
 
     first-passes-on : (box : Bool) → box ≡ true → Quiet lowest held box table
         → messageTicks + oldAccessOf false kernelEntryLine table .ticks + oldAccessOf true (boxLine sender recipient) (entryAfter table) .ticks
-        + flushesTicks (oldAccessOf true (boxLine sender recipient) (entryAfter table) .table)
+        + switchTicks (oldAccessOf true (boxLine sender recipient) (entryAfter table) .table)
         ≤ figureOf lowest held box + 1
     first-passes-on true is q = message-late lowest held (colours .within) (colours .some) sender recipient table q
     first-passes-on false is q = absurd (false≢true is)

@@ -1,10 +1,11 @@
--- The start of a domain's first window: nothing of the domain's has been touched before, and L1 and the kernel's sets are empty, as at every
--- window's start. Assumes nothing.
-use Prim.Native.Nat.{ℕ, zero, suc, _+_, _*_, _%_, _≤_, _<_}
-use mathlib.Core.Bool.{true, false≢true}
+-- The start of a domain's first window: nothing of the domain's has been touched before, and L1 and the kernel's sets hold nothing, where
+-- it is the run's first, or else the entry line alone. Assumes nothing.
+use Prim.Native.Nat.{ℕ, zero, suc, _*_, _%_, _≤_, _<_}
+use mathlib.Core.Bool.{true, false, false≢true}
 use mathlib.Core.List.{List}
 use mathlib.Core.Path.{_≡_, sym, ap, subst, _∙_}
 use native.Mathlib.Nat.{lt-of-lt-of-le, mod-eq-of-lt, mul-le-mul-right, one-mul}
+use native.Mathlib.Decide.{ℕ-discrete}
 use native.Mathlib.Omega.{arith}
 use lib.ListN.{getD, length}
 use borrow.Author.Tests.{eq-eqb, eqb-true}
@@ -13,24 +14,24 @@ use Rattle.plan.specs.Limits.{mostDomains}
 use Rattle.plan.specs.Validity.{planValid}
 use Rattle.plan.specs.Windows.{windowLength, windowOwner, windowStart, windowsTotal}
 use Rattle.plan.proofs.ValidPlans.{counts}
-use Rattle.cache.specs.Lines.{kernelEntries, kernelIndex, l1Length, tableLength}
+use Rattle.cache.specs.Lines.{tableLength}
 use Rattle.records.specs.Records.{partRecords}
 use Rattle.state.specs.World.{World, freshState, positionAt, recordsAt}
 use Rattle.machine.specs.Fresh.{freshWorld}
 use Rattle.machine.specs.Steps.{runBy}
-use Rattle.machine.specs.Switch.{switchOf}
 use Rattle.machine.proofs.Invariant.{steps-counts}
 use Rattle.reachable.proofs.Cells.{cell-zeros, zeros-length}
-use Rattle.reachable.proofs.Flushes.{flushed-kernel, flushed-l1}
 use Rattle.isolation.specs.Points.{FreshRun, Starts, worldAfter}
 use Rattle.isolation.proofs.OneRun.OnTime.{every-start}
 use Rattle.isolation.proofs.TwoRuns.Indices.{OwnIndex}
-use Rattle.isolation.proofs.TwoRuns.Progress.{before, first-start, one-more}
+use Rattle.isolation.proofs.TwoRuns.Progress.{one-more}
 use Rattle.isolation.proofs.TwoRuns.Relations.{Alike, alike-refl, alike-trans, same-position, same-records}
 use Rattle.isolation.proofs.TwoRuns.Step.{step-away}
 use Rattle.isolation.proofs.TwoRuns.Windows.{ready, whole}
-use Rattle.latest.specs.Reach.{firstWindow, ownsWindow}
+use Rattle.isolation.proofs.WindowStarts.{every-window-starts}
+use Rattle.latest.specs.Reach.{firstWindow, ownsWindow, startsRun}
 use Rattle.lateness.specs.Theorems.{freshRun}
+use Rattle.lateness.proofs.WindowStarts.{Touched, Untouched, first-untouched, later-touched, starts-touched, starts-untouched}
 use Rattle.latest.proofs.Lowest.{lowest-passes, none-before}
 
 -- ---- which window it is
@@ -62,6 +63,21 @@ module _ (plan : Plan) (domain : ℕ) (some : firstWindow plan domain < plan .wi
       eq-eqb _ _ (ap (λ slot. getD (plan .owners) slot 0) (sym slot) ∙ sym same) in
       false≢true (sym (none-before (ownsWindow plan domain) (plan .windows) window earlier) ∙ owns)
 
+  -- it is not the run's first where that is another's
+  pub not-first : startsRun plan domain ≡ false → firstWindow plan domain ≡ 0 → ⊥
+  unfolding startsRun
+  not-first later first = false≢true (sym later ∙ subst (λ window. ownsWindow plan domain window ≡ true) first first-owns)
+
+-- and it is where that is the domain's
+first-is : (plan : Plan) (domain : ℕ) → startsRun plan domain ≡ true → firstWindow plan domain ≡ 0
+unfolding startsRun firstWindow
+first-is plan domain first = go (ℕ-discrete (firstWindow plan domain) 0)
+  where
+    go : Dec (firstWindow plan domain ≡ 0) → firstWindow plan domain ≡ 0
+    go (yes is) = is
+    go (no differs) =
+        absurd (false≢true (sym (none-before (ownsWindow plan domain) (plan .windows) 0 (omega arith)) ∙ first))
+
 -- the windows of the first repeat are windows of the run
 pub windows-in-run : (plan : Plan) → planValid plan ≡ true → (window : ℕ) → window < plan .windows → window < windowsTotal plan
 unfolding windowsTotal
@@ -79,8 +95,8 @@ pub record AtStart (plan : Plan) (domain : ℕ) (world : World) : Type 0 where
   pub eight-positions : length (world .state .positions) ≡ mostDomains
   pub eight-records : length (world .state .records) ≡ mostDomains
   pub long : length (world .cache) ≡ tableLength
-  pub l1 : (index : ℕ) → index < l1Length → getD (world .cache) index 0 ≡ 0
-  pub kernel : (index : ℕ) → index < kernelEntries → getD (world .cache) (kernelIndex + index) 0 ≡ 0
+  pub untouched : startsRun plan domain ≡ true → Untouched (world .cache)
+  pub touched : startsRun plan domain ≡ false → Touched (world .cache)
   pub own : (index : ℕ) → OwnIndex plan domain index → getD (world .cache) index 0 ≡ 0
 
 module _ (plan : Plan) (scripts log : List ℕ) (valid : planValid plan ≡ true) where
@@ -89,30 +105,6 @@ module _ (plan : Plan) (scripts log : List ℕ) (valid : planValid plan ≡ true
 
   abbrev quota : ℕ
   quota = partRecords plan (length log)
-
-  -- a window begins with L1 and the kernel's sets empty
-  pub record Emptied (world : World) : Type 0 where
-    pub l1 : (index : ℕ) → index < l1Length → getD (world .cache) index 0 ≡ 0
-    pub kernel : (index : ℕ) → index < kernelEntries → getD (world .cache) (kernelIndex + index) 0 ≡ 0
-
-  fresh-emptied : Emptied (worldAfter run 0)
-  unfolding worldAfter runBy freshWorld
-  fresh-emptied =
-      record { l1 = λ index below. cell-zeros tableLength index; kernel = λ index below. cell-zeros tableLength (kernelIndex + index) }
-
-  switch-emptied : (world : World) → length (world .cache) ≡ tableLength → Emptied (switchOf plan world)
-  unfolding switchOf
-  switch-emptied world long =
-      record {
-        l1 = flushed-l1 (world .cache) long;
-        kernel = λ index below. flushed-kernel (world .cache) long (kernelIndex + index) (omega arith) (omega arith);
-      }
-
-  start-emptied : (window count : ℕ) → Starts run window count → Emptied (worldAfter run count)
-  start-emptied zero count starts = subst (λ n. Emptied (worldAfter run n)) (sym (first-start run count starts)) fresh-emptied
-  start-emptied (suc window) count starts =
-      let b = before run window count starts in
-      subst Emptied (sym (b .switched)) (switch-emptied (worldAfter run (b .last)) (whole run valid (b .last)))
 
   -- the domain's own is as after the fresh start until its first window starts
   module _ (domain : ℕ) (declared : domain < plan .domains) (some : firstWindow plan domain < plan .windows) where
@@ -156,7 +148,8 @@ module _ (plan : Plan) (scripts log : List ℕ) (valid : planValid plan ≡ true
         let within = firstWindow plan domain in
         let started = every-start run valid within (omega (arith, windows-in-run plan valid within some)) in
         let alike = untouched (started .at) (started .starts) (started .at) (omega arith) in
-        let emptied = start-emptied within (started .at) (started .starts) in
+        let holds = every-window-starts run within (started .at) valid (started .starts) in
+        let window = started .starts .reached in
         record {
           at = started .at;
           there =
@@ -168,8 +161,11 @@ module _ (plan : Plan) (scripts log : List ℕ) (valid : planValid plan ≡ true
                 eight-positions = eights (started .at) .0;
                 eight-records = eights (started .at) .1;
                 long = whole run valid (started .at);
-                l1 = emptied .l1;
-                kernel = emptied .kernel;
+                untouched = λ first. starts-untouched plan (worldAfter run (started .at)) holds (first-untouched plan _ (window ∙ first-is plan domain first));
+                touched = λ later.
+                    starts-touched plan (worldAfter run (started .at)) holds
+                    (later-touched plan _ (λ none. not-first plan domain some later (sym window ∙ none))
+                    (omega (arith, window, windows-in-run plan valid within some)));
                 own = λ index mine. sym (alike .sets .at index mine) ∙ fresh-cache index;
               };
         }

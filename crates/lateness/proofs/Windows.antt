@@ -1,14 +1,16 @@
--- What L1 and the kernel's sets hold in a window of a domain. At its start both are empty; until the first message the
--- kernel's sets stay so; from then on they hold the entry line and, where the domain has a box, lines of boxes. Dirty in
--- L1 are only lines at the domain's own indices and, where it has a box, at the index of the boxes' lines. Assumes nothing.
+-- What L1 and the kernel's sets hold in a window of a domain. At the start of the run's first window both are empty, and until
+-- the first message the kernel's sets stay so; from then on, and in every other window from its start on, they hold the entry
+-- line and, where the domain has a box, lines of boxes. Dirty in L1 are only lines at the domain's own indices and, where it has
+-- a box, at the index of the boxes' lines. Assumes nothing.
 use Prim.Native.Nat.{ℕ, _+_, _-_, _≤_, _<_}
 use mathlib.Core.Bool.{Bool, true, false, false≢true, _&&_, _||_}
 use mathlib.Core.List.{List}
 use mathlib.Core.Path.{_≡_, sym, subst, _∙_}
+use native.Mathlib.Decide.{ℕ-discrete}
 use native.Mathlib.Omega.{arith}
 use lib.Dec.{eqb, leb, ltb}
 use lib.ListN.{getD, length}
-use borrow.Author.Tests.{ne-eqb}
+use borrow.Author.Tests.{eq-eqb, ne-eqb}
 use Rattle.lists.proofs.Tests.{first-passes}
 use Rattle.plan.specs.Limits.{domainColours}
 use Rattle.cache.specs.Access.{oldAccessOf}
@@ -33,14 +35,14 @@ mayDirty lowest held box index = ownIndex lowest held index || (box && eqb index
 
 -- a domain by the lowest of its colours, their number, and whether it has a box
 module _ (lowest held : ℕ) (box : Bool) where
-  -- before the window's first message
+  -- before the first message of the run's first window
   pub record Quiet (table : List ℕ) : Type 0 where
     pub long : length table ≡ tableLength
     pub dirty : (index : ℕ) → index < l1Length → isDirty (getD table index 0) ≡ true → ownIndex lowest held index ≡ true
     pub lacks : holdsLine (getD table entryIndex 0) kernelEntryLine ≡ false
     pub empty : (index : ℕ) → index < kernelEntries → getD table (kernelIndex + index) 0 ≡ 0
 
-  -- after it
+  -- after it, and in every other window
   pub record Entered (table : List ℕ) : Type 0 where
     pub long : length table ≡ tableLength
     pub dirty : (index : ℕ) → index < l1Length → isDirty (getD table index 0) ≡ true → mayDirty lowest held box index ≡ true
@@ -64,6 +66,25 @@ module _ (lowest held : ℕ) (box : Bool) where
         lacks = rw (l1 entryIndex (omega arith));
         empty = kernel;
       }
+
+  -- where a switch has touched the entry line, the window is entered at once
+  pub starts-entered : (table : List ℕ) → length table ≡ tableLength
+      → ((index : ℕ) → index < l1Length → isDirty (getD table index 0) ≡ false)
+      → getD table kernelIndex 0 ≡ entryNumber
+      → ((index : ℕ) → 0 < index → index < kernelEntries → getD table (kernelIndex + index) 0 ≡ 0)
+      → Entered table
+  starts-entered table long clean entry behind =
+      record {
+        long = long;
+        dirty = λ index below is. absurd (false≢true (sym (clean index below) ∙ is));
+        entry = entry;
+        valid = λ index below is. go index below is (ℕ-discrete index 0);
+      }
+    where
+      go : (index : ℕ) → index < kernelEntries → isValid (getD table (kernelIndex + index) 0) ≡ true → Dec (index ≡ 0)
+          → mayHold box index ≡ true
+      go index below is (yes same) = first-passes _ _ (eq-eqb index 0 same)
+      go index below is (no differs) = absurd (false≢true (rw (behind index (omega arith) below) at is))
 
   -- ---- an access of an own line
 

@@ -1,22 +1,31 @@
--- A write of one line for each L1 index of a domain's own lines, into sets of theirs that are empty: each misses, replaces nothing
--- dirty, and leaves its index dirty. Assumes nothing.
-use Prim.Native.Nat.{ℕ, suc, _+_, _*_, _-_, _%_, _≤_, _<_}
-use mathlib.Core.Bool.{true, false}
+-- A write of one line for each L1 index of a domain's own lines, into sets of theirs that are empty: each misses, replaces what stood
+-- at its index before the first of them, and leaves the index dirty. Assumes nothing.
+use Prim.Native.Nat.{ℕ, zero, suc, _+_, _*_, _-_, _%_, _≤_, _<_}
+use mathlib.Core.Bool.{Bool, true, false, cond, _&&_}
 use mathlib.Core.List.{List, [], _∷_}
 use mathlib.Core.Path.{_≡_, refl, sym, ap, _∙_}
 use native.Mathlib.Decide.{ℕ-discrete}
 use native.Mathlib.Omega.{arith}
+use lib.Dec.{eqb}
 use lib.ListN.{getD, length}
 use borrow.Author.Tests.{ltb-true, ne-eqb}
 use Rattle.plan.specs.Limits.{domainColours}
-use Rattle.cache.specs.Access.{oldAccessOf, lookupAt, lookupL2, missTicks, seekOf}
+use Rattle.plan.specs.Sums.{sumTo}
+use Rattle.plan.proofs.Sums.{sum-most, sum-same}
+use Rattle.cache.specs.Access.{dirtyTicks, oldAccessOf, lookupAt, lookupL2, missTicks, replaceTicks, seekOf}
 use Rattle.cache.specs.Lines.{cleanEntry, dirtyEntry, holdsLine, isDirty, kernelEntries, kernelIndex, l1Index, l1Length}
 use Rattle.cache.specs.Lines.{setCount, setIndex, setOf, setsPerColour, tableLength, waysPerSet}
 use Rattle.cache.specs.Sets.{has}
 use Rattle.cache.proofs.Outcome.{look-lacked}
 use Rattle.cache.proofs.WriteBacks.{waysOf}
 use Rattle.lateness.proofs.Accesses.{access-entry, access-other, four-ways, sought-length}
-use Rattle.lateness.proofs.Indices.{indicesOf, ownIndex}
+use Rattle.lateness.proofs.Indices.{boxesIndex, indicesOf, meets, ownIndex, written-count}
+
+-- a sum of numbers, each taken four times
+sum-times : (f : ℕ → ℕ) (count : ℕ) → sumTo (λ index. dirtyTicks * f index) count ≡ dirtyTicks * sumTo f count
+unfolding sumTo
+sum-times f zero = refl
+sum-times f (suc count) = omega (arith, sum-times f count)
 
 module _ (lowest held : ℕ) (within : lowest + held ≤ domainColours) where
   -- the lines that are written, from the first of the lowest colour on
@@ -34,13 +43,16 @@ module _ (lowest held : ℕ) (within : lowest + held ≤ domainColours) where
         → getD table index 0 ≡ getD before index 0
     pub kernel : (index : ℕ) → index < kernelEntries → getD table (kernelIndex + index) 0 ≡ getD before (kernelIndex + index) 0
 
-  -- no index of L1 had a dirty line or one of these lines
-  abbrev pub Clean : List ℕ → Type 0
-  Clean before =
-      (index : ℕ) → index < l1Length
-      → (isDirty (getD before index 0) ≡ false) × ((line : ℕ) → line < indicesOf held → holdsLine (getD before index 0) (lineAt line) ≡ false)
+  -- no index of L1 had one of these lines
+  abbrev pub Lacking : List ℕ → Type 0
+  Lacking before =
+      (index line : ℕ) → index < l1Length → line < indicesOf held → holdsLine (getD before index 0) (lineAt line) ≡ false
 
-  module _ (count : ℕ) (before table : List ℕ) (clean : Clean before) (written : Written count before table) (more : count < indicesOf held) where
+  -- what the first writes take for replacing dirty lines
+  abbrev pub replacedTicks : List ℕ → ℕ → ℕ
+  replacedTicks before count = sumTo (λ line. replaceTicks (getD before (l1Index (lineAt line)) 0)) count
+
+  module _ (count : ℕ) (before table : List ℕ) (lacking : Lacking before) (written : Written count before table) (more : count < indicesOf held) where
     abbrev line : ℕ
     line = lineAt count
 
@@ -54,7 +66,7 @@ module _ (lowest held : ℕ) (within : lowest + held ≤ domainColours) where
     entry-is = written .rest (l1Index line) (omega arith) (λ other less same. omega arith)
 
     lacks : holdsLine (getD table (l1Index line) 0) line ≡ false
-    lacks = rw entry-is (clean (l1Index line) (omega arith) .1 count more)
+    lacks = rw entry-is (lacking (l1Index line) count (omega arith) more)
 
     ways : waysOf line table ≡ 0 ∷ 0 ∷ 0 ∷ 0 ∷ []
     ways =
@@ -79,9 +91,9 @@ module _ (lowest held : ℕ) (within : lowest + held ≤ domainColours) where
     unfolding has
     none = rw (ne-eqb 0 (cleanEntry line) (λ same. omega arith)) refl
 
-    pub write-ticks : oldAccessOf true line table .ticks ≡ missTicks
+    pub write-ticks : oldAccessOf true line table .ticks ≡ missTicks + replaceTicks (getD before (l1Index line) 0)
     unfolding oldAccessOf seekOf lookupL2
-    write-ticks = rw (look, none, clean (l1Index line) (omega arith) .0) refl
+    write-ticks = rw (look, none) refl
 
     write-entry : getD after (l1Index line) 0 ≡ dirtyEntry line
     unfolding lookupL2
@@ -112,6 +124,35 @@ module _ (lowest held : ℕ) (within : lowest + held ≤ domainColours) where
         go other less (yes same) = rw same write-entry
         go other less (no differs) =
             write-other (l1Index (lineAt other)) (λ same. omega arith) (λ from to. omega arith) ∙ written .done other (omega arith)
+
+  -- ---- all of them
+
+  -- where nothing is dirty before but, if that, the index of the boxes' lines, one write at most replaces a dirty line
+  pub all-replaced : (before : List ℕ) (dirtied : Bool)
+      → ((index : ℕ) → index < l1Length → isDirty (getD before index 0) ≡ (dirtied && eqb index boxesIndex))
+      → 1 ≤ held
+      → replacedTicks before (indicesOf held) ≡ cond (dirtied && meets lowest held) dirtyTicks 0
+  all-replaced before true dirty some =
+      sum-same (λ line. replaceTicks (getD before (l1Index (lineAt line)) 0)) (λ line. dirtyTicks * boxed line) (indicesOf held)
+      (λ line below. rw (dirty (l1Index (lineAt line)) (omega arith)) (times (eqb (l1Index (lineAt line)) boxesIndex)))
+      ∙ sum-times boxed (indicesOf held)
+      ∙ ap (λ n. dirtyTicks * n) (written-count lowest held (omega arith) (omega arith))
+      ∙ sym (times (meets lowest held))
+    where
+      boxed : ℕ → ℕ
+      boxed line = cond (eqb (l1Index (lineAt line)) boxesIndex) 1 0
+
+      times : (test : Bool) → cond test dirtyTicks 0 ≡ dirtyTicks * cond test 1 0
+      times true = refl
+      times false = refl
+  all-replaced before false dirty some =
+      sum-same (λ line. replaceTicks (getD before (l1Index (lineAt line)) 0)) (λ line. dirtyTicks * 0) (indicesOf held)
+      (λ line below. rw (dirty (l1Index (lineAt line)) (omega arith)) refl)
+      ∙ sum-times (λ line. 0) (indicesOf held)
+      ∙ ap (λ n. dirtyTicks * n) (none (indicesOf held))
+    where
+      none : (count : ℕ) → sumTo (λ line. 0) count ≡ 0
+      none count = omega (arith, sum-most (λ line. 0) 0 count (λ line below. omega arith))
 
   -- once all are written, every own index is dirty, by the line that has it
   pub record OwnDirty (index : ℕ) (table : List ℕ) : Type 0 where

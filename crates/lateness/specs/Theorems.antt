@@ -1,15 +1,17 @@
--- Document 02, E6: what is promised of the latest finish of a domain and of the script that is
--- handed back with it. Assumes nothing.
+-- Document 02, E6 and E9: what is promised of the latest finish of a domain and of the script that
+-- is handed back with it. Assumes nothing.
 use Prim.Native.Nat.{ℕ, _+_, _*_, _≤_, _<_, max}
-use mathlib.Core.Bool.{true}
+use mathlib.Core.Bool.{true, false}
 use mathlib.Core.List.{List}
 use mathlib.Core.Path.{_≡_}
 use lib.ListN.{getD, length}
 use Rattle.plan.specs.declared.Plan.{Plan}
 use Rattle.plan.specs.Colours.{holdingOf}
-use Rattle.plan.specs.Limits.{leastPad}
+use Rattle.plan.specs.Limits.{leastPad, touchTicks}
 use Rattle.plan.specs.Validity.{planValid}
 use Rattle.plan.specs.Windows.{windowEnd, windowOwner, windowsTotal}
+use Rattle.cache.specs.Lines.{waysPerSet}
+use Rattle.cache.specs.Flush.{flushTicks}
 use Rattle.script.specs.declared.ScriptItem.the-variants.{End}
 use Rattle.script.specs.Fetch.{decodeOf}
 use Rattle.script.specs.Limits.{mostOps}
@@ -19,8 +21,8 @@ use Rattle.state.specs.World.{World}
 use Rattle.machine.specs.Switch.{switchOf}
 use Rattle.isolation.specs.Points.{FreshRun}
 use Rattle.latest.specs.Answer.{LatestOutcome, latestOf}
-use Rattle.latest.specs.Latest.{latestTicks}
-use Rattle.latest.specs.Reach.{firstWindow, hasBox, lowestColour}
+use Rattle.latest.specs.Latest.{latestLater, latestTicks}
+use Rattle.latest.specs.Reach.{boxCount, firstWindow, hasBox, l1Colours, lowestColour, startsRun}
 use Rattle.lateness.specs.Lateness.{Finishes, latenessOf}
 
 -- a run from a fresh start, by what decides it
@@ -87,21 +89,77 @@ NoneLater =
     → Finishes (freshRun plan scripts log) window late
     → late ≤ latestTicks plan (windowOwner plan window)
 
+-- a window that a switch comes before: it is not the run's first
+abbrev pub AfterSwitch : ℕ → Type 0
+AfterSwitch window = 0 < window
+
+-- Such a window starts with the kernel's entry line in, so that no message there misses it, and has
+-- a figure of its own.
+pub record NoneLaterAfterSwitch : Type 0 where
+  pub none-later :
+      (plan : Plan) (scripts log : List ℕ) (window late : ℕ)
+      → planValid plan ≡ true
+      → AfterSwitch window
+      → Finishes (freshRun plan scripts log) window late
+      → late ≤ latestLater plan (windowOwner plan window)
+  -- where the run begins with another's window it is the domain's own, and so is reached where 18
+  -- refuses nothing
+  pub own :
+      (plan : Plan) (domain : ℕ)
+      → startsRun plan domain ≡ false
+      → latestTicks plan domain ≡ latestLater plan domain
+  -- and it is never larger than the domain's
+  pub no-more : (plan : Plan) (domain : ℕ) → latestLater plan domain ≤ latestTicks plan domain
+
+-- the ticks of a switch that finds nothing valid and nothing dirty: of its two flushes, and of its
+-- touch, which misses
+abbrev pub leastLateness : ℕ
+leastLateness = 2 * flushTicks + touchTicks
+
+-- no window finishes sooner, and none that a switch comes before as soon: its own switch finds the
+-- line that the one before it touched
+pub record NoneSooner : Type 0 where
+  pub any :
+      (plan : Plan) (scripts log : List ℕ) (window late : ℕ)
+      → planValid plan ≡ true
+      → Finishes (freshRun plan scripts log) window late
+      → leastLateness ≤ late
+  pub after-switch :
+      (plan : Plan) (scripts log : List ℕ) (window late : ℕ)
+      → planValid plan ≡ true
+      → AfterSwitch window
+      → Finishes (freshRun plan scripts log) window late
+      → leastLateness + 1 ≤ late
+
 -- no domain's figure is larger than this
 abbrev pub mostLatest : ℕ
-mostLatest = 260
+mostLatest = 360
+
+-- and of windows that a switch comes before none is larger than this
+abbrev pub mostLater : ℕ
+mostLater = 352
 
 pub record LatestBounded : Type 0 where
   pub most : (plan : Plan) (domain : ℕ) → latestTicks plan domain ≤ mostLatest
-  -- and document 02's domain has it: colours 0 to 13 and a box
+  -- and document 02's domain has it: colours 0 to 13 and a box, where the run begins with a window
+  -- of its own
   pub reached :
       (plan : Plan) (domain : ℕ)
       → lowestColour plan domain ≡ 0
       → holdingOf plan domain ≡ 14
       → hasBox plan domain ≡ true
+      → startsRun plan domain ≡ true
       → latestTicks plan domain ≡ mostLatest
+  pub most-later : (plan : Plan) (domain : ℕ) → latestLater plan domain ≤ mostLater
+  -- four colours in a row have every index of L1; a domain with as many has this, if its boxes fill
+  -- their set
+  pub reached-later :
+      (plan : Plan) (domain : ℕ)
+      → l1Colours ≤ holdingOf plan domain
+      → waysPerSet ≤ boxCount plan domain
+      → latestLater plan domain ≡ mostLater
 
--- so of every pad so many ticks at least are left when a window's flushes are done
+-- so of every pad so many ticks at least are left when a window's flushes and touch are done
 abbrev pub unusedPad : ℕ
 unusedPad = 16
 

@@ -9,7 +9,6 @@ use lib.Seq.{ext-getD, getD-set-other, getD-set-same}
 use Rattle.plan.specs.declared.Plan.{Plan}
 use Rattle.plan.proofs.Sums.{last-or-earlier}
 use Rattle.script.specs.declared.Op.{Op}
-use Rattle.script.specs.declared.Op.the-variants.{Send}
 use Rattle.script.specs.Limits.{mostOps, mostTicks}
 use Rattle.script.specs.Stored.{storedOf}
 use Rattle.cache.specs.Lines.{setsPerColour}
@@ -18,9 +17,8 @@ use Rattle.latest.specs.Reach.{lowestColour, ownIndices}
 use Rattle.latest.specs.Script.{lastOp, lateNumber, lateNumbers, lateScriptOf, openingOps, waitingTicks}
 
 pub parts-are :
-    (plan : Plan) (domain opening entry own lowest waiting last : ℕ) (op : Op)
+    (plan : Plan) (domain opening own lowest waiting last : ℕ) (op : Op)
     → opening ≡ openingOps plan domain
-    → entry ≡ storedOf (Send domain 0)
     → own ≡ ownIndices plan domain
     → lowest ≡ lowestColour plan domain
     → waiting ≡ waitingTicks plan domain
@@ -29,7 +27,6 @@ pub parts-are :
     → _≡_ {A = LateScript}
     (record {
       opening = opening;
-      entry = entry;
       writes = own;
       line = setsPerColour * lowest;
       waits = (waiting - 1) / mostTicks;
@@ -38,8 +35,8 @@ pub parts-are :
     })
     (lateScriptOf plan domain)
 unfolding lateScriptOf
-parts-are plan domain opening entry own lowest waiting last op opens enters owns is-lowest waits ends last-is =
-    rw (opens, enters, owns, is-lowest, waits, last-is, ends) refl
+parts-are plan domain opening own lowest waiting last op opens owns is-lowest waits ends last-is =
+    rw (opens, owns, is-lowest, waits, last-is, ends) refl
 
 module _ (script : LateScript) where
   pub numbers-length : (left position : ℕ) → length (lateNumbers script left position) ≡ left

@@ -1,8 +1,8 @@
 -- What is known where there is a latest finish to be told: how large each number can be that it and its
 -- script are made of. Assumes nothing.
-use Prim.Native.Nat.{ℕ, _+_, _%_, _≤_, _<_}
+use Prim.Native.Nat.{ℕ, _+_, _*_, _-_, _%_, _≤_, _<_}
 use mathlib.Core.Bool.{Bool, true, false, cond}
-use mathlib.Core.Path.{_≡_}
+use mathlib.Core.Path.{_≡_, refl}
 use native.Mathlib.Omega.{arith}
 use lib.ListN.{getD}
 use borrow.Author.Tests.{ltb-false, ltb-true}
@@ -15,12 +15,16 @@ use Rattle.plan.proofs.Masks.{holding-is-colours}
 use Rattle.plan.proofs.Shares.{colours-most}
 use Rattle.plan.proofs.Sums.{all-below}
 use Rattle.plan.proofs.ValidPlans.{counts, declared, limits}
+use Rattle.cache.specs.Access.{dirtyTicks, hit1Ticks, missTicks}
 use Rattle.cache.specs.Lines.{kernelColour, l1Length, setsPerColour}
+use Rattle.ops.specs.Ops.{messageTicks}
 use Rattle.latest.specs.Answer.{domainFits, windowFits}
 use Rattle.latest.specs.Bounds.{Fitting, PartsBounded}
+use Rattle.latest.specs.Latest.{boxIndices}
 use Rattle.latest.specs.Limits.{leastLatestLength, mostLatestLength}
-use Rattle.latest.specs.Reach.{firstWindow, hasBox, l1Colours, lowestColour, meetsKernel, ownIndices, ownsWindow}
-use Rattle.latest.specs.Script.{lateScriptOf, openingOps, waitingTicks, writtenTicks}
+use Rattle.latest.specs.Reach.{boxCount, firstWindow, hasBox, l1Colours, lowestColour, meetsKernel, ownIndices, ownsWindow, startsRun}
+use Rattle.latest.specs.Script.{allMessages, lateScriptOf, openingOps, openingTicks, replacingTicks, waitingTicks, writtenTicks}
+use Rattle.latest.proofs.Boxes.{boxes-most, count-most, mostBoxes}
 use Rattle.latest.proofs.Lowest.{lowest-most, lowest-passes}
 
 -- ---- its windows
@@ -96,6 +100,11 @@ pub colour-most : (plan : Plan) (domain : ℕ) → lowestColour plan domain ≤ 
 unfolding lowestColour
 colour-most plan domain = lowest-most (ownsColour plan domain) domainColours
 
+-- ---- its boxes and the lines that they add
+
+pub box-count-most : (plan : Plan) (domain : ℕ) → Fitting plan domain → boxCount plan domain ≤ mostBoxes
+box-count-most plan domain fitting = boxes-most plan domain (fitting .0) (domain-declared plan domain fitting)
+
 -- where the kernel's indices are not among its own, its own are not all of L1's
 pub apart-most : (plan : Plan) (domain : ℕ) → meetsKernel plan domain ≡ false → ownIndices plan domain + 1 ≤ l1Length
 unfolding meetsKernel ownIndices
@@ -103,20 +112,65 @@ apart-most plan domain apart =
     let past : lowestColour plan domain % l1Colours + holdingOf plan domain ≤ kernelColour % l1Colours = ltb-false _ _ apart in
     omega arith
 
+-- own lines and the boxes' are within L1
+pub dirty-most : (plan : Plan) (domain : ℕ) → ownIndices plan domain + boxIndices plan domain ≤ l1Length
+unfolding boxIndices
+dirty-most plan domain = go (hasBox plan domain) (meetsKernel plan domain) refl
+  where
+    go :
+        (box meets : Bool)
+        → meetsKernel plan domain ≡ meets
+        → ownIndices plan domain + cond box (cond meets 0 1) 0 ≤ l1Length
+    go false meets is = omega (arith, indices-most plan domain)
+    go true true is = omega (arith, indices-most plan domain)
+    go true false is = apart-most plan domain is
+
 -- ---- its script
 
-pub opening-most : (plan : Plan) (domain : ℕ) → openingOps plan domain ≤ 1
+pub opening-most : (plan : Plan) (domain : ℕ) → openingOps plan domain ≤ allMessages
 unfolding openingOps
-opening-most plan domain = go (hasBox plan domain)
+opening-most plan domain = go (startsRun plan domain) (hasBox plan domain)
   where
-    go : (box : Bool) → cond box 0 1 ≤ 1
-    go true = omega arith
-    go false = omega arith
+    go : (first box : Bool) → cond first (cond box 0 1) allMessages ≤ allMessages
+    go true true = omega arith
+    go true false = omega arith
+    go false box = omega arith
+
+-- the most that the messages before the writes can take: each finds the entry line and has a box
+abbrev pub mostOpeningTicks : ℕ
+mostOpeningTicks = (messageTicks + hit1Ticks + missTicks + dirtyTicks) * allMessages
+
+pub opening-ticks-most : (plan : Plan) (domain : ℕ) → openingTicks plan domain ≤ mostOpeningTicks
+unfolding openingTicks
+opening-ticks-most plan domain =
+    go (startsRun plan domain) (openingOps plan domain) (boxCount plan domain) (opening-most plan domain)
+    (count-most plan domain)
+  where
+    go :
+        (first : Bool) (opening boxes : ℕ)
+        → opening ≤ allMessages
+        → boxes ≤ allMessages
+        → cond first ((messageTicks + missTicks) * opening)
+        ((messageTicks + hit1Ticks) * allMessages + ((missTicks + dirtyTicks) * boxes - dirtyTicks))
+        ≤ mostOpeningTicks
+    go true opening boxes few few-boxes = omega arith
+    go false opening boxes few few-boxes = omega arith
+
+pub replacing-most : (plan : Plan) (domain : ℕ) → replacingTicks plan domain ≤ dirtyTicks
+unfolding replacingTicks
+replacing-most plan domain = go (startsRun plan domain) (hasBox plan domain) (meetsKernel plan domain)
+  where
+    go : (first box meets : Bool) → cond first 0 (cond box (cond meets dirtyTicks 0) 0) ≤ dirtyTicks
+    go true box meets = omega arith
+    go false true true = omega arith
+    go false true false = omega arith
+    go false false meets = omega arith
 
 -- the writes are done well before the shortest window's last tick
 pub written-most : (plan : Plan) (domain : ℕ) → Fitting plan domain → writtenTicks plan domain + 2 ≤ leastLatestLength
 unfolding writtenTicks
-written-most plan domain fitting = omega (arith, own-lines plan domain fitting .indices-most, opening-most plan domain)
+written-most plan domain fitting =
+    omega (arith, own-lines plan domain fitting .indices-most, opening-ticks-most plan domain, replacing-most plan domain)
 
 -- a tick is left to wait for, and no more than the longest window has
 pub record Waiting (plan : Plan) (domain : ℕ) : Type 0 where

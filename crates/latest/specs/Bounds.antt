@@ -9,6 +9,7 @@ use Rattle.script.specs.Limits.{mostOps, mostTicks}
 use Rattle.cache.specs.Lines.{mostLine}
 use Rattle.latest.specs.declared.LateScript.{LateScript}
 use Rattle.latest.specs.Answer.{domainFits}
+use Rattle.latest.specs.Script.{allMessages}
 
 -- nothing of a plan and a domain is refused
 abbrev pub Fitting : Plan → ℕ → Type 0
@@ -17,7 +18,7 @@ Fitting plan domain = (planValid plan ≡ true) × (domainFits plan domain ≡ t
 -- the parts of a script: its lines and its ticks are those of ops, and its counts are small enough
 -- to be added up
 pub record PartsBounded (script : LateScript) : Type 0 where
-  pub opening-most : script .opening ≤ 1
+  pub opening-most : script .opening ≤ allMessages
   pub lines-most : script .line + script .writes ≤ mostLine
   pub waits-most : script .waits ≤ mostOps
   pub rest-most : script .rest ≤ mostTicks

@@ -1,13 +1,15 @@
--- Document 02, E6: what can make a window of a domain finish late: its own lines in L1, of which
--- any may be dirty, and the boxes that it may use, whose lines are the kernel's. Assumes nothing.
+-- Document 02, E6 and E9: what can make a window of a domain finish late: its own lines in L1, of
+-- which any may be dirty, and the boxes that it may use, whose lines are the kernel's. Assumes
+-- nothing.
 use Prim.Native.Nat.{ℕ, _+_, _*_, _/_, _%_, min}
-use mathlib.Core.Bool.{Bool, _||_}
+use mathlib.Core.Bool.{Bool, cond, _||_}
 use lib.Dec.{eqb, ltb}
 use lib.ListN.{getD}
 use Rattle.plan.specs.declared.Plan.{Plan}
 use Rattle.plan.specs.Colours.{holdingOf, ownsColour}
 use Rattle.plan.specs.Limits.{domainColours, mostDomains}
 use Rattle.plan.specs.Rights.{maySend}
+use Rattle.plan.specs.Sums.{sumTo}
 use Rattle.cache.specs.Lines.{kernelColour, l1Length, setsPerColour}
 use Rattle.latest.specs.Lowest.{lowestBelow}
 
@@ -20,6 +22,11 @@ ownsWindow plan domain slot = eqb (getD (plan .owners) slot 0) domain
 -- the first that is; the number of windows where none is
 unfoldable pub firstWindow : Plan → ℕ → ℕ
 firstWindow plan domain = lowestBelow (ownsWindow plan domain) (plan .windows)
+
+-- the run begins with a window of its own: the one window before which no switch has touched the
+-- kernel's entry line
+unfoldable pub startsRun : Plan → ℕ → Bool
+startsRun plan domain = ownsWindow plan domain 0
 
 -- ---- its own lines
 
@@ -57,3 +64,9 @@ lowestSender plan domain = lowestBelow (λ sender. maySend plan sender domain) m
 unfoldable pub hasBox : Plan → ℕ → Bool
 hasBox plan domain =
     ltb (lowestRecipient plan domain) mostDomains || ltb (lowestSender plan domain) mostDomains
+
+-- how many such boxes there are: its rights to send, and others' rights to send to it
+unfoldable pub boxCount : Plan → ℕ → ℕ
+boxCount plan domain =
+    sumTo (λ other. cond (maySend plan domain other) 1 0 + cond (maySend plan other domain) 1 0)
+    mostDomains

@@ -27,9 +27,8 @@ pub struct LatestAnswer {
 
 // A script that finishes as late as can be, by its parts.
 pub struct LateScript {
-    // how many ops come before the writes, and the stored number of such an op
+    // how many messages come before the writes
     pub opening: u32,
-    pub entry: u32,
     // how many writes, and the first one's line
     pub writes: u32,
     pub line: u32,

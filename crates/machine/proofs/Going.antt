@@ -14,8 +14,8 @@ use Rattle.plan.specs.Validity.{planValid}
 use Rattle.plan.specs.Windows.{windowEnd, windowLength, windowOwner, slotOf, windowStart, windowsTotal}
 use Rattle.plan.proofs.ValidPlans.{counts}
 use Rattle.plan.proofs.Windows.{length-most, owner-declared, slot-below, start-fits}
+use Rattle.cache.specs.Access.{accessOf}
 use Rattle.records.specs.declared.Place.{Place}
-use Rattle.ops.specs.Ops.{effectOf}
 use Rattle.state.specs.StateValidity.{stateValid}
 use Rattle.state.specs.World.{World, endedOf}
 use Rattle.machine.specs.Steps.{RunEffect, runBy}
@@ -124,19 +124,19 @@ module _ (places : ℕ → Place) (plan : Plan) (scripts : List ℕ) (quota limi
         }
 
     -- the limit is reached, or the run is over: nothing is left to do
-    pub going-done : (ltb steps limit && ltb (present .state .windows) (windowsTotal plan)) ≡ false → ranWith steps present ≡ runBy effectOf places plan scripts quota limit first
+    pub going-done : (ltb steps limit && ltb (present .state .windows) (windowsTotal plan)) ≡ false → ranWith steps present ≡ runBy accessOf places plan scripts quota limit first
     unfolding endedOf
     going-done stops = go (ltb steps limit) refl stops
       where
         go : (fewer : Bool) → ltb steps limit ≡ fewer → (fewer && ltb (present .state .windows) (windowsTotal plan)) ≡ false
-            → ranWith steps present ≡ runBy effectOf places plan scripts quota limit first
+            → ranWith steps present ≡ runBy accessOf places plan scripts quota limit first
         go true fewer ended =
             runs-ended places plan scripts quota steps limit first present (going .ran) (going .within)
             (le-leb (windowsTotal plan) (present .state .windows) (ltb-false (present .state .windows) (windowsTotal plan) ended))
         go false reached stops =
             let past : limit ≤ steps = ltb-false steps limit reached in
             let all : steps ≡ limit = omega (arith, going .within) in
-            going .ran ∙ ap (λ (n : ℕ). runBy effectOf places plan scripts quota n first) all
+            going .ran ∙ ap (λ (n : ℕ). runBy accessOf places plan scripts quota n first) all
 
     -- in a window the clock is near the window's end
     pub going-clock : planValid plan ≡ true → stateValid plan quota (first .state) ≡ true → present .state .windows < windowsTotal plan

@@ -12,14 +12,14 @@ use Rattle.script.specs.declared.Op.{Op}
 use Rattle.script.specs.declared.ScriptItem.{ScriptItem}
 use Rattle.script.specs.declared.ScriptItem.the-variants.{Op as Fetch, End}
 use Rattle.script.proofs.ScriptEnd.{end-is-none}
+use Rattle.cache.specs.Access.{accessOf}
 use Rattle.records.specs.declared.Place.{Place}
 use Rattle.records.proofs.Places.{stored-length}
-use Rattle.ops.specs.Ops.{effectOf}
 use Rattle.state.specs.declared.State.{State}
 use Rattle.state.specs.World.{World, endedOf, recordsAt, runningOf}
 use Rattle.machine.specs.declared.Turn.{Turn}
 use Rattle.machine.specs.Steps.{activeStepBy, isEnd, nextItem, nextStepOf, opStepBy, runBy, stepBy, stepsBy, switchDue, turnOf}
-use Rattle.machine.specs.Switch.{switchOf}
+use Rattle.machine.specs.Switch.{switchBy, switchOf}
 use Rattle.machine.proofs.Runs.{step-active, step-ended, steps-last}
 
 -- an op is next in a turn: before the window's end, with room in the domain's part of the log, where an op stands next in its script
@@ -68,22 +68,22 @@ module _
     (Holds : World → Type 0)
     (ended-holds : endedOf plan (world .state) ≡ true → Holds world)
     (switch-holds : world .state .windows < windowsTotal plan → Holds (switchOf plan world))
-    (op-holds : (op : Op) → Begins plan scripts quota world op → Holds (opStepBy effectOf (places (runningOf plan (world .state))) plan (runningOf plan (world .state)) op world))
+    (op-holds : (op : Op) → Begins plan scripts quota world op → Holds (opStepBy accessOf (places (runningOf plan (world .state))) plan (runningOf plan (world .state)) op world))
   where
-    pub step-cases : Holds (stepBy effectOf places plan scripts quota world)
+    pub step-cases : Holds (stepBy accessOf places plan scripts quota world)
     unfolding activeStepBy
     step-cases = by-end (endedOf plan (world .state)) refl
       where
         by-next : (next : ScriptItem) → nextStepOf scripts (turnOf plan quota (world .state)) ≡ next
             → endedOf plan (world .state) ≡ false
-            → Holds (activeStepBy effectOf places plan next world)
+            → Holds (activeStepBy accessOf places plan next world)
         by-next End is running = switch-holds (in-window plan (world .state) running)
         by-next (Fetch op) is running =
             let next = op-next scripts _ op is in
             op-holds op
             (record { inWindow = in-window plan (world .state) running; inTime = next .inTime; room = next .room; next = next .next })
 
-        by-end : (ended : Bool) → endedOf plan (world .state) ≡ ended → Holds (stepBy effectOf places plan scripts quota world)
+        by-end : (ended : Bool) → endedOf plan (world .state) ≡ ended → Holds (stepBy accessOf places plan scripts quota world)
         by-end true ended = subst Holds (sym (step-ended places plan scripts quota world ended)) (ended-holds ended)
         by-end false running = subst Holds (sym (step-active places plan scripts quota world running)) (by-next _ refl running)
 
@@ -97,12 +97,12 @@ module _
     (after-switch : (world : World) → Holds world → world .state .windows < windowsTotal plan → Holds (switchOf plan world))
     (after-op :
     (world : World) (op : Op) → Holds world → Begins plan scripts quota world op
-    → Holds (opStepBy effectOf (places (runningOf plan (world .state))) plan (runningOf plan (world .state)) op world))
+    → Holds (opStepBy accessOf (places (runningOf plan (world .state))) plan (runningOf plan (world .state)) op world))
   where
-    step-holds : (world : World) → Holds world → Holds (stepBy effectOf places plan scripts quota world)
+    step-holds : (world : World) → Holds world → Holds (stepBy accessOf places plan scripts quota world)
     step-holds world holds = step-cases places plan scripts quota world Holds (λ ended. holds) (after-switch world holds) (λ op. after-op world op holds)
 
-    pub steps-hold : (world : World) → Holds world → (count : ℕ) → Holds (stepsBy effectOf places plan scripts quota count world)
+    pub steps-hold : (world : World) → Holds world → (count : ℕ) → Holds (stepsBy accessOf places plan scripts quota count world)
     unfolding runBy
     steps-hold world holds zero = holds
     steps-hold world holds (suc count) =
@@ -115,8 +115,8 @@ SameCounts one other =
 
 pub steps-counts : (places : ℕ → Place)
     (plan : Plan) (scripts : List ℕ) (quota count : ℕ) (world : World)
-    → SameCounts (stepsBy effectOf places plan scripts quota count world) world
-unfolding opStepBy switchOf
+    → SameCounts (stepsBy accessOf places plan scripts quota count world) world
+unfolding opStepBy switchBy
 steps-counts places plan scripts quota count world =
     steps-hold places plan scripts quota (λ reached. SameCounts reached world)
     (λ reached kept inWindow. kept)
@@ -125,8 +125,8 @@ steps-counts places plan scripts quota count world =
 
 -- nor how long the log is
 pub steps-log : (places : ℕ → Place) (plan : Plan) (scripts : List ℕ) (quota count : ℕ) (world : World)
-    → length (stepsBy effectOf places plan scripts quota count world .log) ≡ length (world .log)
-unfolding opStepBy switchOf
+    → length (stepsBy accessOf places plan scripts quota count world .log) ≡ length (world .log)
+unfolding opStepBy switchBy
 steps-log places plan scripts quota count world =
     steps-hold places plan scripts quota (λ reached. length (reached .log) ≡ length (world .log))
     (λ reached kept inWindow. kept)

@@ -8,6 +8,7 @@ use native.Mathlib.Decide.{ℕ-discrete}
 use Rattle.plan.specs.declared.Plan.{Plan}
 use Rattle.script.specs.declared.ScriptItem.{ScriptItem}
 use Rattle.script.specs.declared.ScriptItem.the-variants.{Op as Fetch, End}
+use Rattle.cache.specs.Access.{accessOf}
 use Rattle.records.specs.declared.Keep.the-variants.{One}
 use Rattle.records.specs.declared.Observation.{Observation}
 use Rattle.records.specs.declared.Place.{Place}
@@ -18,7 +19,7 @@ use Rattle.ops.specs.Ops.{effectOf}
 use Rattle.state.specs.World.{World, endedOf, recordsAt, runningOf}
 use Rattle.machine.specs.Keeping.{KeptRunsAlike, keptEffect, keptStep, keptWorld}
 use Rattle.machine.specs.Steps.{activeStep, activeStepBy, nextStepOf, oneMore, opStepBy, runBy, runKeeping, runOf, stepOf, turnOf}
-use Rattle.machine.specs.Switch.{switchOf}
+use Rattle.machine.specs.Switch.{switchBy, switchOf}
 use Rattle.machine.specs.View.{worldWith}
 use Rattle.machine.proofs.Invariant.{op-next, step-cases}
 use Rattle.machine.proofs.Runs.{step-active, step-ended}
@@ -52,14 +53,14 @@ withLog world log = worldWith (world .state) (world .cache) (world .boxes) log
 
 module _ (plan : Plan) (scripts : List ℕ) (quota domain : ℕ) where
   active-kept : (world : World) (next : ScriptItem) → nextStepOf scripts (turnOf plan quota (world .state)) ≡ next
-      → activeStepBy effectOf (onlyOf domain) plan next (keptWorld quota domain world)
+      → activeStepBy accessOf (onlyOf domain) plan next (keptWorld quota domain world)
       ≡ keptWorld quota domain (activeStep plan quota next world)
-  unfolding activeStepBy opStepBy switchOf
+  unfolding activeStepBy opStepBy switchBy
   active-kept world End is = refl
   active-kept world (Fetch op) is =
       let running = runningOf plan (world .state) in
       let effect = effectOf plan running op (world .cache) (world .boxes) in
-      ap (withLog (opStepBy effectOf (inParts quota running) plan running op world))
+      ap (withLog (opStepBy accessOf (inParts quota running) plan running op world))
       (record-kept quota domain running (recordsAt (world .state) running) (op-next scripts _ op is .room)
       (effect .seen) (world .state .clock + effect .ticks) (world .log))
 
@@ -101,11 +102,11 @@ module _ (plan : Plan) (scripts : List ℕ) (quota domain : ℕ) where
   unfolding activeStepBy
   full-idle world running full =
       step-active (onlyOf domain) plan scripts quota world running
-      ∙ ap (λ (next : ScriptItem). activeStepBy effectOf (onlyOf domain) plan next world)
+      ∙ ap (λ (next : ScriptItem). activeStepBy accessOf (onlyOf domain) plan next world)
       (sym (next-full scripts (turnOf plan quota (world .state)) full))
 
   others-left : (world : World) → (runningOf plan (world .state) ≡ domain → ⊥) → keptStep domain plan scripts quota world .log ≡ world .log
-  unfolding opStepBy switchOf storedAt
+  unfolding opStepBy switchBy storedAt
   others-left world other =
       step-cases (onlyOf domain) plan scripts quota world (λ (next : World). next .log ≡ world .log) (λ ended. refl) (λ inWindow. refl)
       (λ op begins.

@@ -7,8 +7,8 @@ use mathlib.Core.Path.{_≡_, refl, sym, ap, subst, _∙_}
 use native.Mathlib.Nat.{add-zero, suc-add, zero-add}
 use native.Mathlib.Omega.{arith}
 use Rattle.plan.specs.declared.Plan.{Plan}
+use Rattle.cache.specs.Access.{accessOf}
 use Rattle.records.specs.declared.Place.{Place}
-use Rattle.ops.specs.Ops.{effectOf}
 use Rattle.state.specs.World.{World, endedOf}
 use Rattle.machine.specs.Steps.{RunEffect, activeStepBy, nextStepOf, oneMore, runBy, stepBy, stepsBy, turnOf}
 use Rattle.machine.specs.View.{RunsTo, ranWith}
@@ -16,13 +16,13 @@ use Rattle.machine.specs.View.{RunsTo, ranWith}
 module _ (places : ℕ → Place) (plan : Plan) (scripts : List ℕ) (quota : ℕ) where
   -- a step of it, a run of it, n steps
   abbrev step : World → World
-  step = stepBy effectOf places plan scripts quota
+  step = stepBy accessOf places plan scripts quota
 
   abbrev run : ℕ → World → RunEffect
-  run = runBy effectOf places plan scripts quota
+  run = runBy accessOf places plan scripts quota
 
   abbrev after : ℕ → World → World
-  after = stepsBy effectOf places plan scripts quota
+  after = stepsBy accessOf places plan scripts quota
 
   -- ---- one step
 
@@ -31,7 +31,7 @@ module _ (places : ℕ → Place) (plan : Plan) (scripts : List ℕ) (quota : �
   step-ended world ended = rw (ended, stepBy)
 
   pub step-active : (world : World) → endedOf plan (world .state) ≡ false
-      → step world ≡ activeStepBy effectOf places plan (nextStepOf scripts (turnOf plan quota (world .state))) world
+      → step world ≡ activeStepBy accessOf places plan (nextStepOf scripts (turnOf plan quota (world .state))) world
   unfolding stepBy
   step-active world running = rw (running, stepBy)
 

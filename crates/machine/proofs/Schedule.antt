@@ -16,17 +16,18 @@ use Rattle.plan.specs.Windows.{windowEnd, windowStart, ticksTotal, windowsTotal
 use Rattle.plan.proofs.Windows.{pad-least, start-total}
 use Rattle.script.specs.declared.Op.{Op}
 use Rattle.cache.proofs.Ticks.{flush-ticks}
+use Rattle.cache.specs.Access.{accessOf}
 use Rattle.records.specs.declared.Place.{Place}
 use Rattle.records.specs.Records.{inParts}
-use Rattle.ops.specs.Ops.{effectOf}
 use Rattle.ops.proofs.Ticks.{effect-ticks}
 use Rattle.state.specs.StateValidity.{clockValid, stateValid}
 use Rattle.state.specs.World.{World, freshState, positionAt, runningOf}
 use Rattle.machine.specs.Fresh.{freshWorld}
 use Rattle.machine.specs.Steps.{opStepBy, stepOf, steps, stepsBy}
-use Rattle.machine.specs.Switch.{flushedClock, paddedClock, switchOf}
+use Rattle.machine.specs.Switch.{flushedClock, paddedClock, switchBy, switchOf, touchedClockBy}
 use Rattle.machine.proofs.Fetched.{fetched-within}
 use Rattle.machine.proofs.Invariant.{Begins, step-cases, steps-hold}
+use Rattle.machine.proofs.Switched.{touch-most}
 
 -- windows at most the total; in a window the clock is from its start to its end + (dearestOp - 1); ended, it is the start that a next window would have
 pub record Scheduled (plan : Plan) (world : World) : Type 0 where
@@ -44,13 +45,15 @@ start-end : (plan : Plan) (window : ℕ) → windowStart plan window ≤ windowE
 unfolding windowEnd
 start-end plan window = omega arith
 
--- the lateness of an op and the ticks of both flushes are within the pad: after a switch the clock is exactly the next window's start
+-- the lateness of an op and the ticks of both flushes and of the touch are within the pad: after a switch the clock is exactly the next
+-- window's start
 pub switch-clock : (plan : Plan) (world : World) → planValid plan ≡ true → Scheduled plan world → world .state .windows < windowsTotal plan
     → switchOf plan world .state .clock ≡ windowStart plan (world .state .windows + 1)
-unfolding switchOf paddedClock flushedClock
+unfolding switchBy paddedClock touchedClockBy flushedClock
 switch-clock plan world possible scheduled inWindow =
     let late = scheduled .soon inWindow in
     let flush = flush-ticks (world .cache) in
+    let touch = touch-most (world .cache) in
     let pad = pad-least plan possible in
     let next = ap (windowStart plan) (add-one (world .state .windows)) ∙ next-start plan (world .state .windows) in
     omega arith
@@ -62,14 +65,14 @@ ended-clock plan world possible scheduled all = scheduled .ended all ∙ ap (win
 
 module _ (plan : Plan) (possible : planValid plan ≡ true) where
   after-switch : (world : World) → Scheduled plan world → world .state .windows < windowsTotal plan → Scheduled plan (switchOf plan world)
-  unfolding switchOf
+  unfolding switchBy
   after-switch world scheduled inWindow =
       let exact = switch-clock plan world possible scheduled inWindow in
       let length = start-end plan (world .state .windows + 1) in
       record { windows = omega arith; started = omega arith; soon = λ h. omega arith; ended = λ h. exact }
 
   after-op : (place : Place) (scripts : List ℕ) (quota : ℕ) (world : World) (op : Op) → Scheduled plan world → Begins plan scripts quota world op
-      → Scheduled plan (opStepBy effectOf place plan (runningOf plan (world .state)) op world)
+      → Scheduled plan (opStepBy accessOf place plan (runningOf plan (world .state)) op world)
   unfolding opStepBy
   after-op place scripts quota world op scheduled begins =
       let running = runningOf plan (world .state) in
@@ -102,7 +105,7 @@ NextWindow plan world next = (next .state .windows ≡ world .state .windows) �
 -- a step from a world on schedule stays in its window, or is the switch that starts the next window, at its start
 pub step-windows : (plan : Plan) (scripts : List ℕ) (quota : ℕ) (world : World) → planValid plan ≡ true → Scheduled plan world
     → NextWindow plan world (stepOf plan scripts quota world)
-unfolding opStepBy switchOf
+unfolding opStepBy switchBy
 step-windows plan scripts quota world possible scheduled =
     step-cases (inParts quota) plan scripts quota world (NextWindow plan world) (λ ended. inl refl)
     (λ inWindow. inr (record { windows = refl; exact = switch-clock plan world possible scheduled inWindow }))
@@ -111,7 +114,7 @@ step-windows plan scripts quota world possible scheduled =
 -- steps keep to the schedule
 pub steps-scheduled : (places : ℕ → Place) (plan : Plan) (scripts : List ℕ) (quota : ℕ) (world : World) → planValid plan ≡ true → Scheduled plan world
     → (count : ℕ)
-    → Scheduled plan (stepsBy effectOf places plan scripts quota count world)
+    → Scheduled plan (stepsBy accessOf places plan scripts quota count world)
 steps-scheduled places plan scripts quota world possible on-schedule =
     steps-hold places plan scripts quota (Scheduled plan) (after-switch plan possible) (λ world. after-op plan possible _ scripts quota world) world on-schedule
 

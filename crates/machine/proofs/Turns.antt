@@ -7,7 +7,7 @@ use native.Mathlib.Omega.{arith}
 use lib.Dec.{leb}
 use borrow.Author.Tests.{le-leb, le-ltb, leb-false, leb-true, lt-leb}
 use Rattle.plan.specs.declared.Plan.{Plan}
-use Rattle.plan.specs.Limits.{dearestOp, mostFlushTicks}
+use Rattle.plan.specs.Limits.{dearestOp, mostFlushTicks, touchTicks}
 use Rattle.plan.specs.Windows.{windowEnd}
 use Rattle.script.specs.declared.ScriptItem.{ScriptItem}
 use Rattle.script.specs.declared.ScriptItem.the-variants.{Op as Fetch, End}
@@ -15,49 +15,63 @@ use Rattle.script.specs.declared.Op.{Op}
 use Rattle.script.specs.declared.Op.the-variants.{Compute, Read, Receive, Send, Write}
 use Rattle.script.specs.Fetch.{fetchOf}
 use Rattle.script.specs.Limits.{OpWithinLimits, mostOps}
-use Rattle.cache.specs.Flush.{kernelFlushTicks, kernelFlushed, l1FlushTicks}
+use Rattle.cache.specs.Flush.{kernelFlushTicks, kernelFlushed, l1FlushTicks, l1Flushed}
 use Rattle.cache.proofs.Ticks.{flush-ticks}
+use Rattle.cache.specs.Access.{accessOf}
 use Rattle.records.specs.declared.Place.{Place}
 use Rattle.records.specs.Records.{storedAt}
 use Rattle.ops.specs.declared.OpResult.{OpResult}
-use Rattle.ops.specs.Ops.{Effect, effectBy, effectOf, messageBy, ownsLine, receiveBy, touchBy}
+use Rattle.ops.specs.Ops.{Effect, effectBy, effectOf, kernelEntryLine, messageBy, ownsLine, receiveBy, touchBy}
 use Rattle.ops.specs.View.{effectWith, viewOf}
 use Rattle.ops.proofs.Ticks.{effect-ticks}
 use Rattle.state.specs.declared.State.{State}
 use Rattle.state.specs.World.{World}
 use Rattle.machine.specs.declared.Turn.{Turn}
 use Rattle.machine.specs.Steps.{isEnd, nextItem, nextStepOf, opStepBy, switchDue}
-use Rattle.machine.specs.Switch.{flushedClock, paddedClock, switchOf, switchedCache}
+use Rattle.machine.specs.Switch.{flushedClock, isLast, paddedClock, settledCache, switchBy, switchOf, switchedCache}
+use Rattle.machine.specs.Switch.{switchedCacheBy, touchedClock, touchedClockBy}
 use Rattle.machine.specs.View.{OpRan, opsAllowed, turnAfter, worldWith}
+use Rattle.machine.proofs.Switched.{touch-most}
 
 -- ---- a switch
 
--- both flushes one after the other, with what each answers
-module _ (cache flushed : List ℕ) (kernel l1 : ℕ)
-    (first : kernel ≡ kernelFlushTicks cache) (between : flushed ≡ kernelFlushed cache) (second : l1 ≡ l1FlushTicks flushed) where
+-- both flushes and the touch one after the other, with what each answers
+module _ (cache flushed emptied touched : List ℕ) (kernel l1 touch : ℕ)
+    (first : kernel ≡ kernelFlushTicks cache) (between : flushed ≡ kernelFlushed cache)
+    (second : l1 ≡ l1FlushTicks flushed) (behind : emptied ≡ l1Flushed flushed)
+    (third : touch ≡ accessOf false kernelEntryLine emptied .ticks)
+    (last-of-all : touched ≡ accessOf false kernelEntryLine emptied .table) where
   pub flushes-most : kernel + l1 ≤ mostFlushTicks
   flushes-most = rw (first, second, between) (flush-ticks cache)
+
+  pub touches-most : touch ≤ touchTicks
+  touches-most = rw (third, behind, between) (touch-most cache)
 
   pub switch-clocks :
       (clock begun end pad answer : ℕ)
       → begun ≡ max clock end
-      → answer ≡ max (begun + kernel + l1) (end + pad)
-      → answer ≡ paddedClock end pad (flushedClock clock end cache)
-  unfolding paddedClock flushedClock
-  switch-clocks clock begun end pad answer raised so = rw (so, raised, first, second, between) refl
+      → answer ≡ max (begun + kernel + l1 + touch) (end + pad)
+      → answer ≡ paddedClock end pad (touchedClock clock end cache)
+  unfolding paddedClock touchedClockBy flushedClock
+  switch-clocks clock begun end pad answer raised so = rw (so, raised, third, first, second, behind, between) refl
+
+  pub switch-leaves : (last : Bool) (left : List ℕ) → left ≡ settledCache last touched → left ≡ switchedCache last cache
+  unfolding switchedCacheBy
+  switch-leaves last left so = rw (so, last-of-all, behind, between) refl
 
 -- a switch, with the clock that it answers
 pub switch-stepped :
-    (plan : Plan) (state : State) (cache boxes log : List ℕ) (end clock : ℕ) (cache′ : List ℕ)
+    (plan : Plan) (state : State) (cache boxes log : List ℕ) (end clock : ℕ) (last : Bool) (cache′ : List ℕ)
     → windowEnd plan (state .windows) ≡ end
-    → clock ≡ paddedClock end (plan .pad) (flushedClock (state .clock) end cache)
-    → cache′ ≡ switchedCache cache
+    → isLast plan (state .windows) ≡ last
+    → clock ≡ paddedClock end (plan .pad) (touchedClock (state .clock) end cache)
+    → cache′ ≡ switchedCache last cache
     → worldWith
     (record { windows = state .windows + 1; clock = clock; positions = state .positions; records = state .records })
     cache′ boxes log
     ≡ switchOf plan (worldWith state cache boxes log)
-unfolding switchOf paddedClock flushedClock
-switch-stepped plan state cache boxes log end clock cache′ ends clocked flushed = rw (clocked, flushed, ← ends) refl
+unfolding switchBy
+switch-stepped plan state cache boxes log end clock last cache′ ends lasts clocked left = rw (clocked, left, ← ends, ← lasts) refl
 
 -- ---- the choice of a step
 
@@ -159,6 +173,6 @@ effect-view plan domain (Compute ticks) cache boxes = refl
 
 pub op-step-view :
     (place : Place) (plan : Plan) (domain : ℕ) (op : Op) (world : World)
-    → opStepBy effectOf place (viewOf (plan .rights) (plan .masks)) domain op world ≡ opStepBy effectOf place plan domain op world
+    → opStepBy accessOf place (viewOf (plan .rights) (plan .masks)) domain op world ≡ opStepBy accessOf place plan domain op world
 unfolding opStepBy
 op-step-view place plan domain op world = rw effect-view refl

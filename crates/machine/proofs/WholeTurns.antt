@@ -1,6 +1,6 @@
 -- A window's ops and its switch: what they are handed, and that as many steps lead to what they leave. Assumes nothing.
 use mathlib.Core.Path.{_≡_, refl, sym, ap, subst, _∙_}
-use mathlib.Core.Bool.{false, true}
+use mathlib.Core.Bool.{Bool, false, true}
 use mathlib.Core.List.{List}
 use Prim.Native.Nat.{ℕ, _+_, _%_, _-_, _≤_, _<_}
 use native.Mathlib.Nat.{mod-add-mod}
@@ -18,11 +18,12 @@ use Rattle.state.specs.declared.State.{State}
 use Rattle.state.specs.World.{World, endedOf, positionAt, recordsAt}
 use Rattle.machine.specs.declared.Turn.{Turn}
 use Rattle.machine.specs.declared.WindowProgress.{WindowProgress}
-use Rattle.machine.specs.Switch.{flushedClock, paddedClock, switchedCache}
+use Rattle.machine.specs.Switch.{flushedClock, isLast, paddedClock, switchedCache, touchedClock, touchedClockBy}
 use Rattle.machine.specs.View.{InTurn, RunsTo, TurnRan, WindowRan, clockBound, turnMoved, turned, worldWith}
 use Rattle.machine.proofs.Going.{Going, going-on, small, windows-small}
 use Rattle.machine.proofs.Runs.{runs-on, runs-one}
 use Rattle.machine.proofs.Schedule.{next-start}
+use Rattle.machine.proofs.Switched.{touch-most}
 use Rattle.machine.proofs.Turns.{switch-stepped}
 
 -- ---- what a turn is handed
@@ -115,37 +116,38 @@ module _ (limit pad : ℕ) (first : Turn) (ran : WindowProgress) (within : ran .
 
   -- or a switch follows
   module _ (clock : ℕ) (cache : List ℕ) (more : ran .steps < limit)
-      (clocked : clock ≡ paddedClock (ran .turn .end) pad (flushedClock (ran .turn .clock) (ran .turn .end) cache)) where
+      (clocked : clock ≡ paddedClock (ran .turn .end) pad (touchedClock (ran .turn .clock) (ran .turn .end) cache)) where
     pub turn-switches : leastPad ≤ pad → ran .turn .clock ≤ first .end + (dearestOp - 1) → TurnRan limit pad first (switchedTo ran clock)
-    unfolding paddedClock flushedClock
+    unfolding paddedClock touchedClockBy flushedClock
     turn-switches least late =
         record {
           some = omega arith;
           within = omega arith;
           owner-is = ap (λ (t : Turn). t .owner) moved;
           next = λ fewer.
-              (ap (λ (t : Turn). t .windows + 1) moved, omega (arith, clocked, ap (λ (t : Turn). t .end) moved, flush-ticks cache, late, least));
+              (ap (λ (t : Turn). t .windows + 1) moved, omega (arith, clocked, ap (λ (t : Turn). t .end) moved, flush-ticks cache, touch-most cache, late, least));
         }
 
     pub switch-runs :
-        (places : ℕ → Place) (plan : Plan) (scripts rights masks : List ℕ) (state : State) (before : World) (boxes log cache′ : List ℕ)
+        (places : ℕ → Place) (plan : Plan) (scripts rights masks : List ℕ) (state : State) (before : World) (boxes log cache′ : List ℕ) (last : Bool)
         → WindowRan places plan scripts (first .quota) limit (ran .steps) before (worldWith (turned state (ran .turn)) cache boxes log)
-        → cache′ ≡ switchedCache cache
+        → cache′ ≡ switchedCache last cache
         → InTurn plan rights masks state first
         → plan .pad ≡ pad
+        → isLast plan (first .windows) ≡ last
         → RunsTo places plan scripts (first .quota) (ran .steps + 1) before (worldWith (turned state (switchedTo ran clock .turn)) cache′ boxes log)
     unfolding endedOf
-    switch-runs places plan scripts rights masks state before boxes log cache′ did flushed here pads =
-        let left = turned state (ran .turn) in
+    switch-runs places plan scripts rights masks state before boxes log cache′ last did left here pads lasts =
+        let now = turned state (ran .turn) in
         let windows = ap (λ (t : Turn). t .windows) moved in
         let ends : windowEnd plan (ran .turn .windows) ≡ ran .turn .end =
         ap (windowEnd plan) windows ∙ here .end-is ∙ sym (ap (λ (t : Turn). t .end) moved) in
-        let running : endedOf plan left ≡ false = lt-leb (windowsTotal plan) (ran .turn .windows) (omega (arith, windows, here .not-ended)) in
-        runs-on places plan scripts (first .quota) (ran .steps) 1 before (worldWith left cache boxes log) _ (did .ran)
-        (runs-one places plan scripts (first .quota) (worldWith left cache boxes log) _ running
+        let running : endedOf plan now ≡ false = lt-leb (windowsTotal plan) (ran .turn .windows) (omega (arith, windows, here .not-ended)) in
+        runs-on places plan scripts (first .quota) (ran .steps) 1 before (worldWith now cache boxes log) _ (did .ran)
+        (runs-one places plan scripts (first .quota) (worldWith now cache boxes log) _ running
         (did .due more
-        ∙ sym (switch-stepped plan left cache boxes log (ran .turn .end) clock cache′ ends
-        (clocked ∙ ap (λ (n : ℕ). paddedClock (ran .turn .end) n (flushedClock (ran .turn .clock) (ran .turn .end) cache)) (sym pads)) flushed)))
+        ∙ sym (switch-stepped plan now cache boxes log (ran .turn .end) clock last cache′ ends (ap (isLast plan) windows ∙ lasts)
+        (clocked ∙ ap (λ (n : ℕ). paddedClock (ran .turn .end) n (touchedClock (ran .turn .clock) (ran .turn .end) cache)) (sym pads)) left)))
 
 -- ---- a turn within a run
 

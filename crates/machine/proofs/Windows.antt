@@ -14,8 +14,8 @@ use Rattle.plan.specs.Windows.{windowEnd, windowOwner, windowsTotal}
 use Rattle.script.specs.declared.Op.{Op}
 use Rattle.script.specs.declared.ScriptItem.{ScriptItem}
 use Rattle.script.specs.declared.ScriptItem.the-variants.{Op as Fetch, End}
+use Rattle.cache.specs.Access.{accessOf}
 use Rattle.records.specs.declared.Place.{Place}
-use Rattle.ops.specs.Ops.{effectOf}
 use Rattle.ops.specs.View.{viewOf}
 use Rattle.state.specs.declared.State.{State}
 use Rattle.state.specs.World.{World, endedOf, positionAt, recordsAt}
@@ -81,14 +81,14 @@ module _ (plan : Plan) (scripts rights masks : List ℕ) (state : State) (turn :
     not-ended = lt-leb (windowsTotal plan) (state .windows) (omega (arith, here .not-ended, here .stands .windows-is))
 
     step-chosen : (next : ScriptItem) → next ≡ nextStepOf scripts turn
-        → stepBy effectOf places plan scripts (turn .quota) (worldWith state cache boxes log) ≡ activeStepBy effectOf places plan next (worldWith state cache boxes log)
+        → stepBy accessOf places plan scripts (turn .quota) (worldWith state cache boxes log) ≡ activeStepBy accessOf places plan next (worldWith state cache boxes log)
     step-chosen next is =
         step-active places plan scripts (turn .quota) (worldWith state cache boxes log) not-ended
-        ∙ ap (λ (t : Turn). activeStepBy effectOf places plan (nextStepOf scripts t) (worldWith state cache boxes log)) own-turn
-        ∙ ap (λ (n : ScriptItem). activeStepBy effectOf places plan n (worldWith state cache boxes log)) (sym is)
+        ∙ ap (λ (t : Turn). activeStepBy accessOf places plan (nextStepOf scripts t) (worldWith state cache boxes log)) own-turn
+        ∙ ap (λ (n : ScriptItem). activeStepBy accessOf places plan n (worldWith state cache boxes log)) (sym is)
 
     step-switches : End ≡ nextStepOf scripts turn
-        → stepBy effectOf places plan scripts (turn .quota) (worldWith state cache boxes log) ≡ switchOf plan (worldWith state cache boxes log)
+        → stepBy accessOf places plan scripts (turn .quota) (worldWith state cache boxes log) ≡ switchOf plan (worldWith state cache boxes log)
     unfolding activeStepBy
     step-switches is = step-chosen End is
 
@@ -102,10 +102,10 @@ module _ (plan : Plan) (scripts rights masks : List ℕ) (state : State) (turn :
     op-runs op clock cache′ boxes′ log′ is did =
         runs-one places plan scripts (turn .quota) (worldWith state cache boxes log) _ not-ended
         (step-chosen (Fetch op) is
-        ∙ ap (λ (d : ℕ). opStepBy effectOf (places d) plan d op (worldWith state cache boxes log))
+        ∙ ap (λ (d : ℕ). opStepBy accessOf (places d) plan d op (worldWith state cache boxes log))
         (ap (windowOwner plan) (here .stands .windows-is) ∙ here .owner-is)
         ∙ sym (op-step-view (places (turn .owner)) plan (turn .owner) op (worldWith state cache boxes log))
-        ∙ ap₂ (λ (r m : List ℕ). opStepBy effectOf (places (turn .owner)) (viewOf r m) (turn .owner) op (worldWith state cache boxes log)) (here .rights-are) (here .masks-are)
+        ∙ ap₂ (λ (r m : List ℕ). opStepBy accessOf (places (turn .owner)) (viewOf r m) (turn .owner) op (worldWith state cache boxes log)) (here .rights-are) (here .masks-are)
         ∙ sym (did .world state (here .stands)))
 
 -- some ops of a window are done: as many steps lead to the state that they left, and the turn is that state's
@@ -234,7 +234,7 @@ module _
         → (places : ℕ → Place) (plan : Plan) (state : State)
         → places (first .owner) ≡ place
         → InTurn plan rights masks state first
-        → stepBy effectOf places plan scripts (first .quota) (worldWith (turned state turn) cache boxes log)
+        → stepBy accessOf places plan scripts (first .quota) (worldWith (turned state turn) cache boxes log)
         ≡ switchOf plan (worldWith (turned state turn) cache boxes log)
     turn-ends is places plan state placed begins =
         step-switches plan scripts rights masks (turned state turn) turn

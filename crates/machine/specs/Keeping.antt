@@ -5,9 +5,9 @@ use mathlib.Core.Bool.{false}
 use mathlib.Core.List.{List}
 use mathlib.Core.Path.{_≡_}
 use Rattle.plan.specs.declared.Plan.{Plan}
+use Rattle.cache.specs.Access.{accessOf}
 use Rattle.records.specs.declared.Keep.the-variants.{One}
 use Rattle.records.specs.Records.{logPart, placesOf}
-use Rattle.ops.specs.Ops.{effectOf}
 use Rattle.state.specs.World.{World, endedOf, recordsAt, runningOf}
 use Rattle.machine.specs.Steps.{RunEffect, runKeeping, runOf, stepBy}
 use Rattle.machine.specs.Switch.{switchOf}
@@ -29,7 +29,8 @@ keptEffect quota domain ran =
 
 -- one step of a run that keeps one domain's records
 abbrev pub keptStep : ℕ → Plan → List ℕ → ℕ → World → World
-keptStep domain plan scripts quota = stepBy effectOf (placesOf (One domain) quota) plan scripts quota
+keptStep domain plan scripts quota =
+    stepBy accessOf (placesOf (One domain) quota) plan scripts quota
 
 -- on every world, reachable or not
 pub record KeptRunsAlike : Type 0 where

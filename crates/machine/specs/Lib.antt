@@ -3,3 +3,5 @@ pub mod Switch
 pub mod Steps
 pub mod View
 pub mod Keeping
+pub mod WindowStart
+pub mod LeastPad

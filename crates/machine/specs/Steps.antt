@@ -1,6 +1,6 @@
 -- Document 01, "Window, switch, run", and document 02, E8: one step, n steps, a run under a limit.
--- The step is defined once, over what an op does and where each domain's records go. Assumes
--- nothing.
+-- The step is defined once, over the access that a board makes and where each domain's records go.
+-- Assumes nothing.
 use Prim.Native.Nat.{ℕ, zero, suc, _+_}
 use mathlib.Core.Bool.{Bool, true, false, cond, _||_}
 use mathlib.Core.List.{List}
@@ -12,14 +12,15 @@ use Rattle.script.specs.declared.Op.{Op}
 use Rattle.script.specs.declared.ScriptItem.{ScriptItem}
 use Rattle.script.specs.declared.ScriptItem.the-variants.{Op as Fetch, End}
 use Rattle.script.specs.Fetch.{fetchOf}
+use Rattle.cache.specs.Access.{AccessOutcome, accessOf}
 use Rattle.records.specs.declared.Keep.{Keep}
 use Rattle.records.specs.declared.Place.{Place}
 use Rattle.records.specs.Records.{inParts, placesOf, storedAt}
-use Rattle.ops.specs.Ops.{Effect, effectOf}
+use Rattle.ops.specs.Ops.{Effect, effectBy}
 use Rattle.state.specs.declared.State.{State}
 use Rattle.state.specs.World.{World, endedOf, positionAt, recordsAt, runningOf}
 use Rattle.machine.specs.declared.Turn.{Turn}
-use Rattle.machine.specs.Switch.{switchOf}
+use Rattle.machine.specs.Switch.{switchBy}
 
 -- ---- which step is next
 
@@ -89,12 +90,12 @@ afterEffect place domain effect world =
       log = storedAt place count (effect .seen) clock (world .log);
     }
 
--- over what an op of a domain does
-module _ (effect : Plan → ℕ → Op → List ℕ → List ℕ → Effect) where
+-- over the access that a board makes, by an op and by a switch's touch
+module _ (access : Bool → ℕ → List ℕ → AccessOutcome) where
   -- one op of a domain, whose records go to a place
   unfoldable pub opStepBy : Place → Plan → ℕ → Op → World → World
   opStepBy place plan domain op world =
-      afterEffect place domain (effect plan domain op (world .cache) (world .boxes)) world
+      afterEffect place domain (effectBy access plan domain op (world .cache) (world .boxes)) world
 
   -- and over where each domain's records go
   module _ (places : ℕ → Place) where
@@ -103,7 +104,7 @@ module _ (effect : Plan → ℕ → Op → List ℕ → List ℕ → Effect) whe
     activeStepBy plan (Fetch op) world =
         let domain = runningOf plan (world .state) in
         opStepBy (places domain) plan domain op world
-    activeStepBy plan End world = switchOf plan world
+    activeStepBy plan End world = switchBy access plan world
 
     -- one step; an ended run stays as it is
     unfoldable pub stepBy : Plan → List ℕ → ℕ → World → World
@@ -131,21 +132,21 @@ module _ (effect : Plan → ℕ → Op → List ℕ → List ℕ → Effect) whe
 
 -- a run, by whose records are kept
 abbrev pub runKeeping : Keep → Plan → List ℕ → ℕ → ℕ → World → RunEffect
-runKeeping keep plan scripts quota = runBy effectOf (placesOf keep quota) plan scripts quota
+runKeeping keep plan scripts quota = runBy accessOf (placesOf keep quota) plan scripts quota
 
 -- document 01's runs keep every domain's, each in its part of the log: one op, the next step in a
 -- window, one step, a run, n steps
 abbrev pub opStepOf : Plan → ℕ → ℕ → Op → World → World
-opStepOf plan quota domain = opStepBy effectOf (inParts quota domain) plan domain
+opStepOf plan quota domain = opStepBy accessOf (inParts quota domain) plan domain
 
 abbrev pub activeStep : Plan → ℕ → ScriptItem → World → World
-activeStep plan quota = activeStepBy effectOf (inParts quota) plan
+activeStep plan quota = activeStepBy accessOf (inParts quota) plan
 
 abbrev pub stepOf : Plan → List ℕ → ℕ → World → World
-stepOf plan scripts quota = stepBy effectOf (inParts quota) plan scripts quota
+stepOf plan scripts quota = stepBy accessOf (inParts quota) plan scripts quota
 
 abbrev pub runOf : Plan → List ℕ → ℕ → ℕ → World → RunEffect
-runOf plan scripts quota = runBy effectOf (inParts quota) plan scripts quota
+runOf plan scripts quota = runBy accessOf (inParts quota) plan scripts quota
 
 abbrev pub steps : Plan → List ℕ → ℕ → ℕ → World → World
-steps plan scripts quota = stepsBy effectOf (inParts quota) plan scripts quota
+steps plan scripts quota = stepsBy accessOf (inParts quota) plan scripts quota

@@ -9,8 +9,8 @@ use Rattle.plan.specs.Limits.{dearestOp}
 use Rattle.plan.specs.Windows.{windowEnd, windowOwner, windowsTotal}
 use Rattle.script.specs.declared.Op.{Op}
 use Rattle.script.specs.Limits.{mostOps}
+use Rattle.cache.specs.Access.{accessOf}
 use Rattle.records.specs.declared.Place.{Place}
-use Rattle.ops.specs.Ops.{effectOf}
 use Rattle.state.specs.declared.State.{State}
 use Rattle.state.specs.World.{World, positionAt, recordsAt}
 use Rattle.machine.specs.declared.Turn.{Turn}
@@ -33,7 +33,7 @@ ranWith steps world = record { done = steps; world = world }
 -- n steps lead from one world to another, all of them before the run's end
 abbrev pub RunsTo : (ℕ → Place) → Plan → List ℕ → ℕ → ℕ → World → World → Type 0
 RunsTo places plan scripts quota steps before after =
-    ranWith steps after ≡ runBy effectOf places plan scripts quota steps before
+    ranWith steps after ≡ runBy accessOf places plan scripts quota steps before
 
 -- a state with the windows, the clock, the position and the number of records that a turn has come to
 abbrev pub turned : State → Turn → State
@@ -94,7 +94,7 @@ pub record OpRan
       (state : State)
       → Stands state turn
       → worldWith (turned state (turnAfter turn 1 clock)) cache′ boxes′ log′
-      ≡ opStepBy effectOf place view (turn .owner) op (worldWith state cache boxes log)
+      ≡ opStepBy accessOf place view (turn .owner) op (worldWith state cache boxes log)
 
 -- the turn of a state in a run that has not ended, beside the plan's recipients and masks
 pub record InTurn (plan : Plan) (rights masks : List ℕ) (state : State) (turn : Turn) : Type 0 where
@@ -110,7 +110,7 @@ pub record WindowRan
     (places : ℕ → Place) (plan : Plan) (scripts : List ℕ) (quota limit steps : ℕ)
     (before after : World) : Type 0 where
   pub ran : RunsTo places plan scripts quota steps before after
-  pub due : steps < limit → stepBy effectOf places plan scripts quota after ≡ switchOf plan after
+  pub due : steps < limit → stepBy accessOf places plan scripts quota after ≡ switchOf plan after
 
 -- a window's ops and its switch, where the limit allows it: as many steps lead there
 pub record TurnRan (limit pad : ℕ) (turn : Turn) (progress : WindowProgress) : Type 0 where

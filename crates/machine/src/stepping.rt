@@ -2,8 +2,11 @@
 use crate::Advance;
 use crate::Turn;
 use crate::WindowProgress;
+use cache::access;
+use cache::flush::empty_line;
 use cache::flush::flush_kernel;
 use cache::flush::flush_l1;
+use ops::limits::KERNEL_ENTRY_LINE;
 use ops::operate;
 use plan::Plan;
 use plan::timing::window_start;
@@ -30,7 +33,8 @@ ghost use Rattle.ops.specs.Ops.{boxesLength};
 ghost use Rattle.ops.specs.View.{viewOf};
 ghost use Rattle.state.specs.StateValidity.{stateValid};
 ghost use Rattle.machine.specs.Steps.{nextStepOf, runKeeping};
-ghost use Rattle.machine.specs.Switch.{flushedClock, paddedClock, switchedCache};
+ghost use Rattle.machine.specs.Switch.{isLast, paddedClock, settledCache, switchedCache};
+ghost use Rattle.machine.specs.Switch.{touchedClock};
 ghost use Rattle.machine.specs.View.{InTurn, OpRan, RunsTo, TurnRan, WindowRan, clockBound};
 ghost use Rattle.machine.specs.View.{opsAllowed, ranWith, turnAfter, turnMoved, turned};
 ghost use Rattle.machine.specs.View.{worldWith};
@@ -41,17 +45,30 @@ fn later(one: u64, other: u64) -> u64
     if one < other { other } else { one }
 }
 
-// The switch: the clock raised to the window's end if lower, both flushes, and the pad. Answers the clock at the next window's start.
-fn switch(cache: &mut [u16], clock: u64, end: u64, pad: u64) -> u64
+// What a switch leaves of the line that it touched: the run's last empties it again.
+fn settle(cache: &mut [u16], last: bool)
+    requires { ⌜ length (now cache) ≡ tableLength ⌝ }
+    ensures { λ _. ⌜ now (cache .exit) ≡ settledCache last (now (cache .entry)) ⌝ }
+{
+    if last {
+        empty_line(cache, KERNEL_ENTRY_LINE);
+    }
+}
+
+// The switch: the clock raised to the window's end if lower, both flushes, the touch of the return
+// path, and the pad. Answers the clock at the next window's start.
+fn switch(cache: &mut [u16], clock: u64, end: u64, pad: u64, last: bool) -> u64
     requires { ⌜ (length (now cache) ≡ tableLength) × (clock ≤ end + (dearestOp - 1)) × (end ≤ clockBound) × (pad ≤ mostPad) ⌝ }
     ensures { λ r.
-        ⌜ (r ≡ paddedClock end pad (flushedClock clock end (now (cache .entry))))
-        × (now (cache .exit) ≡ switchedCache (now (cache .entry))) ⌝ }
+        ⌜ (r ≡ paddedClock end pad (touchedClock clock end (now (cache .entry))))
+        × (now (cache .exit) ≡ switchedCache last (now (cache .entry))) ⌝ }
 {
     let begun = later(clock, end);
     let kernel = flush_kernel(cache);
     let l1 = flush_l1(cache);
-    later(begun + kernel + l1, end + pad)
+    let touch = access(cache, KERNEL_ENTRY_LINE, false);
+    settle(cache, last);
+    later(begun + kernel + l1 + touch.ticks, end + pad)
 }
 
 fn lesser(one: u64, other: u64) -> u64
@@ -184,6 +201,7 @@ fn run_turn(
     masks: &[u16; 8],
     scripts: &[u32],
     pad: u64,
+    last: bool,
     limit: u64,
     place: Place,
     first: Turn,
@@ -200,6 +218,7 @@ fn run_turn(
         → places (first .owner) ≡ place
         → InTurn plan (now (rights .entry)) (now (masks .entry)) state first
         → plan .pad ≡ pad
+        → isLast plan (first .windows) ≡ last
         → RunsTo places plan (now (scripts .entry)) (first .quota) (r .steps)
         (worldWith state (now (cache .entry)) (now (boxes .entry)) (now (log .entry)))
         (worldWith (turned state (r .turn)) (now (cache .exit)) (now (boxes .exit)) (now (log .exit)))) ⌝ }
@@ -218,18 +237,18 @@ fn run_turn(
     if limit <= ran.steps {
         return ran;
     }
-    let last = ran.turn;
-    let clock = switch(cache, last.clock, last.end, pad);
+    let done = ran.turn;
+    let clock = switch(cache, done.clock, done.end, pad, last);
     WindowProgress {
         steps: ran.steps + 1,
         turn: Turn {
-            windows: last.windows + 1,
-            owner: last.owner,
-            end: last.end,
-            quota: last.quota,
+            windows: done.windows + 1,
+            owner: done.owner,
+            end: done.end,
+            quota: done.quota,
             clock,
-            position: last.position,
-            records: last.records,
+            position: done.position,
+            records: done.records,
         },
     }
 }
@@ -292,6 +311,7 @@ pub fn run_steps(
             &masks,
             scripts,
             pad,
+            total <= present.windows + 1,
             limit - steps,
             place,
             turn,

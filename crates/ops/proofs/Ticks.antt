@@ -90,7 +90,7 @@ effect-takes plan domain (Compute ticks) cache boxes within = within .0
 abbrev pub dearestPlan : Plan
 dearestPlan =
     record {
-      pad = 276;
+      pad = 376;
       run = 1;
       domains = 2;
       windows = 1;

@@ -6,10 +6,10 @@ use mathlib.Core.List.{List}
 use Prim.Native.Nat.{ℕ}
 use lib.ListN.{length}
 use Rattle.plan.specs.declared.Plan.{Plan}
+use Rattle.cache.specs.Access.{accessOf}
 use Rattle.records.specs.declared.Keep.the-variants.{One}
 use Rattle.records.specs.declared.Place.{Place}
 use Rattle.records.specs.Records.{inParts, onlyOf, partRecords}
-use Rattle.ops.specs.Ops.{effectOf}
 use Rattle.state.specs.declared.State.{State}
 use Rattle.state.specs.World.{World, freshState}
 use Rattle.machine.specs.Steps.{RunEffect, runKeeping, runOf, stepsBy}
@@ -55,7 +55,7 @@ abbrev Long : World → Type 0
 Long world = StateLengths (world .state)
 
 run-long : (places : ℕ → Place) (plan : Plan) (scripts : List ℕ) (quota limit : ℕ) (world : World) → Long world
-    → Long (stepsBy effectOf places plan scripts quota limit world)
+    → Long (stepsBy accessOf places plan scripts quota limit world)
 run-long places plan scripts quota limit world long =
     let kept = steps-counts places plan scripts quota limit world in
     record { positions = kept .0 ∙ long .positions; records = kept .1 ∙ long .records }

@@ -1,6 +1,6 @@
--- Document 01, "The core and its tables", "What an op costs", "Window, switch, run" and "The plan text":
--- the limits of a plan's numbers, and the two costs that the least pad rests on. Each is said here
--- alone, under the paper's term. Assumes nothing.
+-- Document 01, "The core and its tables", "What an op costs", "Window, switch, run" and "The plan
+-- text", and document 02, E9: the limits of a plan's numbers, and the three costs that the least pad
+-- rests on. Each is said here alone, under the paper's term. Assumes nothing.
 use Prim.Native.Nat.{ℕ}
 
 -- ---- the pad
@@ -13,10 +13,14 @@ dearestOp = 213
 abbrev pub mostFlushTicks : ℕ
 mostFlushTicks = 64
 
+-- the ticks of a switch's touch of the return path, after the flushes
+abbrev pub touchTicks : ℕ
+touchTicks = 100
+
 -- the fewest ticks of a *pad*: an op that begins in a window's last tick ends dearestOp - 1 ticks after
--- the window, and the flushes follow. Proved to be that sum in proofs/LeastPad.antt.
+-- the window, and the flushes and the touch follow. Proved to be that sum in proofs/LeastPad.antt.
 abbrev pub leastPad : ℕ
-leastPad = 276
+leastPad = 376
 
 -- the most ticks of a *pad*
 abbrev pub mostPad : ℕ

@@ -1,5 +1,5 @@
 // The limits of a plan's numbers, as specs/Limits.antt names them.
-pub const LEAST_PAD: u32 = 276;
+pub const LEAST_PAD: u32 = 376;
 
 pub const MOST_PAD: u32 = 1_000_000;
 

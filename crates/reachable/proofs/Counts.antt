@@ -15,7 +15,7 @@ use Rattle.script.specs.Limits.{mostOps}
 use Rattle.state.specs.World.{World, freshState, positionAt, recordsAt, runningOf}
 use Rattle.machine.specs.Fresh.{freshWorld}
 use Rattle.machine.specs.Steps.{opStepBy, opStepOf, steps}
-use Rattle.machine.specs.Switch.{switchOf}
+use Rattle.machine.specs.Switch.{switchBy, switchOf}
 use Rattle.machine.proofs.Fetched.{fetched-below}
 use Rattle.machine.proofs.Invariant.{Begins, steps-hold}
 use Rattle.reachable.proofs.Cells.{cell-holds, cell-zeros}
@@ -28,7 +28,7 @@ pub record Counted (plan : Plan) (quota : ℕ) (world : World) : Type 0 where
 
 module _ (plan : Plan) (scripts : List ℕ) (quota : ℕ) (possible : planValid plan ≡ true) where
   after-switch : (world : World) → Counted plan quota world → world .state .windows < windowsTotal plan → Counted plan quota (switchOf plan world)
-  unfolding switchOf
+  unfolding switchBy
   after-switch world counted inWindow =
       record { position = counted .position; records = counted .records; noPosition = counted .noPosition; noRecords = counted .noRecords }
 

@@ -69,7 +69,7 @@ unfolding lineAllowed
 own-allowed plan domain line owns = first-passes _ _ owns
 
 -- the kernel's lines may always be there
-kernel-allowed : (plan : Plan) (domain line : ℕ) → colourOf line ≡ kernelColour → lineAllowed plan domain line ≡ true
+pub kernel-allowed : (plan : Plan) (domain line : ℕ) → colourOf line ≡ kernelColour → lineAllowed plan domain line ≡ true
 unfolding lineAllowed
 kernel-allowed plan domain line kernel = second-passes (ownsColour plan domain (colourOf line)) _ (eq-eqb _ _ kernel)
 

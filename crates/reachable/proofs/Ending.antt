@@ -19,7 +19,7 @@ use Rattle.bound.specs.Bound.{opsStored, stepBound}
 use Rattle.state.specs.World.{World, endedOf, freshState, positionAt, runningOf}
 use Rattle.machine.specs.Fresh.{freshWorld}
 use Rattle.machine.specs.Steps.{opStepBy, opStepOf, runBy, RunEffect, runOf, stepOf, steps}
-use Rattle.machine.specs.Switch.{switchOf}
+use Rattle.machine.specs.Switch.{switchBy, switchOf}
 use Rattle.machine.proofs.Invariant.{Begins, in-window, steps-hold}
 use Rattle.machine.proofs.Runs.{by-end}
 use Rattle.machine.proofs.Schedule.{scheduled}
@@ -34,7 +34,7 @@ module _ (plan : Plan) (scripts : List ℕ) (quota : ℕ) where
   WithinScripts world = (domain : ℕ) → positionAt (world .state) domain ≤ storedOps scripts domain
 
   after-switch : (world : World) → WithinScripts world → world .state .windows < windowsTotal plan → WithinScripts (switchOf plan world)
-  unfolding switchOf
+  unfolding switchBy
   after-switch world within inWindow = within
 
   -- an op stands before the end of its script

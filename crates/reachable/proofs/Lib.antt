@@ -6,12 +6,12 @@ pub mod Effects
 pub mod Progress
 pub mod Ending
 pub mod OldBoard
-pub mod Flushes
 pub mod Fronts
 pub mod Lent
 pub mod Lines
 pub mod StateReached
 pub mod Reached
+pub mod Switches
 pub mod Tables
 pub mod Ways
 pub mod WindowSteps

@@ -3,7 +3,7 @@
 use Prim.Native.Nat.{ℕ, zero, suc, _<_}
 use mathlib.Core.Bool.{Bool, true, false}
 use mathlib.Core.List.{List}
-use mathlib.Core.Path.{_≡_, refl, ap, _∙_}
+use mathlib.Core.Path.{_≡_, refl, sym, ap, _∙_}
 use native.Mathlib.Omega.{arith}
 use lib.ListN.{length, replicate}
 use borrow.Author.Tests.{lt-leb}
@@ -16,18 +16,20 @@ use Rattle.script.specs.Limits.{OpWithinLimits}
 use Rattle.script.specs.declared.ScriptItem.{ScriptItem}
 use Rattle.script.specs.declared.ScriptItem.the-variants.{Op as Fetch, End}
 use Rattle.cache.specs.Lines.{tableLength}
+use Rattle.cache.specs.Access.{oldAccessOf}
 use Rattle.records.specs.Records.{inParts, partRecords}
 use Rattle.ops.specs.Ops.{Effect, effectOf}
 use Rattle.state.specs.World.{World, endedOf, positionAt, runningOf}
 use Rattle.machine.specs.Fresh.{freshWorld, reachedWorld}
 use Rattle.machine.specs.Steps.{activeStep, activeStepBy, afterEffect, nextStepOf, oneMore, opStepBy, opStepOf, runBy, runOf, stepBy, stepOf, steps, turnOf}
-use Rattle.machine.specs.Switch.{switchOf, switchedCache}
+use Rattle.machine.specs.Switch.{isLast, switchBy, switchOf}
 use Rattle.machine.proofs.Fetched.{fetched-within}
 use Rattle.machine.proofs.Invariant.{Begins, in-window, op-next, step-cases, steps-hold}
+use Rattle.machine.proofs.Switched.{switch-alike}
 use Rattle.reachable.specs.OldBoard.{InFront, LinesInFront, NothingShown, oldEffectOf, oldRunOf, oldStepOf}
 use Rattle.reachable.proofs.Cells.{cell-zeros}
-use Rattle.reachable.proofs.Flushes.{flushed-l1}
 use Rattle.reachable.proofs.Fronts.{SameEffect, effect-same, none-in-front}
+use Rattle.reachable.proofs.Switches.{switch-front}
 use Rattle.reachable.proofs.Tables.{Sound, after-op, after-switch, at-start}
 
 module _ (plan : Plan) (scripts : List ℕ) (quota logLength : ℕ) (possible : planValid plan ≡ true) where
@@ -58,11 +60,11 @@ module _ (plan : Plan) (scripts : List ℕ) (quota logLength : ℕ) (possible : 
       (fetched-within scripts running (positionAt (world .state) running) op (begins .next))
 
   pub switch-fronted : (world : World) → Fronted world → world .state .windows < windowsTotal plan → Fronted (switchOf plan world)
-  unfolding switchOf
+  unfolding switchBy
   switch-fronted world f inWindow =
       record {
         sound = after-switch plan scripts quota logLength possible world (f .sound) inWindow;
-        front = none-in-front (switchedCache (world .cache)) (λ index below. flushed-l1 (world .cache) (f .sound .cache .long) index below);
+        front = switch-front plan (world .state) (world .state) (world .cache) (f .sound .cache) (isLast plan (world .state .windows));
       }
 
   pub op-fronted : (world : World) (op : Op) → Fronted world → Begins plan scripts quota world op
@@ -91,9 +93,9 @@ module _ (plan : Plan) (scripts : List ℕ) (quota logLength : ℕ) (possible : 
 
   same-active : (world : World) → Fronted world → endedOf plan (world .state) ≡ false → (next : ScriptItem)
       → nextStepOf scripts (turnOf plan quota (world .state)) ≡ next
-      → activeStep plan quota next world ≡ activeStepBy oldEffectOf (inParts quota) plan next world
+      → activeStep plan quota next world ≡ activeStepBy oldAccessOf (inParts quota) plan next world
   unfolding activeStepBy opStepBy
-  same-active world f running End is = refl
+  same-active world f running End is = sym (switch-alike plan world)
   same-active world f running (Fetch op) is =
       let next = op-next scripts _ op is in
       let begins : Begins plan scripts quota world op =

@@ -14,7 +14,7 @@ use Rattle.plan.proofs.Windows.{domains-most, owner-declared}
 use Rattle.script.specs.declared.Op.{Op}
 use Rattle.state.specs.World.{World, endedOf, positionAt, runningOf}
 use Rattle.machine.specs.Steps.{opStepBy, opStepOf, runBy, runOf, stepOf}
-use Rattle.machine.specs.Switch.{switchOf}
+use Rattle.machine.specs.Switch.{switchBy, switchOf}
 use Rattle.machine.proofs.Invariant.{step-cases}
 use Rattle.machine.proofs.Runs.{by-end}
 use Rattle.reachable.specs.StepCounts.{opsRun}
@@ -30,7 +30,7 @@ pub record Further (world : World) (steps : ℕ) (next : World) : Type 0 where
 
 module _ (plan : Plan) (scripts : List ℕ) (quota : ℕ) (possible : planValid plan ≡ true) where
   after-switch : (world : World) → length (world .state .positions) ≡ mostDomains → Further world 1 (switchOf plan world)
-  unfolding switchOf
+  unfolding switchBy
   after-switch world eight = record { eight = eight; far = omega arith }
 
   after-op : (world : World) (op : Op) → length (world .state .positions) ≡ mostDomains

@@ -2,7 +2,7 @@
 use Prim.Native.Nat.{ℕ, _<_}
 use mathlib.Core.Bool.{true}
 use mathlib.Core.List.{List}
-use mathlib.Core.Path.{_≡_, _∙_}
+use mathlib.Core.Path.{_≡_, refl, _∙_}
 use native.Mathlib.Omega.{arith}
 use lib.ListN.{length}
 use borrow.Author.Tests.{lt-leb}
@@ -20,14 +20,14 @@ use Rattle.state.specs.TableValidity.{boxValid, l1EntryValid, tablesValid}
 use Rattle.state.specs.World.{World, endedOf, positionAt, recordsAt, runningOf}
 use Rattle.machine.specs.Fresh.{freshWorld}
 use Rattle.machine.specs.Steps.{opStepBy, opStepOf, steps}
-use Rattle.machine.specs.Switch.{switchOf}
+use Rattle.machine.specs.Switch.{isLast, switchBy, switchOf}
 use Rattle.machine.proofs.Fetched.{fetched-within}
 use Rattle.machine.proofs.Invariant.{Begins, steps-hold}
 use Rattle.lists.proofs.Tests.{both-pass}
 use Rattle.reachable.proofs.Cells.{cell-zeros, zeros-length}
 use Rattle.reachable.proofs.Effects.{BoxesValid, effect-valid, empty-box}
-use Rattle.reachable.proofs.Flushes.{flush-valid}
 use Rattle.reachable.proofs.Lines.{CacheValid, zeros-valid}
+use Rattle.reachable.proofs.Switches.{switch-valid}
 
 -- a world beside a log of a length
 pub record Sound (plan : Plan) (logLength : ℕ) (world : World) : Type 0 where
@@ -38,10 +38,10 @@ pub record Sound (plan : Plan) (logLength : ℕ) (world : World) : Type 0 where
 module _ (plan : Plan) (scripts : List ℕ) (quota logLength : ℕ) (possible : planValid plan ≡ true) where
   pub after-switch : (world : World) → Sound plan logLength world → world .state .windows < windowsTotal plan
       → Sound plan logLength (switchOf plan world)
-  unfolding switchOf
+  unfolding switchBy endedOf
   after-switch world sound inWindow =
       record {
-        cache = flush-valid plan (world .state) _ (world .cache) (sound .cache);
+        cache = switch-valid plan (world .state) (switchOf plan world .state) (world .cache) (sound .cache) (isLast plan (world .state .windows)) refl;
         boxes = sound .boxes;
         log = sound .log;
       }

@@ -16,7 +16,7 @@ use Rattle.script.specs.declared.Op.{Op}
 use Rattle.ops.proofs.Ticks.{effect-takes}
 use Rattle.state.specs.World.{World, endedOf, positionAt, runningOf}
 use Rattle.machine.specs.Steps.{opStepBy, opStepOf, runBy, runOf, stepOf}
-use Rattle.machine.specs.Switch.{paddedClock, switchOf}
+use Rattle.machine.specs.Switch.{paddedClock, switchBy, switchOf}
 use Rattle.machine.proofs.Fetched.{fetched-within}
 use Rattle.machine.proofs.Invariant.{Begins, in-window, step-cases}
 use Rattle.machine.proofs.Runs.{by-end}
@@ -67,14 +67,14 @@ module _ (plan : Plan) (scripts : List ℕ) (quota window : ℕ) where
 
   -- a switch starts the next window, not before its time
   switch-started : (world : World) → Started (switchOf plan world)
-  unfolding switchOf paddedClock
+  unfolding switchBy paddedClock
   switch-started world =
       let next : windowStart plan (world .state .windows + 1) ≡ windowEnd plan (world .state .windows) + plan .pad =
       ap (windowStart plan) (add-one (world .state .windows)) ∙ next-start plan (world .state .windows) in
       omega arith
 
   after-switch : (world : World) → Stepped world (switchOf plan world)
-  unfolding switchOf windowEnd
+  unfolding switchBy windowEnd
   after-switch world =
       record {
         started = switch-started world;

@@ -1,6 +1,7 @@
--- Document 02, E7: what its write-back changes. Document 01's own machine is that of the old board,
--- on which a dirty line that is replaced changes nothing in L2. It is defined here to say that no
--- run from a fresh start shows which of the two boards it ran on. Assumes nothing.
+-- Document 02, E7: what its write-back changes. On the old board, whose access is document 01's, a
+-- dirty line that is replaced changes nothing in L2. It touches the return path too: its ops and its
+-- switches make that access. It is defined here to say that no run from a fresh start shows which
+-- of the two boards it ran on. Assumes nothing.
 use Prim.Native.Nat.{ℕ, _≤_}
 use mathlib.Core.Bool.{true}
 use mathlib.Core.List.{List}
@@ -25,10 +26,10 @@ oldEffectOf = effectBy oldAccessOf
 
 -- one step, and a run under a limit
 abbrev pub oldStepOf : Plan → List ℕ → ℕ → World → World
-oldStepOf plan scripts quota = stepBy oldEffectOf (inParts quota) plan scripts quota
+oldStepOf plan scripts quota = stepBy oldAccessOf (inParts quota) plan scripts quota
 
 abbrev pub oldRunOf : Plan → List ℕ → ℕ → ℕ → World → RunEffect
-oldRunOf plan scripts quota = runBy oldEffectOf (inParts quota) plan scripts quota
+oldRunOf plan scripts quota = runBy oldAccessOf (inParts quota) plan scripts quota
 
 -- ---- what holds of the two
 

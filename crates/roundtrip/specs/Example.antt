@@ -19,7 +19,7 @@ use Rattle.roundtrip.specs.Theorems.{GivenBoth}
 unfoldable pub writtenPlan : Plan
 writtenPlan =
     record {
-      pad = 276;
+      pad = 376;
       run = 10;
       domains = 3;
       windows = 3;
@@ -38,7 +38,7 @@ writtenScripts =
 -- the text of both
 abbrev pub writtenText : List ℕ
 writtenText =
-    bytesOf "(pad 276)\n(domain 0(share 400)(may 1 2))\n(domain 1(share 300)(may))\n(domain 2(share 34)(may 0))\n"
+    bytesOf "(pad 376)\n(domain 0(share 400)(may 1 2))\n(domain 1(share 300)(may))\n(domain 2(share 34)(may 0))\n"
     ++ bytesOf "(window 0(length 400))\n(window 1(length 1000000))\n(window 2(length 5))\n(run 10)\n"
     ++ bytesOf "(op 0(read 3))\n(op 0(send 1 77))\n(op 2(compute 9))"
 
@@ -48,7 +48,7 @@ writtenText =
 unfoldable pub eightDomains : Plan
 eightDomains =
     record {
-      pad = 276;
+      pad = 376;
       run = 1;
       domains = 8;
       windows = 1;

@@ -3,10 +3,12 @@ use mathlib.Core.Path.{refl}
 use Rattle.plan.specs.Colours.{holdingOf}
 use Rattle.plan.proofs.Bits.{mask-ones}
 use Rattle.latest.specs.Answer.{domainFits, latestOf, latestVerdict, windowFits}
-use Rattle.latest.specs.Latest.{lateBy, latestAlone, latestApart, latestMeeting, latestTicks}
+use Rattle.latest.specs.Latest.{boxIndices, lateBy, latestAlone, latestApart, latestFirst, latestLater, latestMeeting, latestTicks}
 use Rattle.latest.specs.Lowest.{lowestFrom}
-use Rattle.latest.specs.Reach.{firstWindow, hasBox, lowestColour, lowestRecipient, lowestSender, meetsKernel, ownIndices}
-use Rattle.latest.specs.Script.{lastOp, lateNumber, lateNumbers, lateScriptOf, latestScript, openingOps, waitingTicks, writtenTicks}
+use Rattle.latest.specs.Reach.{boxCount, firstWindow, hasBox, lowestColour, lowestRecipient, lowestSender, meetsKernel, ownIndices}
+use Rattle.latest.specs.Reach.{startsRun}
+use Rattle.latest.specs.Script.{firstMessage, lastOp, lateNumber, lateNumbers, lateScriptOf, latestScript, messageAt, openingOps}
+use Rattle.latest.specs.Script.{openingTicks, replacingTicks, waitingTicks, writtenTicks}
 use Rattle.engine.proofs.Computing.{computing}
 use Rattle.worked_example.specs.Example.{textOf}
 use Rattle.worked_example.specs.LatestExamples.{LatestExamples, storedScript, writesFrom}
@@ -16,9 +18,10 @@ use Rattle.worked_example.proofs.Reading.{reading}
 pub latest-examples : LatestExamples
 unfolding
     computing reading textOf storedScript writesFrom holdingOf
-    lowestFrom firstWindow lowestColour ownIndices meetsKernel lowestRecipient lowestSender hasBox
-    lateBy latestAlone latestMeeting latestApart latestTicks
-    openingOps writtenTicks waitingTicks lastOp lateScriptOf lateNumber lateNumbers latestScript
+    lowestFrom firstWindow startsRun lowestColour ownIndices meetsKernel lowestRecipient lowestSender hasBox boxCount
+    lateBy latestAlone latestMeeting latestApart latestFirst boxIndices latestLater latestTicks
+    messageAt openingOps openingTicks replacingTicks writtenTicks waitingTicks firstMessage lastOp
+    lateScriptOf lateNumber lateNumbers latestScript
     windowFits domainFits latestVerdict latestOf
 latest-examples =
     record {
@@ -27,6 +30,10 @@ latest-examples =
       script = rw (mask-ones 0 14) refl;
       clock = refl;
       reached = refl;
+      laterScriptIs = rw (mask-ones 14 1) refl;
+      laterClock = refl;
+      laterReached = refl;
+      busy = (refl, rw (mask-ones 2 5) refl);
       alone = (refl, rw (mask-ones 0 1) refl);
       boxed = (refl, rw (mask-ones 0 1) refl);
       four = (refl, rw (mask-ones 1 4) refl);

@@ -25,7 +25,7 @@ use Rattle.worked_example.specs.WorkedExample.{exampleRead}
 abbrev pub sharpPlan : List ℕ
 sharpPlan =
     textOf
-    ("(pad 276)"
+    ("(pad 376)"
     ∷ "(domain 0 (share 400) (may 1))"
     ∷ "(domain 1 (share 300) (may))"
     ∷ "(window 0 (length 3))"

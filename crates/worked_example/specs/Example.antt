@@ -29,7 +29,7 @@ planWithPadLine padLine =
 
 -- the plan as it is run
 abbrev pub examplePlan : List ℕ
-examplePlan = planWithPadLine "(pad 276)"
+examplePlan = planWithPadLine "(pad 376)"
 
 -- what is printed for it
 abbrev pub exampleOutput : List ℕ
@@ -38,7 +38,7 @@ exampleOutput =
     ("(seen 0 100 (miss 3))"
     ∷ "(seen 0 101 (hit1 3))"
     ∷ "(seen 0 306 (sent 1))"
-    ∷ "(seen 1 881 (got 77))"
-    ∷ "(seen 1 981 (miss 100))"
-    ∷ "(end 2 1252)"
+    ∷ "(seen 1 882 (got 77))"
+    ∷ "(seen 1 982 (miss 100))"
+    ∷ "(end 2 1452)"
     ∷ [])

@@ -35,17 +35,17 @@ pub record KeptExamples : Type 0 where
       take 24 (keptRun 0 10 100 .world .log)
       ≡ recordBytes (Miss 3) 100 ++ (recordBytes (Hit1 3) 101 ++ recordBytes (Sent 1) 306)
   pub second :
-      take 16 (keptRun 1 10 100 .world .log) ≡ recordBytes (Got 77) 881 ++ recordBytes (Miss 100) 981
+      take 16 (keptRun 1 10 100 .world .log) ≡ recordBytes (Got 77) 882 ++ recordBytes (Miss 100) 982
   -- a limit that stops it in domain 1's window, after domain 0's window and one op
   pub stopped :
       (keptRun 1 10 5 .steps ≡ 5)
-      × (take 8 (keptRun 1 10 5 .world .log) ≡ recordBytes (Got 77) 881)
+      × (take 8 (keptRun 1 10 5 .world .log) ≡ recordBytes (Got 77) 882)
       × (recordsAt (keptRun 1 10 5 .world .state) 0 ≡ 3)
   -- one record a part: domain 0 is idle after its first op, though its records are not kept, so
   -- that its word is never sent, and domain 1 finds the box empty
   pub idle :
       (keptRun 1 1 100 .steps ≡ 4)
-      × (keptRun 1 1 100 .world .log ≡ recordBytes (Empty 0) 881)
+      × (keptRun 1 1 100 .world .log ≡ recordBytes (Empty 0) 882)
       × (recordsAt (keptRun 1 1 100 .world .state) 0 ≡ 1)
   -- no record a part: both are idle, and the buffer has no byte
   pub none : (keptRun 0 0 100 .steps ≡ 2) × (keptRun 0 0 100 .world .log ≡ [])

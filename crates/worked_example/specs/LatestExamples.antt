@@ -1,5 +1,5 @@
--- Document 02, E6: its example, from a plan's text to the latest finish of a domain and to the run
--- that reaches it; others worked out by hand; and what is refused. Assumes nothing.
+-- Document 02, E6 and E9: its example, from a plan's text to the latest finish of a domain and to
+-- the run that reaches it; others worked out by hand; and what is refused. Assumes nothing.
 use Prim.Native.Nat.{ℕ, zero, suc, _+_, _-_}
 use Prim.Native.String.{String}
 use mathlib.Core.List.{List, [], _∷_, _++_}
@@ -9,14 +9,14 @@ use Rattle.plan.specs.declared.Plan.{Plan}
 use Rattle.plan.specs.Windows.{windowEnd}
 use Rattle.plan.specs.Zeros.{noPlan}
 use Rattle.script.specs.declared.Op.{Op}
-use Rattle.script.specs.declared.Op.the-variants.{Write, Send, Compute}
+use Rattle.script.specs.declared.Op.the-variants.{Write, Send, Receive, Compute}
 use Rattle.script.specs.Limits.{mostOps}
 use Rattle.script.specs.Stored.{storedOf}
 use Rattle.latest.specs.Answer.{LatestOutcome, latestOf}
 use Rattle.state.specs.World.{World}
 use Rattle.machine.specs.Fresh.{freshWorld}
 use Rattle.machine.specs.Steps.{steps}
-use Rattle.machine.specs.Switch.{flushedClock}
+use Rattle.machine.specs.Switch.{touchedClock}
 use Rattle.refusal.specs.declared.Refusal.{Refusal}
 use Rattle.refusal.specs.declared.Refusal.the-variants.{ImpossiblePlan, LatestOutOfLimits}
 use Rattle.refusal.specs.declared.Refusal.the-variants.{WrongLength}
@@ -29,7 +29,7 @@ use Rattle.worked_example.specs.Example.{textOf}
 abbrev pub planBy : String → String → String → Plan
 planBy first second window =
     readOf
-    (textOf ("(pad 276)" ∷ first ∷ second ∷ window ∷ "(window 1 (length 4000))" ∷ "(run 1)" ∷ []))
+    (textOf ("(pad 376)" ∷ first ∷ second ∷ window ∷ "(window 1 (length 4000))" ∷ "(run 1)" ∷ []))
     noOps .plan
 
 -- domain 0 has colours 0 to 13 and a right to send, and domain 1 has colour 14
@@ -59,10 +59,27 @@ abbrev pub windowlessPlan : Plan
 windowlessPlan =
     readOf
     (textOf
-    ("(pad 276)"
+    ("(pad 376)"
     ∷ "(domain 0 (share 500) (may))"
     ∷ "(domain 1 (share 300) (may))"
     ∷ "(window 0 (length 4000))"
+    ∷ "(run 1)"
+    ∷ []))
+    noOps .plan
+
+-- domain 1 has five boxes, three to send by and two to receive from, and five colours, 3 among
+-- them; the run begins with domain 0
+abbrev pub busyPlan : Plan
+busyPlan =
+    readOf
+    (textOf
+    ("(pad 376)"
+    ∷ "(domain 0 (share 100) (may 1))"
+    ∷ "(domain 1 (share 300) (may 0 2 3))"
+    ∷ "(domain 2 (share 34) (may 1))"
+    ∷ "(domain 3 (share 34) (may))"
+    ∷ "(window 0 (length 10))"
+    ∷ "(window 1 (length 4000))"
     ∷ "(run 1)"
     ∷ []))
     noOps .plan
@@ -105,34 +122,59 @@ lateScript =
 abbrev pub lateWorld : World
 lateWorld = steps widePlan lateScript mostOps 29 (freshWorld (replicate 4_096 0))
 
+-- domain 1 of the wide plan may receive from domain 0: of sixteen messages fifteen are denied and
+-- take 6 ticks each, and one takes 106; four writes of 100 ticks; seventeen computes of 200 and one
+-- of 3, which is up to tick 3,999; then the longest compute
+abbrev pub laterScript : List ℕ
+laterScript =
+    storedScript mostOps
+    (Send 0 0 ∷ Send 1 0 ∷ Send 2 0 ∷ Send 3 0 ∷ Send 4 0 ∷ Send 5 0 ∷ Send 6 0 ∷ Send 7 0
+    ∷ Receive 0 ∷ Receive 1 ∷ Receive 2 ∷ Receive 3 ∷ Receive 4 ∷ Receive 5 ∷ Receive 6 ∷ Receive 7
+    ∷ writesFrom 4 56 (replicate 17 (Compute 200) ++ (Compute 3 ∷ Compute 200 ∷ [])))
+
+-- the world after the first window's switch and those ops
+abbrev pub laterWorld : World
+laterWorld =
+    steps widePlan (replicate mostOps 0 ++ laterScript) mostOps 40
+    (freshWorld (replicate 4_096 0))
+
 pub record LatestExamples : Type 0 where
   -- colours 0 to 13 and one right to send
-  pub wide : Tells widePlan 0 260
-  -- colour 14 alone, with a box to receive from
-  pub other : Tells widePlan 1 232
+  pub wide : Tells widePlan 0 360
+  -- colour 14 alone, with a box to receive from, and no part in the run's first window
+  pub other : Tells widePlan 1 327
   -- the script that is handed back, and its run, which reaches it: the last op begins in the last
-  -- tick and takes 213, and both flushes take 48
+  -- tick and takes 213, both flushes take 48, and the touch takes 100
   pub script : answerFor widePlan 0 .script ≡ lateScript
   pub clock : lateWorld .state .clock ≡ 3_999 + 213
   pub reached :
-      flushedClock (lateWorld .state .clock) (windowEnd widePlan 0) (lateWorld .cache)
-      ≡ windowEnd widePlan 0 + 260
+      touchedClock (lateWorld .state .clock) (windowEnd widePlan 0) (lateWorld .cache)
+      ≡ windowEnd widePlan 0 + 360
+  -- that of the other domain, and its run: the last op is over 199 ticks after the end; the
+  -- kernel's sets have the entry line and a box's line, 10 ticks; in L1 four own lines and the
+  -- box's line are dirty, 18 ticks
+  pub laterScriptIs : answerFor widePlan 1 .script ≡ laterScript
+  pub laterClock : laterWorld .state .clock ≡ windowEnd widePlan 1 + 199
+  pub laterReached :
+      touchedClock (laterWorld .state .clock) (windowEnd widePlan 1) (laterWorld .cache)
+      ≡ windowEnd widePlan 1 + 327
+  -- five boxes, of whose lines four ways have room for four; every index of L1 is an own one
+  pub busy : Tells busyPlan 1 352
   -- colour 0 alone, without a box and with one
-  pub alone : Tells (narrowPlan "(domain 0 (share 34) (may))") 0 224
-  pub boxed : Tells (narrowPlan "(domain 0 (share 34) (may 1))") 0 232
-  -- four colours have every index of L1; the entry line comes in before the writes, and replaces
-  -- none
-  pub four : Tells (narrowPlan "(domain 0 (share 34) (may))") 1 248
+  pub alone : Tells (narrowPlan "(domain 0 (share 34) (may))") 0 324
+  pub boxed : Tells (narrowPlan "(domain 0 (share 34) (may 1))") 0 332
+  -- four colours have every index of L1; the entry line is in from the start
+  pub four : Tells (narrowPlan "(domain 0 (share 34) (may))") 1 348
   -- colour 3 alone, which has the L1 indices of the kernel's lines
-  pub third : Tells thirdPlan 1 236
+  pub third : Tells thirdPlan 1 325
   -- windows at and past either limit
-  pub longest : Tells (windowOf "(window 0 (length 20000))") 0 260
+  pub longest : Tells (windowOf "(window 0 (length 20000))") 0 360
   pub tooShort :
       RefusesLatest (windowOf "(window 0 (length 3999))") 0 buffer (LatestOutOfLimits 0)
   pub tooLong :
       RefusesLatest (windowOf "(window 0 (length 20001))") 0 buffer (LatestOutOfLimits 0)
   -- the other domain's windows do not matter to it
-  pub otherJudged : Tells (windowOf "(window 0 (length 3999))") 1 232
+  pub otherJudged : Tells (windowOf "(window 0 (length 3999))") 1 327
   -- no window; not declared
   pub windowless : RefusesLatest windowlessPlan 1 buffer (LatestOutOfLimits 1)
   pub undeclared : RefusesLatest widePlan 2 buffer (LatestOutOfLimits 2)

@@ -6,3 +6,4 @@ pub mod WriteExamples
 pub mod LatestExamples
 pub mod WriteBackExamples
 pub mod KeptExamples
+pub mod TouchExamples

@@ -23,7 +23,7 @@ shareLines domain (share ∷ shares) =
 -- a plan of one window whose domains have these shares
 abbrev pub planWithShares : List ℕ → List ℕ
 planWithShares shares =
-    textOf ("(pad 276)" ∷ [])
+    textOf ("(pad 376)" ∷ [])
     ++ (shareLines 0 shares ++ textOf ("(window 0 (length 1))" ∷ "(run 1)" ∷ []))
 
 pub record ShareExamples : Type 0 where

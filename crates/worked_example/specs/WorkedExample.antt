@@ -90,10 +90,10 @@ pub record WorkedExample : Type 0 where
   pub lineHundred : (setOf 100 ≡ 36) × (colourOf 100 ≡ 9) × (l1Index 100 ≡ 4)
   -- 4: the box from 0 to 1 has line 125, that from 7 to 6 line 4,029
   pub boxLines : (boxLine 0 1 ≡ 125) × (boxLine 7 6 ≡ 4_029)
-  -- 5: a pad of 275 is refused, by 3 at its number; 276 is accepted
+  -- 5: a pad of 375 is refused, by 3 at its number; 376 is accepted
   pub padLimit :
-      (readCode (planWithPadLine "(pad 275)") ≡ codeWith 3 5)
-      × (readCode (planWithPadLine "(pad 276)") ≡ codeWith 0 0)
+      (readCode (planWithPadLine "(pad 375)") ≡ codeWith 3 5)
+      × (readCode (planWithPadLine "(pad 376)") ≡ codeWith 0 0)
   -- 6: flushing an empty L1 takes 8 ticks, one of sixteen dirty lines 40
   pub flushes : (l1FlushTicks emptyTable ≡ 8) × (l1FlushTicks (dirtyTable l1Length) ≡ 40)
   -- 7: reads of 0, 64, 128, 192, 256 from empty all miss, and leave set 0 as 256, 192, 128, 64

@@ -171,16 +171,17 @@ pub record WriteBackExamples : Type 0 where
   pub steps :
       (stepOf (exampleRead .plan) readFirst 10 (lentWorld fullTable) .state .clock ≡ 104)
       × (oldStepOf (exampleRead .plan) readFirst 10 (lentWorld fullTable) .state .clock ≡ 14)
-  -- a switch writes nothing back: the full set stays, and L1 and the kernel's sets are empty
+  -- a switch writes nothing back: the full set stays, and of what L1 and the kernel's sets held
+  -- nothing does; they have the line that the switch touched
   pub switches :
       (part (setIndex 0) waysPerSet
       (switchOf (exampleRead .plan) (lentWorld switchTable) .cache)
       ≡ fullWays)
       × (part kernelIndex kernelEntries
       (switchOf (exampleRead .plan) (lentWorld switchTable) .cache)
-      ≡ replicate kernelEntries 0)
+      ≡ set (replicate kernelEntries 0) 0 (cleanEntry 60))
       × (part 0 l1Length (switchOf (exampleRead .plan) (lentWorld switchTable) .cache)
-      ≡ replicate l1Length 0)
+      ≡ set (replicate l1Length 0) (l1Index 60) (cleanEntry 60))
   -- such tables may be lent: none is damaged
   pub lent :
       (tablesValid (exampleRead .plan) freshState fullTable emptyBoxes ≡ true)

@@ -21,7 +21,7 @@ use Rattle.worked_example.specs.WorkedExample.{exampleRead}
 -- the example in the single form
 abbrev pub canonicalExample : List ℕ
 canonicalExample =
-    bytesOf "(pad 276)\n(domain 0(share 400)(may 1))\n(domain 1(share 300)(may))\n"
+    bytesOf "(pad 376)\n(domain 0(share 400)(may 1))\n(domain 1(share 300)(may))\n"
     ++ bytesOf "(window 0(length 400))\n(window 1(length 300))\n(run 1)\n"
     ++ bytesOf "(op 0(write 3))\n(op 0(read 3))\n(op 0(send 1 77))\n(op 1(receive 0))\n(op 1(read 100))"
 
@@ -36,7 +36,7 @@ otherSpelling =
     ∷ "(op 1 (receive 0))"
     ∷ "  (window 0 (length 400))"
     ∷ " "
-    ∷ "(pad 0000000276)"
+    ∷ "(pad 0000000376)"
     ∷ "(op 0 (read 3))"
     ∷ "(op 1(read 0100))"
     ∷ "(window 1 (length 300))"

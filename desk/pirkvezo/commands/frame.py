@@ -10,8 +10,9 @@ from ..refusals import COUNT, LENGTH, WEIGHT, Refused
 
 NAME = "frame"
 HELP = "make the windows of a plan by weights, and show what each domain gets and why"
-# round, with time for several misses (100 ticks each) or sends (205 at first), and long beside the
-# least pad (276); with it even 32 windows and the longest run stay far below a plan's most ticks
+# round, with time for several misses (100 ticks each) or sends (205 at first in the run, 106 in a
+# later window), and long beside the least pad (376); with it even 32 windows and the longest run stay
+# far below a plan's most ticks
 DEFAULT_LENGTH = 1000
 EXAMPLE = f"""example:
   pirkvezo frame 7 3 2 2

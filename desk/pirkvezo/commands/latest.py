@@ -75,9 +75,10 @@ def latest_lines(name, plan, found):
     lines += columns(heads, [row[:len(heads)] for row in rows], left=["refused"])
     if told:
         lines += [
-            "at most: ticks from a window's end until the switch has emptied L1, in every run from a fresh",
-            "start and whatever any script holds. left: what no script of the domain uses of the pad.",
-            "--script prints scripts that take so long, each in its domain's first window."]
+            "at most: ticks from a window's end until the switch has emptied L1 and touched line 60, touch",
+            "counted, in every run from a fresh start and whatever any script holds. left: what no script of",
+            "the domain uses of the pad. --script prints scripts that take so long, each in its domain's",
+            "first window."]
     return lines
 
 

@@ -2,7 +2,7 @@
 
     >>> from pirkvezo import read
     >>> from pirkvezo.report import page
-    >>> text = b'(pad 276)\\n(domain 0 (share 500) (may))\\n(window 0 (length 50))\\n(run 1)'
+    >>> text = b'(pad 376)\\n(domain 0 (share 500) (may))\\n(window 0 (length 50))\\n(run 1)'
     >>> page('small.plan', read(text)).startswith('<!DOCTYPE html>')
     True
 """

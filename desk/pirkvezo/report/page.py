@@ -155,7 +155,8 @@ def _latest(plan):
     if not told:
         return ""
     return (f"<p>The library says how many of the pad's {plan.pad} ticks a domain can use at most: "
-            f"{', '.join(told)}. They count from a window's end until the switch has emptied L1.</p>\n")
+            f"{', '.join(told)}. They count from a window's end until the switch has emptied L1 and touched "
+            "line 60, touch counted.</p>\n")
 
 
 def _percent(part, plan):

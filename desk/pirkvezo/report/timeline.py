@@ -266,5 +266,6 @@ def legend():
     chips = "".join(f'<span class="chip"><span class="key {kind}">{LETTERS[kind]}</span> {kind}: '
                     f'{escape(words)}</span> ' for kind, words in kinds)
     return (f'<p class="legend">{chips}<span class="chip"><span class="key pad">&#160;</span> '
-            f'switch and pad</span> <span class="chip"><span class="key arrow">&#8594;</span> '
+            f'switch (both flushes, the touch) and pad</span> <span class="chip">'
+            f'<span class="key arrow">&#8594;</span> '
             f'message</span></p>\n')

@@ -25,7 +25,7 @@ enum {
 
 /* Smallest and largest numbers of a plan, where they are not 0 or 1. */
 enum {
-    LEAST_PAD = 276,
+    LEAST_PAD = 376,
     MOST_PAD = 1000000,
     MOST_RUN = 1000,
     MOST_LENGTH = 1000000,

@@ -16,7 +16,8 @@ enum seen {
     SEEN_BARRED
 };
 
-/* The kernel's lines that a message touches: its own, and one for each box. */
+/* The kernel's lines that a message touches: its own, which a switch touches too, and one for each
+ * box. */
 enum { MESSAGE_LINE = 60, FIRST_BOX_LINE = 61 };
 
 enum {
@@ -273,13 +274,23 @@ static uint32_t flush(uint16_t *cache)
     return FLUSH_TICKS + valid + FLUSH_TICKS + FLUSH_DIRTY_TICKS * dirty;
 }
 
-/* Ends a window. The flush is counted as the machine has it, although it shows nowhere: the least
- * pad covers the longest overrun of an op and the dearest flush together. */
+/* Takes the line that a switch has touched out of both caches, which hold no other line of its set
+ * and of its index then. */
+static void forget_touched(uint16_t *cache)
+{
+    cache[MESSAGE_LINE % L1] = 0;
+    set_of(cache, MESSAGE_LINE)[0] = 0;
+}
+
+/* Ends a window. Flush and touch are counted as the machine has them, although it shows nowhere:
+ * the least pad covers the longest overrun of an op, the dearest flush and the touch together. */
 static void switch_window(const struct machine *machine, uint64_t end, uint64_t next)
 {
     struct state *state = machine->state;
     uint64_t clock = state->clock < end ? end : state->clock;
-    clock += flush(machine->cache);
+    uint32_t ticks = flush(machine->cache);
+    access_line(machine->cache, MESSAGE_LINE, 0, &ticks);
+    clock += ticks;
     state->clock = clock < next ? next : clock;
     state->windows++;
 }
@@ -300,6 +311,9 @@ uint64_t run_steps(const struct machine *machine, uint64_t limit)
         switch_window(machine, end, place.start);
         left--;
         place.window = place.window + 1 == plan->windows ? 0 : place.window + 1;
+        if (machine->state->windows == windows) {
+            forget_touched(machine->cache);
+        }
     }
     return limit - left;
 }

@@ -10,6 +10,7 @@ use pirkvezo_differential::generate::faults::faulty_text;
 use pirkvezo_differential::generate::kept::{
     disturb_kept, disturb_part, kept_world, random_kept_call, random_limit,
 };
+use pirkvezo_differential::generate::late_switch::late_switch_world;
 use pirkvezo_differential::generate::lists::{random_call, random_world};
 use pirkvezo_differential::generate::mutate::mutate;
 use pirkvezo_differential::generate::put_out::put_out_world;
@@ -31,9 +32,9 @@ struct Trial<'e> {
 
 /// Compares an engine with the reference over so many cases. Each case is five
 /// texts, a list of calls from a fresh start, a world that no run reaches, one whose
-/// ops put lines out of L1, one that is damaged again and again, and one of which a
-/// domain's part is all that is lent of the log. Gives how many calls were compared, and
-/// what they came to.
+/// ops put lines out of L1, one whose switch takes long, one that is damaged again and
+/// again, and one of which a domain's part is all that is lent of the log. Gives how many
+/// calls were compared, and what they came to.
 pub fn agrees(engine: &dyn Engine, count: u64) -> Result<(u64, Tally), String> {
     let mut trial = Trial {
         engine,
@@ -66,6 +67,7 @@ impl<'e> Trial<'e> {
         self.list(rng)?;
         self.scattered(rng)?;
         self.put_out(rng)?;
+        self.late_switch(rng)?;
         self.damaged(rng)?;
         self.kept(rng)
     }
@@ -106,6 +108,13 @@ impl<'e> Trial<'e> {
         for _ in 0..rng.below(8) {
             self.call(&mut pair, &Call::Step)?;
         }
+        let limit = rng.pick(&[1, 16, 100, u64::MAX]);
+        self.call(&mut pair, &Call::Run(limit))
+    }
+
+    fn late_switch(&mut self, rng: &mut Rng) -> Result<(), Difference> {
+        let mut pair = self.pair(late_switch_world(rng));
+        self.call(&mut pair, &Call::Step)?;
         let limit = rng.pick(&[1, 16, 100, u64::MAX]);
         self.call(&mut pair, &Call::Run(limit))
     }
@@ -191,9 +200,26 @@ mod tests {
         BoxesLeft,
         CacheLeft,
         LinesNotWritten,
+        NothingTouched,
+        TouchedAfterTheEnd,
+        ShortPadTaken,
         KeptByTheNext,
         KeptAsAWhole,
         LogOneShort,
+    }
+
+    /// Where line 60 stands: in L1, and in front of its set.
+    const TOUCHED: [usize; 2] = [12, 16 + 4 * 60];
+
+    impl Faulty {
+        /// The plan as it is seen: a pad that is taken though it is too short is the least.
+        fn seen(self, plan: &[u32]) -> Vec<u32> {
+            let mut seen = plan.to_vec();
+            if let (Faulty::ShortPadTaken, Some(pad @ 276..=375)) = (self, seen.first_mut()) {
+                *pad = 376;
+            }
+            seen
+        }
     }
 
     impl Engine for Faulty {
@@ -228,7 +254,7 @@ mod tests {
             answer: &mut [u64],
         ) -> u32 {
             let lent = boxes.to_vec();
-            let number = Peer.fresh_start(plan, state, cache, boxes, answer);
+            let number = Peer.fresh_start(&self.seen(plan), state, cache, boxes, answer);
             if *self == Faulty::BoxesLeft {
                 boxes.copy_from_slice(&lent);
             }
@@ -236,10 +262,34 @@ mod tests {
         }
 
         fn step(&self, tables: Tables, answer: &mut [u64]) -> u32 {
-            Peer.step(tables, answer)
+            let completed = tables.state.first().copied();
+            let again = Tables {
+                plan: &self.seen(tables.plan),
+                scripts: tables.scripts,
+                state: &mut *tables.state,
+                cache: &mut *tables.cache,
+                boxes: &mut *tables.boxes,
+                log: &mut *tables.log,
+            };
+            let number = Peer.step(again, answer);
+            let switched = number == 0 && tables.state.first().copied() != completed;
+            match self {
+                Faulty::NothingTouched if switched => {
+                    TOUCHED.into_iter().for_each(|at| tables.cache[at] = 0);
+                }
+                Faulty::TouchedAfterTheEnd if switched && answer[3] == 1 => {
+                    TOUCHED.into_iter().for_each(|at| tables.cache[at] = 61);
+                }
+                _ => {}
+            }
+            number
         }
 
         fn run(&self, tables: Tables, limit: u64, answer: &mut [u64]) -> u32 {
+            let tables = Tables {
+                plan: &self.seen(tables.plan),
+                ..tables
+            };
             match self {
                 Faulty::CacheLeft => {
                     let mut cache = tables.cache.to_vec();
@@ -291,6 +341,9 @@ mod tests {
             Faulty::BoxesLeft,
             Faulty::CacheLeft,
             Faulty::LinesNotWritten,
+            Faulty::NothingTouched,
+            Faulty::TouchedAfterTheEnd,
+            Faulty::ShortPadTaken,
             Faulty::KeptByTheNext,
             Faulty::KeptAsAWhole,
             Faulty::LogOneShort,

@@ -228,7 +228,7 @@ fn eight(windows: u32, length: u32, run: u32, act: &dyn Fn(u32, u32) -> Act) -> 
         script: (0..256).map(|place| act(domain, place)).collect(),
     };
     Sketch {
-        pad: 276,
+        pad: 376,
         run,
         members: (0..8).map(member).collect(),
         windows: (0..windows).map(|place| (place % 8, length)).collect(),
@@ -238,7 +238,7 @@ fn eight(windows: u32, length: u32, run: u32, act: &dyn Fn(u32, u32) -> Act) -> 
 /// One domain without a script.
 fn empty(windows: u32, run: u32) -> Sketch {
     Sketch {
-        pad: 276,
+        pad: 376,
         run,
         members: vec![Member {
             share: 1_000,

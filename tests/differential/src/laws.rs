@@ -3,8 +3,9 @@
 //! records are written. What document 02, E2, says of every plan: its shares give
 //! its colours, and none is let twice. What its E7 leaves to a domain: lines that others
 //! put out go back to sets of their own colours. What its E8 says of a part: its length is
-//! that of its records, and those of other domains are not written to it. These hold for
-//! one engine alone, so they bind also where there is no second one.
+//! that of its records, and those of other domains are not written to it. What its E9 says
+//! of a window's start: line 60 is in both caches, and after the run's end in neither. These
+//! hold for one engine alone, so they bind also where there is no second one.
 
 use crate::engine::{Kept, ANSWER, BOXES, CACHE, PLAN, SCRIPTS, STATE};
 use crate::timeline::Timeline;
@@ -252,6 +253,9 @@ fn judge_steps(
         expected.log[new.clone()].copy_from_slice(&after.log[new]);
     }
     judge_sets(&timeline, before, after)?;
+    if windows > 0 {
+        judge_start(&timeline, steps, after)?;
+    }
     expected.state = after.state.clone();
     if steps > 0 {
         expected.cache = after.cache.clone();
@@ -260,6 +264,26 @@ fn judge_steps(
     match *after == expected {
         true => Ok(()),
         false => Err("a step wrote where it may not".into()),
+    }
+}
+
+/// Judges what L1 and the kernel's sets hold where a switch was the last step. It was where
+/// the run has ended, where it was the only one, and where the clock stands at a window's
+/// start, since every op takes a tick.
+fn judge_start(timeline: &Timeline, steps: u64, after: &World) -> Result<(), String> {
+    let mut due = [0; 32];
+    if let Some(span) = timeline.window(after.state[0]) {
+        match (after.state[1] == span.start, steps) {
+            (false, 1) => return Err("a window starts at another tick than the plan says".into()),
+            (false, _) => return Ok(()),
+            // Line 60 is clean, at L1 index 12, and alone in the first of the kernel's sets.
+            (true, _) => [due[12], due[16]] = [61, 61],
+        }
+    }
+    let held = after.cache[..16].iter().chain(&after.cache[16 + 4 * 60..]);
+    match held.eq(&due) {
+        true => Ok(()),
+        false => Err("L1 and the kernel's sets hold line 60 at a window's start alone".into()),
     }
 }
 

@@ -85,7 +85,7 @@ impl Trial {
 /// one of the second.
 const TEXT: &str = "\
 (run 3)
-(pad 300)
+(pad 400)
 (domain 0 (share 500) (may 1))
 (window 0 (length 90))
 (op 0 (read 9))
@@ -166,7 +166,9 @@ fn fixed_refusals() {
         assert_refused(|call| call.plan.set_length(length), 11);
     }
     assert_refused(|call| call.plan.fill(0), 12);
-    assert_refused(|call| call.plan[0] = 275, 12);
+    assert_refused(|call| call.plan[0] = 276, 12);
+    assert_refused(|call| call.plan[0] = 375, 12);
+    assert_bound(|call| call.plan[0] = 376, 3 + 2 * 3);
     assert_refused(|call| call.plan[1] = 1_001, 12);
     assert_refused(|call| call.plan[2] = 3, 12);
     assert_refused(|call| call.plan[3] = 33, 12);
@@ -267,7 +269,7 @@ fn other_lengths() {
     let mut trial = Trial::new();
     let mut rng = Rng::new(11);
     let good = read(&Reference);
-    let changes: [fn(&mut Guarded<u32>); 3] = [|_| {}, |plan| plan.fill(0), |plan| plan[0] = 275];
+    let changes: [fn(&mut Guarded<u32>); 3] = [|_| {}, |plan| plan.fill(0), |plan| plan[0] = 375];
     for (change, number) in changes.into_iter().zip([0, 12, 12]) {
         for plan in [0, 1, 91, 92, 93, 184] {
             for scripts in [0, 1, 256, 2_047, 2_048, 2_049, 4_096] {

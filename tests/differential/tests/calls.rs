@@ -48,6 +48,7 @@ fn trials(test: &str, count: u64, mut each: impl FnMut(&mut Trial, &mut Rng)) ->
         };
         each(&mut trial, &mut rng);
     }
+    tally.print(test);
     tally
 }
 

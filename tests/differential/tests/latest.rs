@@ -1,5 +1,6 @@
 //! The latest end of a domain: known ones, random ones, refused ones, scripts that are
-//! as late as was told, and windows that are no later. Document 02, E6.
+//! as late as was told, and windows that are no later. Document 02, E6, with the touch of
+//! its E9.
 
 use pirkvezo_differential::engine::{
     lateness_finder_under_test, under_test, Engine, LatenessFinder, Reference, ANSWER, PLAN, SCRIPT,
@@ -7,8 +8,8 @@ use pirkvezo_differential::engine::{
 use pirkvezo_differential::generate::bounds::spoil_plan;
 use pirkvezo_differential::generate::late_scripts::late_script;
 use pirkvezo_differential::generate::latest::{
-    disturb_lengths, fill, other_domain, random_latest_call, set_lengths, spoil_window,
-    told_length, KnownLatest,
+    disturb_lengths, fill, known_ticks, other_domain, random_latest_call, set_lengths,
+    spoil_window, told_length, KnownLatest,
 };
 use pirkvezo_differential::generate::sketch::{Member, Sketch};
 use pirkvezo_differential::generate::stores::random_store;
@@ -81,7 +82,7 @@ impl Trial {
 /// Domains 0 and 1 with colours 0 to 13 and 14, and a right to send from one to the
 /// other; then windows of both, one of them of no told length.
 const TEXT: &str = "\
-(pad 276)
+(pad 376)
 (run 2)
 (domain 0 (share 966) (may 1))
 (domain 1 (share 34) (may))
@@ -117,26 +118,65 @@ fn assert_ticks(change: impl Fn(&mut LatestCall), ticks: u64) {
 
 #[test]
 fn fixed_answers() {
-    // The papers' own figure.
-    assert_ticks(|_| {}, 260);
-    // Domain 1 with a window of a told length; and its right to receive taken away.
+    // The papers' own figure, with the touch: domain 0 has the run's first window.
+    assert_ticks(|_| {}, 212 + 10 + 38 + 100);
+    assert_ticks(|_| {}, 360);
+    // Domain 1 with a window of a told length, which is not the run's first; and its right
+    // to receive taken away.
     let second = |call: &mut LatestCall| (call.domain, call.plan[53]) = (1, 4_000);
-    assert_ticks(second, 232);
+    assert_ticks(second, 199 + 10 + 18 + 100);
     let bare = |call: &mut LatestCall| {
         second(call);
         call.plan[12] = 0;
     };
-    assert_ticks(bare, 224);
-    assert_ticks(|call| call.plan[12] = 0, 248);
+    assert_ticks(bare, 199 + 9 + 16 + 100);
+    assert_ticks(|call| call.plan[12] = 0, 199 + 9 + 40 + 100);
     // A right to receive is as good as one to send.
     let received = |call: &mut LatestCall| call.plan[12..14].copy_from_slice(&[0, 1]);
-    assert_ticks(received, 260);
+    assert_ticks(received, 360);
     // Neither pad nor run nor the lengths matter.
     let wide = |call: &mut LatestCall| {
         call.plan[..2].copy_from_slice(&[1_000_000, 1_000]);
         call.plan[52] = 12_345;
     };
-    assert_ticks(wide, 260);
+    assert_ticks(wide, 360);
+}
+
+/// Whose the run's first window is does matter, for a domain with a right. Which of its
+/// windows is the run's last does not: that one's switch makes its touch too.
+#[test]
+fn fixed_answers_by_the_runs_first_window() {
+    let led_by_second = |call: &mut LatestCall| call.plan[20..22].copy_from_slice(&[1, 0]);
+    let lengths = |call: &mut LatestCall| call.plan[52..55].fill(4_000);
+    let behind = |call: &mut LatestCall| {
+        lengths(call);
+        led_by_second(call);
+    };
+    assert_ticks(behind, 199 + 10 + 40 + 100);
+    let leading = |call: &mut LatestCall| {
+        behind(call);
+        call.domain = 1;
+    };
+    assert_ticks(leading, 204 + 10 + 18 + 100);
+    // A right in each direction is two boxes, of which the first window uses one.
+    let two = |call: &mut LatestCall| {
+        behind(call);
+        call.plan[13] = 1;
+    };
+    assert_ticks(two, 199 + 11 + 40 + 100);
+    let two_leading = |call: &mut LatestCall| {
+        lengths(call);
+        call.plan[13] = 1;
+    };
+    assert_ticks(two_leading, 360);
+    // The run's only window.
+    let only = |call: &mut LatestCall| {
+        call.plan[1] = 1;
+        call.plan[3] = 1;
+        call.plan[21..23].fill(0);
+        call.plan[53..55].fill(0);
+    };
+    assert_ticks(only, 360);
 }
 
 #[test]
@@ -154,8 +194,11 @@ fn fixed_refusals() {
         assert_told(|call| call.plan.set_length(length), [11, 0, 0, 0]);
     }
     // 12 before 18.
-    let impossible = |call: &mut LatestCall| (call.plan[0], call.domain) = (275, 9);
+    let impossible = |call: &mut LatestCall| (call.plan[0], call.domain) = (375, 9);
     assert_told(impossible, [12, 0, 0, 0]);
+    for pad in [276, 375] {
+        assert_told(|call| call.plan[0] = pad, [12, 0, 0, 0]);
+    }
     assert_told(|call| call.plan.fill(0), [12, 0, 0, 0]);
     assert_told(|call| call.plan[1] = 1_001, [12, 0, 0, 0]);
     assert_told(|call| call.plan[3] = 33, [12, 0, 0, 0]);
@@ -182,48 +225,58 @@ fn known_answers() {
 }
 
 /// A plan of domains with these numbers of colours and these recipients, a window of
-/// 4,000 ticks for each.
-fn plan_of(domains: &[(u32, Vec<u32>)]) -> [u32; PLAN] {
+/// 4,000 ticks for each, that of one domain in front of all others.
+fn plan_of(domains: &[(u32, Vec<u32>)], first: u32) -> [u32; PLAN] {
     let members = domains.iter().map(|(colours, may)| Member {
         share: colours * 200 / 3,
         may: may.clone(),
         script: Vec::new(),
     });
-    let sketch = Sketch {
-        pad: 276,
+    let mut sketch = Sketch {
+        pad: 376,
         run: 1,
         members: members.collect(),
         windows: (0..domains.len() as u32).map(|d| (d, 4_000)).collect(),
     };
+    sketch.windows.rotate_left(first as usize);
     sketch.flat()
 }
 
 /// A domain with so many colours from this one on, beside one of the colours before
-/// it or, where there are none, of a colour behind it. It may send to that one or not.
-/// None where it should and has all colours for itself.
-fn span_of_colours(first: u32, holding: u32, may_send: bool) -> Option<LatestCall> {
+/// it or, where there are none, of a colour behind it. It may send to that one or not, and
+/// has the run's first window or not. None where there should be another domain and it has
+/// all colours for itself.
+fn span_of_colours(first: u32, holding: u32, may_send: bool, leads: bool) -> Option<LatestCall> {
     let may = |to: u32| if may_send { vec![to] } else { vec![] };
     let (domains, domain) = match (first, holding) {
-        (0, 15) if may_send => return None,
+        (0, 15) if may_send || !leads => return None,
         (0, 15) => (vec![(15, vec![])], 0),
         (0, _) => (vec![(holding, may(1)), (1, vec![])], 0),
         _ => (vec![(first, vec![]), (holding, may(0))], 1),
     };
-    Some(LatestCall::new(&plan_of(&domains), domain))
+    let leader = if leads { domain } else { 1 - domain };
+    Some(LatestCall::new(&plan_of(&domains, leader), domain))
 }
 
-/// Every first colour with every number of colours, with a right and without.
+/// Every first colour with every number of colours, with a right and without, in the run's
+/// first window and behind it.
 #[test]
 fn every_span_of_colours() {
     let mut trial = Trial::new();
     for first in 0..15 {
         for holding in 1..=15 - first {
-            let bare = 216 + 8 * u64::from(holding.min(4));
+            let bare = 316 + 8 * u64::from(holding.min(4));
             let meets = (first..first + holding).any(|colour| colour % 4 == 3);
-            let with_right = bare + if meets { 12 } else { 8 };
-            for (may_send, ticks) in [(false, bare), (true, with_right)] {
-                if let Some(call) = span_of_colours(first, holding, may_send) {
-                    let context = format!("{holding} colours from {first} on");
+            // One box: a line more in the kernel's sets, and dirty if no own line is there.
+            let [leading, behind] = if meets { [12, 1] } else { [8, 3] };
+            for (may_send, leads, ticks) in [
+                (false, true, bare),
+                (false, false, bare),
+                (true, true, bare + leading),
+                (true, false, bare + behind),
+            ] {
+                if let Some(call) = span_of_colours(first, holding, may_send, leads) {
+                    let context = format!("{holding} colours from {first} on, {leads}");
                     trial.answer(&call, [0, 0, ticks, 0], &context);
                 }
             }
@@ -232,7 +285,8 @@ fn every_span_of_colours() {
     trial.finish("every span of colours", &[0]);
 }
 
-/// Every number of boxes to send through with every number to receive through.
+/// Every number of boxes to send through with every number to receive through. They count
+/// up to the fourth where the domain has not the run's first window, whoever has it.
 #[test]
 fn every_number_of_boxes() {
     let mut trial = Trial::new();
@@ -241,9 +295,14 @@ fn every_number_of_boxes() {
             let may = |other| if other <= received { vec![0] } else { vec![] };
             let mut domains = vec![(5, (1..=sent).collect())];
             domains.extend((1..8).map(|other| (1, may(other))));
-            let ticks = if sent + received > 0 { 260 } else { 248 };
-            let call = LatestCall::new(&plan_of(&domains), 0);
-            trial.answer(&call, [0, 0, ticks, 0], &format!("{sent} and {received}"));
+            let boxes = u64::from(sent + received);
+            let leading = if boxes > 0 { 360 } else { 348 };
+            let behind = 348 + boxes.min(4);
+            for (first, ticks) in [(0, leading), (1, behind), (7, behind)] {
+                let call = LatestCall::new(&plan_of(&domains, first), 0);
+                let context = format!("{sent} and {received}, {first}");
+                trial.answer(&call, [0, 0, ticks, 0], &context);
+            }
         }
     }
     trial.finish("every number of boxes", &[0]);
@@ -265,7 +324,7 @@ fn limits_of_windows() {
             let due = if refused {
                 [18, 0, 0, 0]
             } else {
-                [0, 0, 260, 0]
+                [0, 0, 360, 0]
             };
             trial.answer(&call, due, &length);
         }
@@ -362,6 +421,8 @@ fn short_known(rng: &mut Rng) -> KnownLatest {
     known.sketch.windows.insert(place, first);
     known.sketch.run = rng.within(1..=3);
     known.call.plan = Guarded::new(&known.sketch.flat());
+    // Another domain may have the run's first window now.
+    known.ticks = known_ticks(&known.sketch, known.call.domain as usize);
     known
 }
 
@@ -451,11 +512,12 @@ fn no_window_is_later() {
 }
 
 /// Windows of one domain alone, so many and so long that its script goes on from one
-/// to the next.
+/// to the next. All but the run's first are no later than where another domain has that
+/// one.
 #[test]
 fn no_later_window_is_later() {
     let trial = Trial::new();
-    let mut reached = [0; 2];
+    let mut reached = [0; 3];
     for (case, mut rng) in cases("later windows", 1_000) {
         let mut known = short_known(&mut rng);
         let domain = known.call.domain;
@@ -463,15 +525,25 @@ fn no_later_window_is_later() {
         known.sketch.windows = (0..6).map(|_| window()).collect();
         let plan = known.sketch.flat();
         let Told { ticks, script } = told(REFERENCE, &LatestCall::new(&plan, domain), &case);
+        let later = match known.sketch.members.len() as u32 {
+            1 => ticks,
+            count => {
+                let mut behind = known.sketch.clone();
+                behind.windows.insert(0, ((domain + 1) % count, 1));
+                told(REFERENCE, &LatestCall::new(&behind.flat(), domain), &case).ticks
+            }
+        };
         let script = late_script(&mut rng, &plan, domain, &script);
         let mut store = vec![0; 8 * SCRIPT];
         store[SCRIPT * domain as usize..][..SCRIPT].copy_from_slice(&script);
         let world = World::new(&plan, &store, 8 * SCRIPT * known.sketch.members.len());
         let windows = windows_of(&*trial.engine, &world, &case);
-        assert!(windows.iter().all(|window| window.late <= ticks), "{case}");
-        let is_reached = |window: &Finished| window.late == ticks;
-        reached[0] += u32::from(is_reached(&windows[0]));
-        reached[1] += windows[1..].iter().filter(|it| is_reached(it)).count() as u32;
+        let (first, others) = windows.split_first().expect("windows");
+        assert!(first.late <= ticks && later <= ticks, "{case}");
+        assert!(others.iter().all(|window| window.late <= later), "{case}");
+        reached[0] += u32::from(first.late == ticks);
+        reached[1] += others.iter().filter(|it| it.late == later).count() as u32;
+        reached[2] += u32::from(later < ticks && others.iter().any(|it| it.late == later));
     }
     assert!(reached.iter().all(|count| *count > 0), "{reached:?}");
 }

@@ -186,7 +186,7 @@ fn meetings() -> Vec<Meeting> {
 
 /// Domain 0, which runs, has the colours 0 to 13 and may send to domain 1.
 fn two_domains(engine: &dyn Engine) -> World {
-    let text = "(pad 276)\n(run 1)\n(domain 0(share 966)(may 1))\n(domain 1(share 34)(may))\n\
+    let text = "(pad 376)\n(run 1)\n(domain 0(share 966)(may 1))\n(domain 1(share 34)(may))\n\
                 (window 0(length 400))\n";
     let mut world = World::blank(64);
     for call in [Call::Read(text.as_bytes().to_vec()), Call::FreshStart] {

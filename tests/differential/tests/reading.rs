@@ -1,5 +1,5 @@
 //! Readings of texts: good ones, ones with a known fault or several, mutated ones
-//! and random bytes. Document 01, "The plan text", and document 02, E2.
+//! and random bytes. Document 01, "The plan text", and document 02, E2 and E9.
 
 use pirkvezo_differential::compare::Pair;
 use pirkvezo_differential::engine::{under_test, Reference};
@@ -54,6 +54,7 @@ fn good_texts_give_what_they_say() {
         assert_eq!(world.plan[..], sketch.flat(), "{case}");
         assert_eq!(world.scripts[..], sketch.store(), "{case}");
     }
+    tally.print("good texts");
 }
 
 #[test]
@@ -70,6 +71,29 @@ fn each_fault_has_its_number() {
         );
     }
     tally.assert_met("read", &[1, 2, 3, 4, 5, 6, 7, 8, 9, 10, 16]);
+    tally.print("faulty texts");
+}
+
+/// Every pad up to some way above the least and around the greatest, with and without
+/// leading zeros. What is too short or too long is 3, at the number's first digit.
+#[test]
+fn pads_at_their_limits() {
+    let mut tally = Tally::default();
+    let rest = "(run 1)\n(domain 0(share 34)(may))\n(window 0(length 1))";
+    for pad in (0..=500).chain(999_990..=1_000_010) {
+        for text in [format!("{pad}"), format!("{pad:010}")] {
+            let text = format!("{rest}\n(pad {text})");
+            let (number, world) = read(text.as_bytes(), &mut tally, &pad);
+            let due = match (376..=1_000_000).contains(&pad) {
+                true => [0, 0],
+                false => [3, rest.len() as u64 + 6],
+            };
+            assert_eq!(world.answer[..2], due, "{pad}");
+            assert_eq!(world.plan[0], if number == 0 { pad } else { 0 }, "{pad}");
+        }
+    }
+    tally.assert_met("read", &[0, 3]);
+    tally.print("pads at their limits");
 }
 
 /// Of all that only the whole text shows, what comes first in the order is told.
@@ -91,6 +115,7 @@ fn several_faults_at_once() {
     }
     tally.assert_met("read", &[0, 4, 5, 6, 7, 9, 16]);
     assert!(totals.into_iter().eq(16..=19), "a total was not met");
+    tally.print("several faults");
 }
 
 #[test]
@@ -105,6 +130,7 @@ fn mutated_texts() {
         }
     }
     tally.assert_met("read", &[0, 1, 2, 3, 4, 5, 6, 7, 8, 9, 10, 16]);
+    tally.print("mutated texts");
 }
 
 fn mutated(rng: &mut Rng) -> Vec<u8> {
@@ -130,12 +156,13 @@ fn random_bytes() {
     for (case, mut rng) in cases("random bytes", 30_000) {
         read(&random_text(&mut rng), &mut tally, &case);
     }
+    tally.print("random bytes");
 }
 
 /// Every beginning of a text, and every text that is one byte away from it.
 #[test]
 fn neighbours_of_one_text() {
-    let text = b"(pad 276)\n(domain 0 (share 400) (may 1))\n(domain 1(share 300)(may 0))\n\
+    let text = b"(pad 376)\n(domain 0 (share 400) (may 1))\n(domain 1(share 300)(may 0))\n\
                  ( window 0 (length 400))\n\n(run 1)\n(op 0 (write 3))\n(op 1 (send 0 65535))\n\
                  (op 1 (compute 200))\n(op 0 (receive 1))\n";
     let mut tally = Tally::default();
@@ -155,6 +182,7 @@ fn neighbours_of_one_text() {
         }
     }
     tally.assert_met("read", &[0, 2, 3, 4, 5, 6, 7, 8, 16]);
+    tally.print("neighbours of one text");
 }
 
 /// Stores, plans and answers of another length.

@@ -1,13 +1,13 @@
 //! Fixed calls with the answers that document 01 settles, asked of every engine
 //! by itself: "Settled numbers" and "The plan text", with the shares of document
-//! 02, E2, with lines that go back through L2 by its E7, and with one domain's log kept
-//! by its E8.
+//! 02, E2, with lines that go back through L2 by its E7, with one domain's log kept by its
+//! E8, and with the line that a switch touches by its E9.
 
 use pirkvezo_differential::engine::{under_test, Engine, Kept, Reference};
 use pirkvezo_differential::world::{Call, World};
 
 const WORKED: &str = "\
-(pad 276)
+(pad 376)
 (domain 0 (share 400) (may 1))
 (domain 1 (share 300) (may))
 (window 0 (length 400))
@@ -47,7 +47,8 @@ fn worked_records() -> [Vec<u8>; 2] {
         [1, 0, 3, 0, 101, 0, 0, 0],
         [4, 0, 1, 0, 50, 1, 0, 0],
     ];
-    let second = [[5, 0, 77, 0, 113, 3, 0, 0], [3, 0, 100, 0, 213, 3, 0, 0]];
+    // 882 and 982: the second window starts at 776 with line 60 in L1.
+    let second = [[5, 0, 77, 0, 114, 3, 0, 0], [3, 0, 100, 0, 214, 3, 0, 0]];
     [first.concat(), second.concat()]
 }
 
@@ -55,11 +56,11 @@ fn worked_records() -> [Vec<u8>; 2] {
 fn the_worked_run() {
     for engine in engines() {
         let mut world = worked(&*engine);
-        assert_eq!(world.plan[..6], [276, 1, 2, 2, 400, 300]);
+        assert_eq!(world.plan[..6], [376, 1, 2, 2, 400, 300]);
         assert_eq!(world.plan[84..86], [0b111111, 0b11111000000]);
         let answer = ask(&*engine, &mut world, Call::Run(u64::MAX));
         assert_eq!(answer, [0, 0, 7, 1]);
-        assert_eq!(world.state[..4], [2, 1_252, 3, 2]);
+        assert_eq!(world.state[..4], [2, 1_452, 3, 2]);
         let first = ask(&*engine, &mut world, Call::Log(0));
         let second = ask(&*engine, &mut world, Call::Log(1));
         assert_eq!((first, second), ([0, 0, 0, 24], [0, 0, 8_192, 16]));
@@ -85,28 +86,30 @@ fn limits_of_a_run() {
 
 #[test]
 fn readings() {
-    let opening = "(pad 276)\n(run 1)\n(domain 0(share 400)(may))\n(window 0(length 400))\n";
+    let opening = "(pad 376)\n(run 1)\n(domain 0(share 400)(may))\n(window 0(length 400))\n";
     let after = |rest: &str| format!("{opening}{rest}");
     let at = opening.len() as u64;
     let texts = [
         (String::new(), 5, 0),
-        ("pad(276".into(), 2, 0),
-        ("(pad(276))".into(), 2, 4),
-        ("(pad 275)".into(), 3, 5),
-        ("(pad 276)(run 1)".into(), 2, 9),
-        ("(pad 276)\n(pad 276) x".into(), 2, 20),
-        ("(pad 276)\n(pad 5)".into(), 3, 15),
-        ("(pad 276)\n(pad 276)".into(), 5, 10),
-        ("(12345678901 276)".into(), 2, 1),
+        ("pad(376".into(), 2, 0),
+        ("(pad(376))".into(), 2, 4),
+        ("(pad 276)".into(), 3, 5),
+        ("(pad 375)".into(), 3, 5),
+        ("(pad 376)".into(), 5, 9),
+        ("(pad 376)(run 1)".into(), 2, 9),
+        ("(pad 376)\n(pad 376) x".into(), 2, 20),
+        ("(pad 376)\n(pad 5)".into(), 3, 15),
+        ("(pad 376)\n(pad 376)".into(), 5, 10),
+        ("(12345678901 376)".into(), 2, 1),
         ("(pad 12345678901)".into(), 3, 5),
-        ("(pad 00000000276)".into(), 3, 5),
-        ("(pad 276 12345678901)".into(), 2, 9),
-        ("(pad 276".into(), 2, 8),
-        ("(pad 276  \n".into(), 2, 10),
-        ("(pad 276\r)".into(), 2, 5),
+        ("(pad 00000000376)".into(), 3, 5),
+        ("(pad 376 12345678901)".into(), 2, 9),
+        ("(pad 376".into(), 2, 8),
+        ("(pad 376  \n".into(), 2, 10),
+        ("(pad 376\r)".into(), 2, 5),
         ("(pad 1a)".into(), 2, 5),
         ("(pad -1)".into(), 2, 5),
-        ("(Pad 276)".into(), 2, 1),
+        ("(Pad 376)".into(), 2, 1),
         ("(domain 0 (share 400) (may 1 1))".into(), 8, 29),
         ("(domain 0 (share 400) (may 9 9))".into(), 3, 27),
         ("(domain 0 (share 400) (may 0 9))".into(), 8, 27),
@@ -125,7 +128,7 @@ fn readings() {
         (opening.replace("400)(may)", "34)(may)"), 0, 0),
         (opening.replace("(may)", "(may 1)"), 4, 43),
         (after("(domain 1(share 601)(may))"), 7, 1_001),
-        (opening.replace("(pad 276)", ""), 5, at - 9),
+        (opening.replace("(pad 376)", ""), 5, at - 9),
         (" ".repeat(32_768), 5, 32_768),
         (" ".repeat(32_769), 1, 0),
         (format!("{opening:32768}"), 0, 0),
@@ -142,7 +145,7 @@ fn readings() {
 
 /// A text of these shares that is good but for them.
 fn divided(shares: &[u32]) -> Vec<u8> {
-    let mut text = String::from("(pad 276)\n(run 1)\n");
+    let mut text = String::from("(pad 376)\n(run 1)\n");
     for (own, share) in shares.iter().enumerate() {
         text += &format!("(domain {own}(share {share})(may))\n");
     }
@@ -213,6 +216,8 @@ fn refusals_of_a_step() {
         refused(&|world| world.plan.set_length(93), 11);
         refused(&|world| world.state.set_length(17), 11);
         refused(&|world| world.plan.fill(0), 12);
+        refused(&|world| world.plan[0] = 276, 12);
+        refused(&|world| world.plan[0] = 375, 12);
         refused(&|world| world.plan[84] |= 1 << 16, 12);
         refused(&|world| world.plan[91] = 1, 12);
         refused(&|world| world.plan[85] = 0b1111000000, 12);
@@ -303,7 +308,7 @@ fn the_worked_run_kept() {
             assert_eq!(ask(&*engine, &mut world, run(6)), [0, 0, 6, 0]);
             assert_eq!(ask(&*engine, &mut world, run(u64::MAX)), [0, 0, 1, 1]);
             assert_eq!(ask(&*engine, &mut world, run(1)), [0, 0, 0, 1]);
-            assert_eq!(world.state[..4], [2, 1_252, 3, 2]);
+            assert_eq!(world.state[..4], [2, 1_452, 3, 2]);
             assert_eq!(world.state[10..12], [3, 2]);
             let (new, old) = world.log.split_at(seen.len());
             assert_eq!(new, seen, "{}", engine.name());
@@ -317,19 +322,19 @@ fn the_worked_run_kept() {
 fn an_idle_domain_beside_the_kept_one() {
     for engine in engines() {
         let [first, _] = worked_records();
-        let second = [[6, 0, 0, 0, 113, 3, 0, 0], [3, 0, 100, 0, 213, 3, 0, 0]];
+        let second = [[6, 0, 0, 0, 114, 3, 0, 0], [3, 0, 100, 0, 214, 3, 0, 0]];
         for (domain, seen) in [(0, &first[..16]), (1, second.as_flattened())] {
             let mut world = worked_part(&*engine, 2);
             let run = Call::RunKept(Kept { domain, part: 2 }, u64::MAX);
             assert_eq!(ask(&*engine, &mut world, run), [0, 0, 6, 1]);
-            assert_eq!(world.state[..4], [2, 1_252, 2, 2]);
+            assert_eq!(world.state[..4], [2, 1_452, 2, 2]);
             assert_eq!(world.state[10..12], [2, 2]);
             assert_eq!(world.log[..], *seen, "{}", engine.name());
         }
         let mut world = worked_part(&*engine, 0);
         let run = Call::RunKept(Kept { domain: 1, part: 0 }, u64::MAX);
         assert_eq!(ask(&*engine, &mut world, run), [0, 0, 2, 1]);
-        assert_eq!(world.state[..4], [2, 1_252, 0, 0]);
+        assert_eq!(world.state[..4], [2, 1_452, 0, 0]);
     }
 }
 
@@ -441,7 +446,7 @@ fn table(near: &[(usize, u16)], sets: &[(usize, [u16; 4])]) -> [u16; 272] {
 
 /// Domain 0 has the colours 0 to 13 and may send to domain 1.
 fn wide(engine: &dyn Engine) -> World {
-    let text = "(pad 276)\n(run 1)\n(domain 0(share 966)(may 1))\n(domain 1(share 34)(may))\n\
+    let text = "(pad 376)\n(run 1)\n(domain 0(share 966)(may 1))\n(domain 1(share 34)(may))\n\
                 (window 0(length 4000))\n";
     let mut world = World::blank(16);
     let text = text.as_bytes().to_vec();
@@ -465,18 +470,143 @@ fn lines_put_out() {
     }
 }
 
-/// A switch empties L1 and the kernel's sets, and writes nothing to the others.
+/// What a switch finds in L1, in a domain's own sets and in the kernel's.
+const NEAR: [(usize, u16); 3] = [(0, 32_769), (1, 32_786), (13, 32_894)];
+const OWN: [(usize, [u16; 4]); 2] = [(0, [65, 1, 0, 0]), (17, [82, 146, 210, 274])];
+const KERNEL: [(usize, [u16; 4]); 2] = [(60, [61, 0, 0, 0]), (61, [62, 126, 0, 0])];
+
+/// A switch empties L1 and the kernel's sets, and writes nothing to the others. This one is
+/// the run's last.
 #[test]
 fn a_flush_puts_nothing_out() {
     for engine in engines() {
         let mut world = wide(&*engine);
-        let near = [(0, 32_769), (1, 32_786), (13, 32_894)];
-        let own = [(0, [65, 1, 0, 0]), (17, [82, 146, 210, 274])];
-        let kernel = [(60, [61, 0, 0, 0]), (61, [62, 126, 0, 0])];
-        let lent = table(&near, &[own, kernel].concat());
+        let lent = table(&NEAR, &[OWN, KERNEL].concat());
         world.cache[..].copy_from_slice(&lent);
         assert_eq!(ask(&*engine, &mut world, Call::Step), [0, 0, 1, 1]);
-        assert_eq!(world.state[..2], [1, 4_276]);
-        assert_eq!(world.cache[..], table(&[], &own), "{}", engine.name());
+        assert_eq!(world.state[..2], [1, 4_376]);
+        assert_eq!(world.cache[..], table(&[], &OWN), "{}", engine.name());
+    }
+}
+
+/// The caches that the next window finds.
+fn touched(own: &[(usize, [u16; 4])]) -> [u16; 272] {
+    table(&[(12, 61)], &[own, &[(60, [61, 0, 0, 0])]].concat())
+}
+
+/// Any other switch leaves line 60, which neither is dirty nor has others behind it, also
+/// where the window is the last of its pass.
+#[test]
+fn a_switch_leaves_line_60() {
+    for engine in engines() {
+        let mut world = wide(&*engine);
+        world.plan[1] = 3;
+        let lent = table(&NEAR, &[OWN, KERNEL].concat());
+        world.cache[..].copy_from_slice(&lent);
+        for completed in [1, 2] {
+            assert_eq!(ask(&*engine, &mut world, Call::Step), [0, 0, 1, 0]);
+            assert_eq!(world.state[..2], [completed, 4_376 * completed]);
+            assert_eq!(world.cache[..], touched(&OWN), "{}", engine.name());
+        }
+        assert_eq!(ask(&*engine, &mut world, Call::Step), [0, 0, 1, 1]);
+        assert_eq!(world.state[..2], [3, 3 * 4_376]);
+        assert_eq!(world.cache[..], table(&[], &OWN), "{}", engine.name());
+        // The run's first window of another run starts without it.
+        assert_eq!(ask(&*engine, &mut world, Call::FreshStart), [0; 4]);
+        assert_eq!(world.cache[..], [0; 272], "{}", engine.name());
+    }
+}
+
+/// A dirty line 60, behind others in its set, is clean and alone behind the switch.
+#[test]
+fn a_switch_does_not_keep_line_60() {
+    for engine in engines() {
+        let mut world = wide(&*engine);
+        world.plan[1] = 2;
+        let lent = table(&[(12, 32_768 + 61)], &[(60, [125, 189, 61, 253])]);
+        world.cache[..].copy_from_slice(&lent);
+        assert_eq!(ask(&*engine, &mut world, Call::Step), [0, 0, 1, 0]);
+        assert_eq!(world.cache[..], touched(&[]), "{}", engine.name());
+    }
+}
+
+/// Messages in a window behind another: line 60 is in L1, or in L2 where a write has put it
+/// out.
+#[test]
+fn a_message_behind_a_switch() {
+    for engine in engines() {
+        let mut world = wide(&*engine);
+        world.plan[1] = 2;
+        world.log.set_length(3 * 2 * 8);
+        assert_eq!(ask(&*engine, &mut world, Call::Step), [0, 0, 1, 0]);
+        let send = SEND | 1 << 16 | 5;
+        let write = 2 << 20 | 12;
+        world.scripts[..3].copy_from_slice(&[send, write, send]);
+        let [first, second] = [5 + 1 + 100, 100];
+        for ticks in [first, second, 5 + (10 + 4) + 1] {
+            let before = world.state[1];
+            assert_eq!(ask(&*engine, &mut world, Call::Step), [0, 0, 1, 0]);
+            assert_eq!(world.state[1], before + ticks, "{}", engine.name());
+        }
+    }
+}
+
+/// Sixteen dirty lines, sixteen lines in the kernel's sets, and an op that has gone on for
+/// 212 ticks: 24 + 40 + 100 more, and the least pad is over. The next window starts when the
+/// plan says, and the run ends then.
+#[test]
+fn the_longest_switch() {
+    for engine in engines() {
+        for run in [1, 2, 1_000] {
+            let mut world = wide(&*engine);
+            world.plan[1] = run;
+            for index in 0..16 {
+                world.cache[usize::from(index)] = 32_768 + index + 1;
+            }
+            for set in 60..64 {
+                let ways = [0, 64, 128, 192].map(|above| set as u16 + above + 1);
+                world.cache[16 + 4 * set..][..4].copy_from_slice(&ways);
+            }
+            for completed in [0, u64::from(run) - 1] {
+                let mut world = world.clone();
+                let end = 4_376 * completed + 4_000;
+                world.state[..2].copy_from_slice(&[completed, end + 212]);
+                let ended = u64::from(completed + 1 == u64::from(run));
+                assert_eq!(ask(&*engine, &mut world, Call::Step), [0, 0, 1, ended]);
+                assert_eq!(world.state[..2], [completed + 1, end + 376]);
+                let due = if ended == 1 { [0; 272] } else { touched(&[]) };
+                assert_eq!(world.cache[..], due, "{}", engine.name());
+                // A tick later there is no such state.
+                world.state[..2].copy_from_slice(&[completed, end + 213]);
+                assert_eq!(ask(&*engine, &mut world, Call::Step), [14, 0, 0, 0]);
+            }
+        }
+    }
+}
+
+/// Line 60 in L1 and in its set is no damage while a window runs, dirty or clean, and need
+/// not be there. After the end it is none in L2 alone.
+#[test]
+fn line_60_is_allowed() {
+    for engine in engines() {
+        for completed in [0, 1] {
+            for near in [0, 61, 32_768 + 61] {
+                for far in [[0; 4], [61, 0, 0, 0], [125, 189, 253, 61]] {
+                    let mut world = wide(&*engine);
+                    world.plan[1] = 2;
+                    world.state[..2].copy_from_slice(&[completed, 4_376 * completed]);
+                    let lent = table(&[(12, near)], &[(60, far)]);
+                    world.cache[..].copy_from_slice(&lent);
+                    assert_eq!(ask(&*engine, &mut world, Call::Run(0)), [0; 4]);
+                    assert_eq!(world.cache[..], lent);
+                }
+            }
+        }
+        let mut world = wide(&*engine);
+        world.state[..2].copy_from_slice(&[1, 4_376]);
+        world.cache[16 + 4 * 60] = 61;
+        assert_eq!(ask(&*engine, &mut world, Call::Step), [0, 0, 0, 1]);
+        world.cache[12] = 61;
+        assert_eq!(ask(&*engine, &mut world, Call::Step), [13, 0, 0, 0]);
     }
 }

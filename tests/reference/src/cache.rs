@@ -1,6 +1,6 @@
 //! The two caches: document 01, "The core and its tables", "What an op costs",
 //! the flushes of "Window, switch, run", and refusal 13. What becomes of a dirty line
-//! that is replaced in L1: document 02, E7.
+//! that is replaced in L1: document 02, E7. What a switch touches: document 02, E9.
 
 use crate::colours::Colours;
 use crate::geometry::Line;
@@ -147,6 +147,26 @@ impl<'a> Cache<'a> {
         let dirty = self.l1.iter().filter(|held| **held & DIRTY != 0).count();
         self.l1.fill(0);
         8 + 2 * dirty as u64
+    }
+
+    /// What every switch does to the caches: both flushes, and then a read of the
+    /// kernel entry line, which neither cache holds by then. Gives the ticks.
+    pub fn switch(&mut self) -> u64 {
+        let flushes = self.flush_kernel_sets() + self.flush_l1();
+        flushes + self.access(Line::GATE, Access::Read).ticks
+    }
+
+    /// Takes a line out of both caches, dirty or not; the lines behind it in its L2
+    /// set move up. No ticks pass.
+    pub fn forget(&mut self, line: Line) {
+        if self.near(line.index()).0 == Some(line) {
+            self.l1[line.index()] = 0;
+        }
+        let set = &mut self.l2[line.set()];
+        if let Some(place) = set.iter().position(|held| *held == line.tag()) {
+            set[place..].rotate_left(1);
+            set[WAYS - 1] = 0;
+        }
     }
 
     /// The line that L1 holds at this index, if any, and whether it is dirty.

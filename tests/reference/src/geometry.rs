@@ -5,7 +5,7 @@
 pub struct Line(u16);
 
 impl Line {
-    /// The line that every message looks at first.
+    /// The line that every message looks at first, and that a switch touches.
     pub const GATE: Line = Line(60);
 
     const COUNT: u16 = 4_096;

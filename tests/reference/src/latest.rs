@@ -1,11 +1,11 @@
-//! The latest a domain can finish: document 02, E6.
+//! The latest a domain can finish: document 02, E6, with the touch of its E9.
 
 use crate::limits::{self, OPS};
 use crate::machine::{fresh_start, run_watched, Lent, Manner};
 use crate::op::Op;
 use crate::plan::Plan;
 use crate::refusal::Refusal;
-use crate::search::found_for;
+use crate::search::{found_for, Start};
 use crate::state::State;
 use crate::tenant::Tenant;
 use crate::{cache, mail};
@@ -14,7 +14,7 @@ use crate::{cache, mail};
 #[derive(Clone, Debug, PartialEq, Eq)]
 pub struct Latest {
     /// The most ticks from the end of one of the domain's windows until the switch
-    /// has emptied L1.
+    /// has made its touch.
     pub ticks: u64,
     /// One of the scripts that take so many in the domain's first window, where its
     /// part of the log has room for all of them.
@@ -35,13 +35,27 @@ pub fn latest(plan: &Plan, domain: u32) -> Result<Latest, Refusal> {
     plan.schedule()?;
     let length = first_length(plan, domain).ok_or(Refusal::Latest { domain })?;
     let tenant = Tenant::of(plan, domain as usize);
-    let found = found_for(&tenant);
+    let start = first_start(plan, domain);
+    let found = found_for(&tenant, start);
+    // A domain that has the run's first window can have others, all of which start
+    // behind a switch. A denied message makes the one start of the other, so none of
+    // them is later.
+    let later = found_for(&tenant, Start::Touched);
+    assert!(later.ticks <= found.ticks, "a later window ends later");
     let ops = tenant.ops(&found.moves);
     let (last, before) = ops.split_last().expect("some op is late");
     Ok(Latest {
         ticks: found.ticks,
-        script: stored(&timed(&tenant, before, *last, u64::from(length))),
+        script: stored(&timed(&tenant, start, before, *last, u64::from(length))),
     })
+}
+
+/// How the first of a domain's windows starts.
+fn first_start(plan: &Plan, domain: u32) -> Start {
+    match plan.windows.first() {
+        Some(window) if window.domain == domain => Start::Bare,
+        _ => Start::Touched,
+    }
 }
 
 /// The length of a domain's first window; none where the domain is undeclared, has
@@ -56,9 +70,15 @@ fn first_length(plan: &Plan, domain: u32) -> Option<u32> {
 }
 
 /// These ops with as much computing before the last one that it begins in the last
-/// tick of a domain's first window.
-pub(crate) fn timed(tenant: &Tenant, before: &[Op], last: Op, length: u64) -> Vec<Op> {
-    let mut caches = [0; cache::TABLE];
+/// tick of a domain's first window, which has this start.
+pub(crate) fn timed(
+    tenant: &Tenant,
+    start: Start,
+    before: &[Op],
+    last: Op,
+    length: u64,
+) -> Vec<Op> {
+    let mut caches = start.caches();
     let ops = before.iter();
     let busy: u64 = ops.map(|op| tenant.play(&mut caches, *op).ticks).sum();
     let most = *limits::COMPUTE.end() as u16;
@@ -85,7 +105,7 @@ pub(crate) fn stored(ops: &[Op]) -> [u32; OPS] {
 pub struct Finished {
     /// Whose window it was.
     pub domain: usize,
-    /// The ticks from its end until the switch had emptied L1.
+    /// The ticks from its end until the switch had made its touch.
     pub late: u64,
 }
 
@@ -112,10 +132,10 @@ pub fn finished_windows(
         &mut state,
         lent,
         u64::MAX,
-        |turn, emptied| {
+        |turn, touched| {
             windows.push(Finished {
                 domain: turn.domain,
-                late: emptied - turn.end,
+                late: touched - turn.end,
             });
         },
     )?;

@@ -1,8 +1,8 @@
 //! The reader and the machine of document 01 and, of document 02, the frame maker
 //! (E1), the shares to the nearest colour (E2), the bound of a run's steps (E3), the
 //! plan written back (E4), the latest a domain can finish (E6), the written lines
-//! that go back through L2 (E7) and the run that keeps one domain's log (E8), in plain
-//! Rust.
+//! that go back through L2 (E7), the run that keeps one domain's log (E8) and the line
+//! that a switch touches before it waits (E9), in plain Rust.
 //!
 //! This is a second reading of the papers. It is written from them alone and
 //! shares no code with the proved implementation, so that the two can be held

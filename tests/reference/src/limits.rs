@@ -1,6 +1,7 @@
-//! The limits of the numbers in a plan: document 01, "The plan text". Those of a
-//! frame: document 02, E1. The limit of all colours together: document 02, E2. The
-//! windows of a domain whose latest end is told: document 02, E6.
+//! The limits of the numbers in a plan: document 01, "The plan text", with the least
+//! pad of document 02, E9. Those of a frame: document 02, E1. The limit of all colours
+//! together: document 02, E2. The windows of a domain whose latest end is told:
+//! document 02, E6.
 
 use std::ops::RangeInclusive;
 
@@ -23,7 +24,9 @@ pub const TICKS: u64 = 4_294_967_295;
 /// How far past its window's end the dearest op can carry the clock.
 pub const OVERRUN: u64 = 212;
 
-pub const PAD: RangeInclusive<u32> = 276..=1_000_000;
+/// The least is what the longest switch takes past its window's end: `OVERRUN`, 24 for
+/// kernel's sets that are full, 40 for sixteen dirty lines of L1, 100 for the touch.
+pub const PAD: RangeInclusive<u32> = 376..=1_000_000;
 pub const RUN: RangeInclusive<u32> = 1..=1_000;
 pub const DOMAIN: RangeInclusive<u32> = 0..=7;
 pub const SHARE: RangeInclusive<u32> = 1..=1_000;

@@ -1,7 +1,9 @@
 //! The machine from window to window: document 01, "Window, switch, run". A run that
-//! stores one domain's records alone: document 02, E8.
+//! stores one domain's records alone: document 02, E8. What a switch touches: document
+//! 02, E9.
 
 use crate::cache::{Board, Cache};
+use crate::geometry::Line;
 use crate::journal::{Journal, Keeping, Kept};
 use crate::mail::Mail;
 use crate::plan::Plan;
@@ -106,7 +108,7 @@ pub fn run_kept(
 }
 
 /// Does the same in any manner, and shows each window that it completes, with the
-/// tick at which the window's switch has emptied L1.
+/// tick at which the window's switch has made its touch.
 pub fn run_watched(
     manner: Manner,
     plan: &Plan,
@@ -208,16 +210,17 @@ impl<'a> Machine<'a> {
         done
     }
 
-    /// Gives the tick at which L1 is empty, before the pad.
+    /// Gives the tick at which the touch is made, before the pad.
     fn switch(&mut self, turn: Turn) -> u64 {
         let state = &mut *self.state;
-        state.clock = state.clock.max(turn.end);
-        state.clock += self.cache.flush_kernel_sets();
-        state.clock += self.cache.flush_l1();
-        let emptied = state.clock;
+        let touched = state.clock.max(turn.end) + self.cache.switch();
         state.completed += 1;
-        state.clock = emptied.max(turn.end + u64::from(self.plan.pad));
+        state.clock = touched.max(turn.end + u64::from(self.plan.pad));
         self.turn = self.schedule.following(turn, state.completed);
-        emptied
+        if self.turn.is_none() {
+            // Nobody returns after the last window, and L1 is empty after the end.
+            self.cache.forget(Line::GATE);
+        }
+        touched
     }
 }

@@ -1,13 +1,12 @@
 //! How late a window can end, found by going through all that the caches can hold:
-//! document 02, E6.
+//! document 02, E6, with the touch of its E9.
 //!
-//! At a window's start L1 and the kernel's L2 sets are empty, by a fresh start or by
-//! the switch before, whatever other domains did. From there every op of the domain
-//! is tried on the machine's own caches, and again on whatever that leaves, until
-//! nothing new comes up. A dirty line that is put out is written back (E7) to where it
-//! stands already: its own access left it in front of its L2 set, and any other line of
-//! that set has its L1 index and so would have put it out. Three things are left out,
-//! and none of them is ever later:
+//! What L1 and the kernel's L2 sets hold at a window's start is its [`Start`], whatever
+//! other domains did. From there every op of the domain is tried on the machine's own
+//! caches, and again on whatever that leaves, until nothing new comes up. A dirty line
+//! that is put out is written back (E7) to where it stands already: its own access left
+//! it in front of its L2 set, and any other line of that set has its L1 index and so
+//! would have put it out. Three things are left out, and none of them is ever later:
 //!
 //! - **Ops.** Of the accesses to one L1 index only those to a line that neither cache
 //!   holds are tried. Any other takes fewer ticks, and leaves the same or changes
@@ -22,36 +21,55 @@
 //! - **Time.** Each op is taken to be its window's last and to begin in the last tick.
 //!   Had it begun earlier, it would be done earlier, and one that is done before the
 //!   window's end is no later than a compute behind it. There is time for what is
-//!   found: at most [`MOST_MOVES`] moves of 213 ticks each are over before the last
-//!   tick of the shortest window, and computing takes up the rest, with at most 100
-//!   ops in the longest window.
+//!   found: the moves before the last one are over before the last tick of the
+//!   shortest window, which is looked at, and computing takes up the rest, with at
+//!   most 100 ops in the longest window.
 
-use crate::cache::{Cache, L1, TABLE};
+use crate::cache::{Access, Cache, L1, TABLE};
 use crate::geometry::Line;
+use crate::limits;
 use crate::tenant::{Move, Reach, Tenant};
 use std::collections::{BTreeMap, BTreeSet};
 use std::sync::Mutex;
 
-/// The most moves before the last one that fit into the shortest window.
-const MOST_MOVES: usize = 18;
+/// What L1 and the kernel's L2 sets hold when a window starts.
+#[derive(Clone, Copy, Debug, PartialEq, Eq, PartialOrd, Ord)]
+pub enum Start {
+    /// Nothing: the run's first window, behind a fresh start.
+    Bare,
+    /// The kernel entry line alone, in both: any other window, behind a switch.
+    Touched,
+}
+
+impl Start {
+    /// Caches that hold just that.
+    pub(crate) fn caches(self) -> [u16; TABLE] {
+        let mut caches = [0; TABLE];
+        if self == Start::Touched {
+            let mut cache = Cache::over(&mut caches).expect("a cache table");
+            cache.access(Line::GATE, Access::Read);
+        }
+        caches
+    }
+}
 
 /// The latest end of a window, and how it comes about.
 #[derive(Clone, Debug, PartialEq, Eq)]
 pub struct Found {
-    /// The ticks from the window's end until L1 is empty.
+    /// The ticks from the window's end until the switch has made its touch.
     pub ticks: u64,
     /// The moves of the window, of which the last begins in its last tick. They are
     /// as few as can be.
     pub moves: Vec<Move>,
 }
 
-/// What is found for a domain. Domains of the same reach have the same moves, so
-/// each reach is gone through once.
-pub fn found_for(tenant: &Tenant) -> Found {
-    static KNOWN: Mutex<BTreeMap<Reach, Found>> = Mutex::new(BTreeMap::new());
+/// What is found for a domain's windows of one start. Domains of the same reach have
+/// the same moves, so each reach is gone through once.
+pub fn found_for(tenant: &Tenant, start: Start) -> Found {
+    static KNOWN: Mutex<BTreeMap<(Reach, Start), Found>> = Mutex::new(BTreeMap::new());
     let mut known = KNOWN.lock().expect("no search has failed");
-    let found = known.entry(tenant.reach());
-    found.or_insert_with(|| search(tenant)).clone()
+    let found = known.entry((tenant.reach(), start));
+    found.or_insert_with(|| search(tenant, start)).clone()
 }
 
 /// All that tells how late a window ends, now or after more ops.
@@ -99,44 +117,53 @@ fn kernel_lines() -> [Line; 2] {
     [Line::GATE, Line::of_box(0, 1)]
 }
 
-/// Caches that some moves leave, and which moves.
+/// Caches that some moves leave, which moves, and the ticks that these take.
 struct Node {
     caches: [u16; TABLE],
     moves: Vec<Move>,
+    busy: u64,
 }
 
-/// Goes through all standings, breadth first, from empty caches.
-pub(crate) fn search(tenant: &Tenant) -> Found {
+/// Goes through all standings, breadth first, from those caches on.
+pub(crate) fn search(tenant: &Tenant, start: Start) -> Found {
     let all_moves = tenant.moves();
+    let shortest = u64::from(*limits::LATEST.start());
     let mut nodes = vec![Node {
-        caches: [0; TABLE],
+        caches: start.caches(),
         moves: Vec::new(),
+        busy: 0,
     }];
-    let mut met = BTreeSet::from([Standing::of(&mut [0; TABLE])]);
+    let mut met = BTreeSet::from([Standing::of(&mut start.caches())]);
     // A window without ops.
     let mut found = Found {
-        ticks: flush(&[0; TABLE]),
+        ticks: switch(&start.caches()),
         moves: Vec::new(),
     };
     let mut at = 0;
     while at < nodes.len() {
         for step in &all_moves {
-            let Node { mut caches, .. } = nodes[at];
+            let Node {
+                mut caches, busy, ..
+            } = nodes[at];
             let before = nodes[at].moves.len();
-            let busy = tenant.play(&mut caches, tenant.op(*step, before)).ticks;
+            let last = tenant.play(&mut caches, tenant.op(*step, before)).ticks;
             let moves = || [&nodes[at].moves[..], &[*step]].concat();
             // The op begins one tick before the end.
-            let ticks = busy - 1 + flush(&caches);
+            let ticks = last - 1 + switch(&caches);
             if ticks > found.ticks {
-                assert!(before <= MOST_MOVES, "{before} moves take too long");
+                assert!(busy < shortest, "{before} moves take {busy} ticks");
                 found = Found {
                     ticks,
                     moves: moves(),
                 };
             }
             if met.insert(Standing::of(&mut caches)) {
-                let moves = moves();
-                nodes.push(Node { caches, moves });
+                let (moves, busy) = (moves(), busy + last);
+                nodes.push(Node {
+                    caches,
+                    moves,
+                    busy,
+                });
             }
         }
         at += 1;
@@ -144,9 +171,8 @@ pub(crate) fn search(tenant: &Tenant) -> Found {
     found
 }
 
-/// The ticks of the two flushes of a switch.
-pub(crate) fn flush(caches: &[u16; TABLE]) -> u64 {
+/// The ticks that a switch takes from these caches, before the pad.
+pub(crate) fn switch(caches: &[u16; TABLE]) -> u64 {
     let mut caches = *caches;
-    let mut cache = Cache::over(&mut caches).expect("a cache table");
-    cache.flush_kernel_sets() + cache.flush_l1()
+    Cache::over(&mut caches).expect("a cache table").switch()
 }

@@ -19,14 +19,14 @@ use Rattle.ops.specs.Ops.{boxIndex}
 use Rattle.state.specs.TableValidity.{lineAllowed}
 use Rattle.state.specs.World.{World, recordsAt, runningOf}
 use Rattle.machine.specs.Steps.{opStepBy, opStepOf}
-use Rattle.machine.specs.Switch.{switchOf}
+use Rattle.machine.specs.Switch.{isLast, switchBy, switchOf}
 use Rattle.isolation.specs.Statement.{Only}
-use Rattle.isolation.proofs.TwoRuns.Flush.{flush-alike, flush-away}
 use Rattle.isolation.proofs.TwoRuns.Log.{raised, stored-alike, stored-away}
 use Rattle.isolation.proofs.TwoRuns.Ops.{effect-alike, effect-away}
 use Rattle.isolation.proofs.TwoRuns.Indices.{DirtyAllowed, FlushedIndex, OwnIndex, WorkIndex, flushed, l1, own, own-between}
 use Rattle.isolation.proofs.TwoRuns.Indices.{own-untouched}
 use Rattle.isolation.proofs.TwoRuns.Relations.{Alike, Close, same-records}
+use Rattle.isolation.proofs.TwoRuns.Switch.{switched-alike, switched-away}
 
 -- the cache table has all its numbers
 abbrev pub Whole : World → Type 0
@@ -121,16 +121,20 @@ module _ (plan : Plan) (quota domain : ℕ) where
     -- ---- a switch
 
     pub switch-away : (world : World) → Whole world → Alike plan quota domain world (switchOf plan world)
-    unfolding switchOf
+    unfolding switchBy
     switch-away world whole =
         record {
           positions = agree-refl _ _;
           records = agree-refl _ _;
-          sets = flush-away (world .cache) whole (λ index. own-between plan possible domain index declared);
+          sets =
+              switched-away (isLast plan (world .state .windows)) (world .cache) whole
+              (λ index. own-between plan possible domain index declared);
           log = agree-refl _ _;
         }
 
-pub switch-flushed : (plan : Plan) (one other : World) → Whole one → Whole other
+-- two worlds of one window
+pub switch-flushed : (plan : Plan) (one other : World) → one .state .windows ≡ other .state .windows → Whole one → Whole other
     → Agree FlushedIndex (switchOf plan one .cache) (switchOf plan other .cache)
-unfolding switchOf
-switch-flushed plan one other = flush-alike (one .cache) (other .cache)
+unfolding switchBy
+switch-flushed plan one other windows whole whole′ =
+    rw windows (switched-alike (isLast plan (other .state .windows)) (one .cache) (other .cache) whole whole′)

@@ -22,7 +22,7 @@ use Rattle.records.specs.Records.{partRecords}
 use Rattle.state.specs.World.{World, endedOf, freshState, positionAt, runningOf}
 use Rattle.machine.specs.Fresh.{freshWorld}
 use Rattle.machine.specs.Steps.{opStepBy, runBy}
-use Rattle.machine.specs.Switch.{switchOf}
+use Rattle.machine.specs.Switch.{switchBy}
 use Rattle.machine.proofs.Invariant.{step-cases, steps-counts}
 use Rattle.reachable.proofs.Cells.{cell-zeros, zeros-length}
 use Rattle.isolation.specs.Points.{FreshRun, opsFor, opsOf, opsOfDomain, windowsAfter, worldAfter}
@@ -69,7 +69,7 @@ module _ (run : FreshRun) (possible : planValid (run .plan) ≡ true) (domain : 
       ∙ zeros-length mostDomains
 
   moved : (count : ℕ) → Moved (run .plan) domain (worldAfter run count) (worldAfter run (suc count))
-  unfolding opStepBy switchOf endedOf
+  unfolding opStepBy switchBy endedOf
   moved count =
       let world = worldAfter run count in
       let running = runningOf (run .plan) (world .state) in

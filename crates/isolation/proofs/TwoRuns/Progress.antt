@@ -13,7 +13,7 @@ use Rattle.plan.specs.Windows.{windowsTotal}
 use Rattle.records.specs.Records.{partRecords}
 use Rattle.state.specs.World.{World, endedOf, freshState}
 use Rattle.machine.specs.Steps.{opStepBy, runBy, stepOf}
-use Rattle.machine.specs.Switch.{switchOf}
+use Rattle.machine.specs.Switch.{switchBy, switchOf}
 use Rattle.machine.proofs.Invariant.{step-cases}
 use Rattle.machine.proofs.Runs.{steps-add, steps-ended, steps-last}
 use Rattle.machine.specs.Fresh.{freshWorld}
@@ -42,7 +42,7 @@ module _ (run : FreshRun) where
   one-more count = steps-last _ (run .plan) (run .scripts) (partRecords (run .plan) (length (run .log))) count (freshWorld (run .log))
 
   turned : (count : ℕ) → Turned (run .plan) (worldAfter run count) (worldAfter run (suc count))
-  unfolding opStepBy switchOf
+  unfolding opStepBy switchBy
   turned count =
       rw (one-more count)
       (step-cases _ (run .plan) (run .scripts) (partRecords (run .plan) (length (run .log))) (worldAfter run count)

@@ -21,7 +21,7 @@ use Rattle.ops.specs.Ops.{boxesLength}
 use Rattle.state.specs.World.{World, freshState, recordsAt}
 use Rattle.machine.specs.Fresh.{freshWorld}
 use Rattle.machine.specs.Steps.{runBy, stepOf}
-use Rattle.machine.specs.Switch.{switchOf}
+use Rattle.machine.specs.Switch.{switchBy, switchOf}
 use Rattle.machine.proofs.Schedule.{Scheduled, switch-clock}
 use Rattle.reachable.proofs.Cells.{cell-zeros}
 use Rattle.reachable.proofs.Counts.{counted}
@@ -49,7 +49,7 @@ module _ (input : SoloInput) where
   -- a switch completes a window
   completes : (world : World) → soloStep world ≡ switchOf (input .plan) world
       → soloStep world .state .windows ≡ world .state .windows + 1
-  unfolding switchOf
+  unfolding switchBy
   completes world e = ap (λ (w : World). w .state .windows) e
 
   -- a step within the window is taken
@@ -141,7 +141,7 @@ module _ (plan : Plan) (quota : ℕ) (Named : ℕ → Type 0) where
     switches-meet : (one other : World) → Near plan quota Named one other → one .state .windows ≡ other .state .windows
         → Scheduled plan one → Scheduled plan other → one .state .windows < windowsTotal plan → Whole one → Whole other
         → Meets (switchOf plan one) (switchOf plan other)
-    unfolding switchOf
+    unfolding switchBy
     switches-meet one other near windows s s′ room full full′ =
         record {
           near =
@@ -152,7 +152,7 @@ module _ (plan : Plan) (quota : ℕ) (Named : ℕ → Type 0) where
               switch-clock plan one possible s room
               ∙ ap (λ (n : ℕ). windowStart plan (n + 1)) windows
               ∙ sym (switch-clock plan other possible s′ (rw (← windows) room));
-          flushed = switch-flushed plan one other full full′;
+          flushed = switch-flushed plan one other windows full full′;
         }
 
 -- ---- a run beside it
@@ -243,7 +243,7 @@ module _ (input : SoloInput) (scripts log : List ℕ) (count : ℕ) (possible : 
   -- so both complete as many windows
   same-next : (window at : ℕ) (other : World) → Named (windowOwner plan window) → windowsAfter run at ≡ window
       → LockedWith (windowOwner plan window) at other → windowsAfter run (suc at) ≡ soloStep input other .state .windows
-  unfolding switchOf
+  unfolding switchBy
   same-next window at other named here lock = go (both-next window at other named here lock)
     where
       go : Paired plan quota Named (BoxTo Named) (windowOwner plan window) (worldAfter run at) other (worldAfter run (suc at))

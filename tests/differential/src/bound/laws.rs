@@ -74,7 +74,7 @@ fn wide_plan() -> [u32; PLAN] {
         script: Vec::new(),
     };
     let wide = Sketch {
-        pad: 276,
+        pad: 376,
         run: 1,
         members: vec![member; WIDE],
         windows: (0..WIDE as u32).map(|domain| (domain, LENGTH)).collect(),

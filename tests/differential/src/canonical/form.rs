@@ -77,7 +77,7 @@ fn judge_recipients(line: &[u8]) -> Result<(), Broken> {
 mod tests {
     use super::judge;
 
-    const GOOD: &str = "(pad 276)\n(domain 0(share 90)(may 1 2))\n(domain 1(share 90)(may 0))\n\
+    const GOOD: &str = "(pad 376)\n(domain 0(share 90)(may 1 2))\n(domain 1(share 90)(may 0))\n\
                         (domain 2(share 100)(may))\n(window 1(length 10))\n(window 0(length 9))\n\
                         (run 10)\n(op 0(read 0))\n(op 0(send 1 0))\n(op 2(receive 0))";
 
@@ -101,14 +101,14 @@ mod tests {
         assert_broken("1 2)", "1 2 )");
         assert_broken("1 2)", "1  2)");
         assert_broken("1 2)", "2 1)");
-        assert_broken("276)\n", "276) \n");
-        assert_broken("276)\n", "276)\n\n");
-        assert_broken("276", "0276");
+        assert_broken("376)\n", "376) \n");
+        assert_broken("376)\n", "376)\n\n");
+        assert_broken("376", "0376");
         assert_broken("read 0", "read 00");
         assert_broken("send 1 0", "send 01 0");
         assert_broken(
-            "(pad 276)\n(domain 0(share 90)(may 1 2))\n",
-            "(domain 0(share 90)(may 1 2))\n(pad 276)\n",
+            "(pad 376)\n(domain 0(share 90)(may 1 2))\n",
+            "(domain 0(share 90)(may 1 2))\n(pad 376)\n",
         );
         assert_broken(
             "(window 0(length 9))\n(run 10)",

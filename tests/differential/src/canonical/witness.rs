@@ -59,14 +59,14 @@ mod tests {
     #[test]
     fn lines_of_any_numbers() {
         let mut plan = [0; 92];
-        plan[..6].copy_from_slice(&[276, 1, 2, 1, 400, 300]);
+        plan[..6].copy_from_slice(&[376, 1, 2, 1, 400, 300]);
         (plan[12], plan[20], plan[52]) = (0b10, 1, 9);
         let mut store = [0; 2_048];
         store[..2].copy_from_slice(&[0x10_0003, 0x31_004d]);
         store[256..258].copy_from_slice(&[0x40_0000, 0x50_00c8]);
         let text = "(domain 0(share 400)(may 1))\n(domain 1(share 300)(may))\n(run 1)\n\
                     (window 1(length 9))\n(op 0(read 3))\n(op 1(receive 0))\n\
-                    (op 0(send 1 77))\n(op 1(compute 200))\n(pad 276)";
+                    (op 0(send 1 77))\n(op 1(compute 200))\n(pad 376)";
         assert_eq!(String::from_utf8(witness(&plan, &store)).unwrap(), text);
 
         (plan[2], plan[3], plan[4], plan[12]) = (1, u32::MAX, u32::MAX, 1 << 31 | 1);
@@ -75,7 +75,7 @@ mod tests {
         let windows = "(window 0(length 0))\n".repeat(31);
         let text = format!(
             "(domain 0(share 4294967295)(may 31 0))\n(run 1)\n(window 1(length 9))\n\
-             {windows}(op 0(receive 15))\n(op 7(read 3))\n(pad 276)"
+             {windows}(op 0(receive 15))\n(op 7(read 3))\n(pad 376)"
         );
         assert_eq!(String::from_utf8(witness(&plan, &store)).unwrap(), text);
     }

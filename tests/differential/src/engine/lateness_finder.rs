@@ -10,8 +10,8 @@ pub const SCRIPT: usize = 256;
 
 /// An implementation. It gives the refusal's number, 0 for none, and writes an
 /// answer of four numbers: the same number, its companion (of 18 the domain, else 0),
-/// the most ticks from the end of one of the domain's windows until L1 is empty (0
-/// beside a refusal) and 0. It also writes a script that takes so many. A plan, a
+/// the most ticks from the end of one of the domain's windows until line 60 is touched
+/// (0 beside a refusal) and 0. It also writes a script that takes so many. A plan, a
 /// script or an answer of another length is refusal 11, and then nothing is written
 /// but an answer of the right length. Beside any refusal the script stays.
 pub trait LatenessFinder {

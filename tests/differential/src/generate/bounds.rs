@@ -92,7 +92,7 @@ fn random_sketch(rng: &mut Rng) -> Sketch {
         let mut window = || (rng.place(domains) as u32, rng.within(1..=900));
         sketch.windows = (0..count).map(|_| window()).collect();
         sketch.run = rng.pick(&[990, 999, 1_000]);
-        sketch.pad = rng.within(276..=400);
+        sketch.pad = rng.within(376..=500);
     }
     sketch
 }

@@ -22,7 +22,7 @@ pub fn random_text(rng: &mut Rng) -> Vec<u8> {
 /// Tokens in random order, which now and then make a good line.
 fn soup(rng: &mut Rng, length: usize) -> Vec<u8> {
     const PIECES: [&str; 24] = [
-        "(pad 276)\n",
+        "(pad 376)\n",
         "(run 1)\n",
         "(domain 0 (share 500) (may))\n",
         "(domain 1 (share 500) (may 0))\n",
@@ -43,7 +43,7 @@ fn soup(rng: &mut Rng, length: usize) -> Vec<u8> {
         " 0",
         " 7",
         " 8",
-        " 276",
+        " 376",
         " 12345678901",
         "(send 1 2))",
     ];

@@ -48,8 +48,8 @@ pub fn short_sketch(rng: &mut Rng) -> Sketch {
 
 /// Puts numbers at their limits, and where they get a digit more.
 fn sharpen(rng: &mut Rng, sketch: &mut Sketch) {
-    let any = rng.within(276..=1_000_000);
-    sketch.pad = rng.pick(&[276, 999, 1_000, 9_999, 10_000, 99_999, 1_000_000, any]);
+    let any = rng.within(376..=1_000_000);
+    sketch.pad = rng.pick(&[376, 999, 1_000, 9_999, 10_000, 99_999, 1_000_000, any]);
     for window in &mut sketch.windows {
         window.1 = rng.pick(&[1, 9, 10, 99, 100, 999_999, 1_000_000, window.1]);
     }

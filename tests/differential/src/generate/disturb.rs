@@ -50,7 +50,7 @@ fn disturb_cache(rng: &mut Rng, world: &mut World) {
         32_769,
         65_535,
     ];
-    match rng.below(6) {
+    match rng.below(7) {
         0 => world.cache[place] = rng.any() as u16,
         1 if place >= 16 => {
             let set = (place - 16) / 4 * 4 + 16;
@@ -59,6 +59,16 @@ fn disturb_cache(rng: &mut Rng, world: &mut World) {
         2 if place >= 16 => {
             let set = (place - 16) / 4 * 4 + 16;
             world.cache[set + rng.place(4)] = world.cache[place];
+        }
+        // Line 60, which a switch touches: in L1, in front of its set, in both or in neither.
+        3 => {
+            world.cache[12] = rng.pick(&[0, 61, 61, 32_768 + 61]);
+            let ways = &mut world.cache[16 + 4 * 60..][..4];
+            match rng.below(3) {
+                0 => ways.copy_from_slice(&[61, 0, 0, 0]),
+                1 => ways.fill(0),
+                _ => {}
+            }
         }
         _ => world.cache[place] = rng.pick(&edges),
     }
@@ -141,8 +151,9 @@ pub fn disturb_plan(rng: &mut Rng, plan: &mut [u32]) {
         34,
         99,
         100,
-        275,
         276,
+        375,
+        376,
         1_000,
         1_001,
         65_535,
@@ -152,7 +163,7 @@ pub fn disturb_plan(rng: &mut Rng, plan: &mut [u32]) {
         u32::MAX,
     ];
     let edge = rng.pick(&edges);
-    match rng.below(12) {
+    match rng.below(13) {
         0 => {
             let other = match rng.one_in(3) {
                 true => Sketch::at_the_limit(rng),
@@ -164,7 +175,7 @@ pub fn disturb_plan(rng: &mut Rng, plan: &mut [u32]) {
         1 => plan[rng.place(92)] = edge,
         2 => plan[rng.place(92)] = any,
         3 => plan[rng.place(92)] ^= 1 << rng.below(32),
-        4 => plan[rng.place(4)] = rng.pick(&[0, 1, 2, 8, 9, 32, 33, 276, 277, any]),
+        4 => plan[rng.place(4)] = rng.pick(&[0, 1, 2, 8, 9, 32, 33, 376, 377, any]),
         5 => {
             let share = &mut plan[4 + rng.place(domains)];
             let near = [share.wrapping_sub(1), share.wrapping_add(1)];
@@ -192,6 +203,11 @@ pub fn disturb_plan(rng: &mut Rng, plan: &mut [u32]) {
             plan[84 + domain] = rng.pick(&changed);
         }
         9 | 10 => crowd(rng, plan),
+        // Nothing else is changed, so that the pad alone decides.
+        11 => {
+            let short = rng.within(276..=375);
+            plan[0] = rng.pick(&[275, 276, 375, 375, 376, 377, short]);
+        }
         _ => plan.fill(0),
     }
 }

@@ -98,7 +98,7 @@ fn outside_limits(rng: &mut Rng, sketch: &mut Sketch) {
     let domain = rng.place(sketch.members.len());
     let member = &mut sketch.members[domain];
     match rng.below(7) {
-        0 => sketch.pad = rng.pick(&[0, 275, 1_000_001, u32::MAX]),
+        0 => sketch.pad = rng.pick(&[0, 276, 375, 1_000_001, u32::MAX]),
         1 => sketch.run = rng.pick(&[0, 1_001, u32::MAX]),
         2 => member.share = rng.pick(&[0, 1_001, u32::MAX]),
         3 => member.may.push(rng.pick(&[8, 9, 31])),

@@ -2,6 +2,7 @@
 //! document 02, E8.
 
 use super::disturb::disturb;
+use super::late_switch::late_switch_world;
 use super::lists::random_world;
 use super::put_out::put_out_world;
 use super::scatter::scatter;
@@ -37,12 +38,13 @@ pub fn tight_world(rng: &mut Rng) -> World {
 }
 
 /// A world with everyone's log that runs are accepted in: fresh ones, ones that no run need
-/// have reached, and ones whose ops put lines out of L1.
+/// have reached, ones whose ops put lines out of L1, and ones whose switch takes long.
 pub fn any_world(rng: &mut Rng) -> World {
-    let mut world = match rng.below(3) {
-        0 => random_world(rng),
-        1 => tight_world(rng),
-        _ => return put_out_world(rng),
+    let mut world = match rng.below(7) {
+        0 | 1 => random_world(rng),
+        2 | 3 => tight_world(rng),
+        4 | 5 => return put_out_world(rng),
+        _ => return late_switch_world(rng),
     };
     match rng.one_in(2) {
         true => scatter(rng, &mut world),

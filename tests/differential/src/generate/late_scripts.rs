@@ -1,4 +1,4 @@
-//! Scripts whose windows end late, or nearly so late: document 02, E6.
+//! Scripts whose windows end late, or nearly so late: document 02, E6 and E9.
 
 use super::sketch::Act;
 use crate::engine::SCRIPT;
@@ -13,10 +13,12 @@ struct Means {
     messages: Vec<Act>,
     /// The lengths of its windows in the order of one pass.
     lengths: Vec<u32>,
+    /// Whether the first of them is the run's first window.
+    leads: bool,
 }
 
 /// What a domain does before the last op of a window, and how many ticks that takes
-/// in caches that hold none of its lines.
+/// in caches that hold none of its lines and none of the kernel's but line 60.
 struct Opening {
     acts: Vec<Act>,
     busy: u32,
@@ -42,6 +44,7 @@ impl Means {
                 .chain(from.map(Act::Receive))
                 .collect(),
             lengths: windows.map(|place| plan[52 + place]).collect(),
+            leads: plan[20] == domain,
         }
     }
 
@@ -60,14 +63,16 @@ impl Means {
     }
 
     /// Messages through so many boxes, or a denied one, and then the same writes. Each
-    /// box replaces the one before it, and the last is replaced by a write.
-    fn behind_messages(&self, boxes: usize, above: u32) -> Opening {
+    /// box replaces the one before it, and the last is replaced by a write. The first
+    /// message finds line 60 in L1, but for the run's first window.
+    fn behind_messages(&self, boxes: usize, above: u32, is_first: bool) -> Opening {
         let boxes = boxes.min(self.messages.len());
         let writes = self.writes(above);
         let last_box = boxes > 0 && self.sets.iter().any(|set| set % 16 == 13);
+        let gate = if is_first && self.leads { 100 } else { 1 };
         let messages = match boxes as u32 {
-            0 => 5 + 100,
-            more => 5 + 100 + 100 + (more - 1) * (5 + 1 + 104),
+            0 => 5 + gate,
+            more => 5 + gate + 100 + (more - 1) * (5 + 1 + 104),
         };
         let busy = messages + 100 * writes.len() as u32 + if last_box { 4 } else { 0 };
         let mut acts = match boxes {
@@ -113,8 +118,8 @@ pub fn known_scripts(plan: &[u32], domain: u32) -> [Vec<u32>; 3] {
     let longest = Act::Compute(200);
     let late = [
         (means.without_messages(1), means.message()),
-        (means.behind_messages(0, 1), longest),
-        (means.behind_messages(4, 1), longest),
+        (means.behind_messages(0, 1, true), longest),
+        (means.behind_messages(4, 1, true), longest),
     ];
     late.map(|(opening, last)| stored(&opening.before(length, 1, last)))
 }
@@ -144,7 +149,7 @@ fn in_each_window(rng: &mut Rng, means: &Means) -> Vec<Act> {
         let (boxes, early) = (rng.place(6), rng.pick(&[1, 1, 1, 1, 2, 3, 101]));
         let opening = match rng.one_in(2) {
             true => means.without_messages(above),
-            false => means.behind_messages(boxes, above),
+            false => means.behind_messages(boxes, above, above == 0),
         };
         let choices = [means.message(), some_message(rng, means), Act::Compute(200)];
         let last = rng.pick(&choices);

@@ -1,8 +1,8 @@
-//! Calls of a lateness finder: document 02, E6.
+//! Calls of a lateness finder: document 02, E6, with the touch of its E9.
 
 use super::bounds::spoil_plan;
 use super::length_near;
-use super::sketch::Sketch;
+use super::sketch::{Member, Sketch};
 use crate::engine::{ANSWER, PLAN, SCRIPT};
 use crate::latest::call::LatestCall;
 use crate::rng::Rng;
@@ -41,24 +41,36 @@ impl KnownLatest {
     }
 }
 
-/// What a domain must be told. Each of its lines in L1 can be dirty at the end. Where
-/// it has a right, its last op is its first message, which leaves the kernel entry
-/// line and a box in L2 and the box dirty in L1. Both are dearer by 4 ticks, and each
-/// takes a dirty line's place, if the domain has a colour whose L1 indexes are the
-/// kernel's. Without a right the last op is a compute, and a denied message comes
-/// before the writes.
-fn known_ticks(sketch: &Sketch, domain: usize) -> u64 {
+/// What a domain must be told. Each of its lines in L1 can be dirty at the end.
+///
+/// Where it has a right, and the run's first window as well, its last op is its first
+/// message, which leaves the kernel entry line and a box in L2 and the box dirty in L1.
+/// Both are dearer by 4 ticks, and each takes a dirty line's place, if the domain has a
+/// colour whose L1 indexes are the kernel's. Any other window starts with the kernel entry
+/// line in L2, so that a message is cheap: then messages through up to four boxes come
+/// before the writes, of which the last box is dirty unless a write takes its place, and
+/// the last op is a compute. It is a compute without a right too, behind a denied message.
+pub fn known_ticks(sketch: &Sketch, domain: usize) -> u64 {
     let quarters: BTreeSet<u32> = sketch.colours(domain).map(|colour| colour % 4).collect();
     let own = 4 * quarters.len() as u64;
-    let may = |from: usize, to: usize| sketch.members[from].may.contains(&(to as u32));
-    let mut others = 0..sketch.members.len();
-    let has_box = others.any(|other| may(domain, other) || may(other, domain));
-    let (past, valid, dirty) = match (has_box, quarters.contains(&3)) {
-        (false, _) => (200 - 1, 1, own),
-        (true, false) => (205 - 1, 2, own + 1),
-        (true, true) => (213 - 1, 2, own - 1),
+    let meets = quarters.contains(&3);
+    let boxes = boxes_of(sketch, domain);
+    let leads = sketch.windows[0].0 as usize == domain;
+    let (past, valid, dirty) = match (boxes, leads, meets) {
+        (0, ..) => (200 - 1, 1, own),
+        (_, true, false) => (205 - 1, 2, own + 1),
+        (_, true, true) => (213 - 1, 2, own - 1),
+        (_, false, false) => (200 - 1, 1 + boxes.min(4), own + 1),
+        (_, false, true) => (200 - 1, 1 + boxes.min(4), own),
     };
-    past + (8 + valid) + (8 + 2 * dirty)
+    past + (8 + valid) + (8 + 2 * dirty) + 100
+}
+
+/// How many boxes a domain may send to or receive from.
+fn boxes_of(sketch: &Sketch, domain: usize) -> u64 {
+    let sent = sketch.members[domain].may.len();
+    let to = |member: &&Member| member.may.contains(&(domain as u32));
+    (sent + sketch.members.iter().filter(to).count()) as u64
 }
 
 /// A call with anything in its rows: a domain that is not told of, another plan, other
@@ -199,18 +211,45 @@ mod tests {
     use super::*;
     use std::collections::BTreeMap;
 
-    /// Every figure that there is comes up: four numbers of L1 indexes without a right,
-    /// and with one both with the kernel's indexes and without them.
+    /// Every figure that there is comes up, apart for domains that have the run's first
+    /// window and for others: four numbers of L1 indexes without a right, and with one
+    /// both with the kernel's indexes and without them, for others with one to four boxes.
     #[test]
     fn all_figures() {
-        let mut met = BTreeMap::<u64, u32>::new();
-        for seed in 0..4_000 {
-            let ticks = KnownLatest::random(&mut Rng::new(seed)).ticks;
-            *met.entry(ticks).or_default() += 1;
+        let mut met = BTreeMap::<(bool, u64), u32>::new();
+        for seed in 0..12_000 {
+            let known = KnownLatest::random(&mut Rng::new(seed));
+            let leads = known.sketch.windows[0].0 == known.call.domain;
+            *met.entry((leads, known.ticks)).or_default() += 1;
         }
-        let without = [224, 232, 240, 248];
-        let with = [232, 240, 248, 236, 244, 252, 260];
-        let all: BTreeSet<u64> = without.into_iter().chain(with).collect();
+        let without = [324, 332, 340, 348];
+        let with = [332, 340, 348, 336, 344, 352, 360];
+        let first = without.into_iter().chain(with).map(|ticks| (true, ticks));
+        let met_by = [324, 332, 340, 348].into_iter();
+        let apart = [326, 334, 342].into_iter();
+        let behind = met_by
+            .chain(apart)
+            .flat_map(|ticks| (1..=4).map(move |boxes| ticks + boxes));
+        let others = without
+            .into_iter()
+            .chain(behind)
+            .map(|ticks| (false, ticks));
+        let all: BTreeSet<(bool, u64)> = first.chain(others).collect();
         assert!(met.keys().eq(&all), "{met:?}");
+    }
+
+    /// A domain has few boxes and many, up to more than their L2 set holds, both where it
+    /// has the run's first window and where not.
+    #[test]
+    fn all_numbers_of_boxes() {
+        let mut met = BTreeMap::<(bool, u64), u32>::new();
+        for seed in 0..4_000 {
+            let KnownLatest { sketch, call, .. } = KnownLatest::random(&mut Rng::new(seed));
+            let leads = sketch.windows[0].0 == call.domain;
+            let boxes = boxes_of(&sketch, call.domain as usize).min(6);
+            *met.entry((leads, boxes)).or_default() += 1;
+        }
+        assert_eq!(met.len(), 14, "{met:?}");
+        assert!(met.values().all(|count| *count > 40), "{met:?}");
     }
 }

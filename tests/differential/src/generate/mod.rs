@@ -10,6 +10,7 @@ pub mod frames;
 pub mod habits;
 pub mod kept;
 pub mod late_scripts;
+pub mod late_switch;
 pub mod latest;
 pub mod lists;
 pub mod mutate;

@@ -5,7 +5,7 @@ use std::ops::Range;
 
 /// Numbers at and past the limits of "The plan text", and shares at which the
 /// number of colours changes.
-const EDGES: [&str; 41] = [
+const EDGES: [&str; 42] = [
     "0",
     "1",
     "2",
@@ -24,10 +24,11 @@ const EDGES: [&str; 41] = [
     "255",
     "256",
     "257",
-    "275",
     "276",
-    "277",
     "300",
+    "375",
+    "376",
+    "377",
     "500",
     "900",
     "966",
@@ -44,8 +45,8 @@ const EDGES: [&str; 41] = [
     "4294967296",
     "9999999999",
     "10000000000",
-    "0000000276",
-    "00000000276",
+    "0000000376",
+    "00000000376",
     "18446744073709551617",
 ];
 
@@ -221,13 +222,13 @@ mod tests {
 
     #[test]
     fn pieces_of_a_text() {
-        let text = b"(pad 276)\n\n a(b";
+        let text = b"(pad 376)\n\n a(b";
         let piece =
             |range: &Range<usize>| String::from_utf8_lossy(&text[range.clone()]).into_owned();
         let tokens: Vec<String> = tokens(text).iter().map(piece).collect();
-        assert_eq!(tokens, ["(", "pad", "276", ")", "a", "(", "b"]);
+        assert_eq!(tokens, ["(", "pad", "376", ")", "a", "(", "b"]);
         let lines: Vec<String> = lines(text).iter().map(piece).collect();
-        assert_eq!(lines, ["(pad 276)", "", " a(b"]);
+        assert_eq!(lines, ["(pad 376)", "", " a(b"]);
     }
 
     #[test]

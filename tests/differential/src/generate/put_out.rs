@@ -13,8 +13,8 @@ use crate::world::World;
 /// The lines of a set that are in use, by how far they are above its first one: more than
 /// it holds, and few enough to meet again.
 const ABOVE: [u16; 7] = [0, 1, 2, 3, 4, 31, 63];
-const DIRTY: u16 = 32_768;
-const KERNEL: u32 = 1 << 15;
+pub(super) const DIRTY: u16 = 32_768;
+pub(super) const KERNEL: u32 = 1 << 15;
 /// The set of all boxes' lines.
 const BOXES: u16 = 61;
 
@@ -95,7 +95,7 @@ pub fn unsettle(rng: &mut Rng, world: &mut World, domain: usize) {
 }
 
 /// The L2 sets of these colours whose lines have this L1 index.
-fn sets_at(index: u16, colours: u32) -> Vec<u16> {
+pub(super) fn sets_at(index: u16, colours: u32) -> Vec<u16> {
     let sets = (0..4).map(|above| 16 * above + index);
     sets.filter(|set| colours >> (set / 4) & 1 == 1).collect()
 }
@@ -149,7 +149,7 @@ fn held_in(world: &World, set: u16) -> Vec<u16> {
     ways.filter(|way| **way != 0).map(|way| way - 1).collect()
 }
 
-fn put_set(world: &mut World, set: u16, lines: &[u16]) {
+pub(super) fn put_set(world: &mut World, set: u16, lines: &[u16]) {
     let ways = &mut world.cache[16 + 4 * usize::from(set)..][..4];
     ways.fill(0);
     for (way, line) in ways.iter_mut().zip(lines) {

@@ -1,6 +1,6 @@
 //! Pairs of lent worlds that are equal for one domain, the observer: document 01, "Two
-//! lists of calls", and document 02, E7. What the others have there puts dirty lines out
-//! of L1, other ones in each world.
+//! lists of calls", and document 02, E7 and E9. What the others have there puts dirty lines
+//! out of L1, other ones in each world, and makes the next switch take long in one of them.
 
 use super::put_out::{arrange_any, unsettle, world_of, write_script};
 use super::sketch::Sketch;
@@ -69,7 +69,10 @@ fn vary_others(rng: &mut Rng, world: &mut World, observer: usize) {
         arrange_any(rng, world, set);
     }
     if span.domain != observer {
-        world.state[1] = span.start + rng.below(span.end - span.start);
+        world.state[1] = match rng.one_in(6) {
+            true => span.end + rng.pick(&[212, 212, 211, 0]),
+            false => span.start + rng.below(span.end - span.start),
+        };
         world.state[2 + span.domain] = rng.below(200);
         world.state[10 + span.domain] = rng.below(room.div_ceil(2) as u64);
         unsettle(rng, world, span.domain);

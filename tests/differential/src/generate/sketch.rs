@@ -48,10 +48,10 @@ impl Sketch {
         let most = rng.pick(&[0, 3, 12, 40, 256]);
         let mut sketch = Sketch {
             pad: match rng.below(4) {
-                0 => 276,
-                1 => rng.within(277..=400),
-                2 => rng.within(276..=20_000),
-                _ => rng.within(276..=1_000_000),
+                0 => 376,
+                1 => rng.within(377..=500),
+                2 => rng.within(376..=20_000),
+                _ => rng.within(376..=1_000_000),
             },
             run: match rng.below(3) {
                 0 => 1,
@@ -101,7 +101,7 @@ impl Sketch {
         // What is left to the lengths, and to each of them, must be in limits.
         let lowest = pass.saturating_sub(windows * 1_000_000).div_ceil(windows);
         let highest = (pass - windows) / windows;
-        let (lowest, highest) = (lowest.max(276) as u32, highest.min(1_000_000) as u32);
+        let (lowest, highest) = (lowest.max(376) as u32, highest.min(1_000_000) as u32);
         let pad = rng.within(lowest..=highest);
         let left = pass - windows * u64::from(pad);
         let mut lengths = vec![left / windows; windows as usize];
@@ -227,7 +227,7 @@ mod tests {
             let sketch = Sketch::at_the_limit(&mut Rng::new(seed));
             let run = u64::from(sketch.run);
             assert!(run * sketch.pass() <= most && run * (sketch.pass() + 1) > most);
-            assert!((276..=1_000_000).contains(&sketch.pad));
+            assert!((376..=1_000_000).contains(&sketch.pad));
             let mut lengths = sketch.windows.iter().map(|window| window.1);
             assert!(lengths.all(|length| (1..=1_000_000).contains(&length)));
             exact += u32::from(run * sketch.pass() == most);

@@ -183,7 +183,7 @@ mod tests {
             script: script.to_vec(),
         };
         let sketch = Sketch {
-            pad: 276,
+            pad: 376,
             run: 1,
             members: vec![
                 member(400, &[1], &[Act::Write(3), Act::Send(1, 77)]),
@@ -193,7 +193,7 @@ mod tests {
         };
         let text = sketch.text(&mut Rng::new(0), Style::Plain);
         let expected = "\
-(pad 276)
+(pad 376)
 (domain 0 (share 400) (may 1))
 (domain 1 (share 300) (may))
 (window 0 (length 400))

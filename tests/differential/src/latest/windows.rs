@@ -1,6 +1,6 @@
 //! How late an engine's windows are, read off what it was lent: the state and the
 //! caches before each switch tell how long the switch takes. Document 01, "Window,
-//! switch, run", and document 02, E6.
+//! switch, run", and document 02, E6 and E9.
 
 use crate::engine::Engine;
 use crate::timeline::{Span, Timeline};
@@ -11,7 +11,7 @@ use crate::world::{Call, World};
 pub struct Finished {
     /// Whose window it was.
     pub domain: usize,
-    /// The ticks from its end until L1 was empty.
+    /// The ticks from its end until the touch was made.
     pub late: u64,
 }
 
@@ -43,12 +43,15 @@ pub fn finished_windows(
     Ok(windows)
 }
 
+/// What the touch takes, which finds both caches without its line.
+const TOUCH: u64 = 100;
+
 /// How late this window would be if its switch came now.
-fn ticks_late(world: &World, span: Span) -> u64 {
+pub fn ticks_late(world: &World, span: Span) -> u64 {
     let (near, sets) = world.cache.split_at(16);
     let dirty = near.iter().filter(|held| **held >= 32_768).count() as u64;
     let kernel = &sets[4 * 60..];
     let valid = kernel.iter().filter(|held| **held != 0).count() as u64;
     let past = world.state[1].saturating_sub(span.end);
-    past + (8 + valid) + (8 + 2 * dirty)
+    past + (8 + valid) + (8 + 2 * dirty) + TOUCH
 }

@@ -106,7 +106,7 @@ fn random_calls_near_the_limit() {
 fn full_stores() {
     let mut trial = Trial::new();
     let mut plan = [0; PLAN];
-    plan[..4].copy_from_slice(&[276, 1, 8, 1]);
+    plan[..4].copy_from_slice(&[376, 1, 8, 1]);
     plan[4..12].fill(99);
     (plan[20], plan[52]) = (7, 1);
     let masks = plan[84..].iter_mut().enumerate();

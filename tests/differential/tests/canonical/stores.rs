@@ -33,7 +33,8 @@ fn fixed_refusals() {
         assert_refused(|call| call.plan.set_length(length), 11);
     }
     assert_refused(|call| call.plan.fill(0), 12);
-    assert_refused(|call| call.plan[0] = 275, 12);
+    assert_refused(|call| call.plan[0] = 276, 12);
+    assert_refused(|call| call.plan[0] = 375, 12);
     assert_refused(|call| call.plan[1] = 1_001, 12);
     assert_refused(|call| call.plan[2] = 3, 12);
     assert_refused(|call| call.plan[3] = 33, 12);

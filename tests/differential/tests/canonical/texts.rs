@@ -24,7 +24,7 @@ fn fixed_texts() {
     ] {
         assert_eq!(text(same), Some(written(BACK)));
     }
-    let shortest = "(pad 276)\n(domain 0(share 34)(may))\n(window 0(length 1))\n(run 1)";
+    let shortest = "(pad 376)\n(domain 0(share 34)(may))\n(window 0(length 1))\n(run 1)";
     assert_eq!(text(shortest), Some(written(shortest)));
     let lists = "(run 7)\n(domain 0(share 34)(may 2 1))\n(domain 1(share 300)(may))\n\
                  (domain 2(share 34)(may 1 0))\n(window 2(length 1000000))\n\
@@ -35,7 +35,7 @@ fn fixed_texts() {
                 (window 0(length 10))\n(run 7)\n(op 0(compute 5))\n(op 0(send 7 65535))\n\
                 (op 2(compute 200))\n(op 2(write 0))";
     assert_eq!(text(lists), Some(written(back)));
-    assert_eq!(text("(pad 276)"), None);
+    assert_eq!(text("(pad 376)"), None);
 }
 
 /// Random plans in three styles. The generator knows what each must be written as.

@@ -112,13 +112,13 @@ pub const TEXT: &str = "\
 (op 0 (read 3))
 (window 1 (length 300))
 (op 1 (read 100) )
-(pad 276)
+(pad 376)
 (op 0 (send 1 77))
 ";
 
 /// The same as it must be written: 203 bytes.
 pub const BACK: &str = "\
-(pad 276)
+(pad 376)
 (domain 0(share 400)(may 1))
 (domain 1(share 300)(may))
 (window 0(length 400))

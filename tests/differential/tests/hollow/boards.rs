@@ -263,6 +263,16 @@ impl Board {
     }
 }
 
+/// One right access, which is no op's; gives the ticks.
+pub fn plain_access(cache: &mut [u16], line: u16, writes: bool) -> u64 {
+    let asked = Asked {
+        line,
+        writes,
+        denied: false,
+    };
+    Board(BoardFault::None).access(cache, asked).1
+}
+
 /// The ticks of an op that are no access's, and what its accesses ask for, where its
 /// record has this kind.
 fn asked(number: u32, owner: usize, kind: u8) -> (u64, Vec<Asked>) {

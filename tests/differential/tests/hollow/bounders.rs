@@ -89,6 +89,10 @@ pub enum BoundFault {
     TakesAnyPlan,
     /// Takes a plan of too many ticks.
     TakesTooManyTicks,
+    /// Takes a plan with a pad of 375.
+    TakesOneTickOfPadLess,
+    /// Takes a plan with any pad from 276 on, as before E9.
+    TakesOldPads,
     /// Refuses a plan of 32 windows.
     RefusesTheLastWindow,
     /// Refuses a store with an odd number at an end as damaged.
@@ -121,7 +125,7 @@ pub enum BoundFault {
 
 impl BoundFault {
     /// All that are one.
-    pub const HOLLOW: [BoundFault; 56] = [
+    pub const HOLLOW: [BoundFault; 58] = [
         BoundFault::CountsPastEnds,
         BoundFault::CountsEverything,
         BoundFault::CountsEnds,
@@ -164,6 +168,8 @@ impl BoundFault {
         BoundFault::TakesLongStores,
         BoundFault::TakesAnyPlan,
         BoundFault::TakesTooManyTicks,
+        BoundFault::TakesOneTickOfPadLess,
+        BoundFault::TakesOldPads,
         BoundFault::RefusesTheLastWindow,
         BoundFault::JudgesTheStore,
         BoundFault::PlanBeforeLengths,
@@ -255,6 +261,8 @@ impl HollowBounder {
             (BoundFault::TakesAnyPlan, _) => return true,
             // One pass is never too long.
             (BoundFault::TakesTooManyTicks, [_, run @ 1..=1_000, ..]) => *run = 1,
+            (BoundFault::TakesOneTickOfPadLess, [pad @ 375, ..])
+            | (BoundFault::TakesOldPads, [pad @ 276..=375, ..]) => *pad = 376,
             (BoundFault::RefusesTheLastWindow, [_, _, _, 32, ..]) => return false,
             _ => {}
         }

@@ -7,6 +7,8 @@ use crate::boards::Board;
 use crate::engines::{Fault, Hollow};
 use crate::keepers::Keeper;
 use crate::kept_faults::KeptFault;
+use crate::touch_faults::TouchFault;
+use crate::touchers::Toucher;
 use pirkvezo_differential::compare::{Difference, Pair};
 use pirkvezo_differential::engine::{Engine, Reference};
 use pirkvezo_differential::generate::kept::{
@@ -47,10 +49,11 @@ fn compare(engine: &dyn Engine, rng: &mut Rng) -> Result<(), Difference> {
 
 #[test]
 fn a_whole_keeper_agrees() {
-    let engines: [&dyn Engine; 3] = [
+    let engines: [&dyn Engine; 4] = [
         &Keeper(KeptFault::None),
         &Hollow(Fault::None),
         &Board(BoardFault::None),
+        &Toucher(TouchFault::None),
     ];
     for engine in engines {
         for (case, mut rng) in cases("whole keeper", 400) {
@@ -141,6 +144,11 @@ fn hollow_engines_are_found_out() {
     for fault in BoardFault::HOLLOW {
         let mut tried = cases(&format!("kept, faulty board, {fault:?}"), 1_000);
         let found = tried.any(|(_, mut rng)| compare(&Board(*fault), &mut rng).is_err());
+        assert!(found, "{fault:?} was not found out");
+    }
+    for fault in TouchFault::SWITCHES {
+        let mut tried = cases(&format!("kept, faulty toucher, {fault:?}"), 2_000);
+        let found = tried.any(|(_, mut rng)| compare(&Toucher(*fault), &mut rng).is_err());
         assert!(found, "{fault:?} was not found out");
     }
 }

@@ -9,6 +9,10 @@ crate::faults::faults! { LatenessFault:
     TakesAnyPlan,
     /// Takes a plan of too many ticks.
     TakesTooManyTicks,
+    /// Takes a plan with a pad of 375.
+    TakesOneTickOfPadLess,
+    /// Takes a plan with any pad from 276 on, as before E9.
+    TakesOldPads,
     /// Refuses a plan of 32 windows.
     RefusesTheLastWindow,
     /// Answers 12 before 11.
@@ -145,12 +149,47 @@ crate::faults::faults! { LatenessFault:
     ForgetsTheEighth,
     /// Sees no rights.
     NoRights,
-    /// Knows of no denied messages.
+    /// Knows of no denied messages in the run's first window.
     NothingIsDenied,
     /// Ends with a compute, behind messages through as many boxes as L2 holds.
     ComputesLast,
     /// Ends with a write.
     WritesLast,
+
+    /// Counts until L1 is empty, as before E9.
+    ForgetsTheTouch,
+    /// Takes the touch for a hit in L1.
+    TouchHitsL1,
+    /// Takes the touch for a hit in L2.
+    TouchHitsL2,
+    /// Lets the touch replace a dirty line.
+    TouchReplaces,
+    /// Leaves the touch of the run's last switch out, where no other one counts.
+    LastIsNotTouched,
+    /// Takes every window to start with empty caches.
+    EveryWindowIsBare,
+    /// Takes every window to start with line 60 in both caches.
+    EveryWindowIsTouched,
+    /// Takes the run's first window for domain 0's.
+    DomainZeroLeads,
+    /// Takes the owner of a pass's last window for that of the run's first.
+    TheLastLeads,
+    /// Ends with a message wherever there is a right.
+    MessageLastAnyway,
+    /// Counts the boxes to send through alone, where all of them count.
+    BoxesToSendAlone,
+    /// Counts the boxes to receive through alone, where all of them count.
+    BoxesToReceiveAlone,
+    /// Counts two boxes between the same domains once.
+    BoxesByPartner,
+    /// Counts more boxes than an L2 set holds.
+    BoxesWithoutLimit,
+    /// Counts three boxes at most.
+    BoxesUpToThree,
+    /// Counts one box at most.
+    BoxesUpToOne,
+    /// Counts the last box as dirty beside the line that took its place.
+    BoxBesideItsPlace,
 
     /// Hands no script back.
     KeepsTheScript,
@@ -183,6 +222,10 @@ crate::faults::faults! { LatenessFault:
     FitsThePlansFirst,
     /// Fits the script to a window of 4,000 ticks.
     FitsTheShortest,
+    /// Hands the script back that empty caches need.
+    FitsABareStart,
+    /// Hands the script back that caches with line 60 in them need.
+    FitsATouchedStart,
     /// Hands the script of the colours from 0 back.
     LinesFromZero,
     /// Hands the script of the colours one further on back.
@@ -217,7 +260,7 @@ crate::faults::faults! { LatenessFault:
 
 impl LatenessFault {
     /// Those whose ticks some window exceeds.
-    pub const TOO_LOW: [LatenessFault; 12] = [
+    pub const TOO_LOW: [LatenessFault; 18] = [
         LatenessFault::OneLess,
         LatenessFault::ForgetsTheOp,
         LatenessFault::ForgetsL1,
@@ -230,5 +273,11 @@ impl LatenessFault {
         LatenessFault::ReceivesAlone,
         LatenessFault::NoRights,
         LatenessFault::ComputesLast,
+        LatenessFault::ForgetsTheTouch,
+        LatenessFault::TouchHitsL2,
+        LatenessFault::MessageLastAnyway,
+        LatenessFault::BoxesToSendAlone,
+        LatenessFault::BoxesUpToThree,
+        LatenessFault::BoxesUpToOne,
     ];
 }

@@ -72,6 +72,8 @@ impl HollowFinder {
             (Fault::TakesAnyPlan, _) => return true,
             // One pass is never too long.
             (Fault::TakesTooManyTicks, [_, run @ 1..=1_000, ..]) => *run = 1,
+            (Fault::TakesOneTickOfPadLess, [pad @ 375, ..])
+            | (Fault::TakesOldPads, [pad @ 276..=375, ..]) => *pad = 376,
             (Fault::RefusesTheLastWindow, [_, _, _, 32, ..]) => return false,
             _ => {}
         }
@@ -197,26 +199,102 @@ impl HollowFinder {
             3
         };
         let meets = quarters.contains(&shared);
-        let boxes = boxes_of(seen, own);
-        let (op, valid, dirty) = match (boxes > 0, meets, self.0) {
-            (false, _, Fault::NothingIsDenied) => (200, 0, lines),
-            (false, _, _) => (200, 1, lines),
-            (_, _, Fault::WritesLast) => (104, 1 + boxes.min(4), lines),
-            (true, true, Fault::ComputesLast) => (200, 1 + boxes.min(4), lines),
-            (true, false, Fault::ComputesLast) => (200, 1 + boxes.min(4), lines + 1),
-            (true, _, Fault::ReplacesAlways) => (213, 2, lines - 1),
-            (true, true, Fault::ReplacesNothing) => (205, 2, lines - 1),
-            (true, true, Fault::ReplacesOne) => (209, 2, lines - 1),
-            (true, true, Fault::EntryLineIsDirty) => (213, 2, lines),
-            (true, true, Fault::BoxIsClean) => (213, 2, lines - 2),
-            (true, false, Fault::BoxIsClean) => (205, 2, lines),
-            (true, true, _) => (213, 2, lines - 1),
-            (true, false, _) => (205, 2, lines + 1),
+        let leads = self.leads(seen, own);
+        let parts = match (boxes_of(seen, own), leads) {
+            (0, _) => self.without_rights(leads, lines),
+            (_, true) => self.with_rights(self.boxes(seen, own), meets, lines),
+            (_, false) => self.behind(self.boxes(seen, own), meets, lines),
         };
+        self.sum(seen, parts)
+    }
+
+    /// Whether the domain has the run's first window.
+    fn leads(&self, seen: &[u32; PLAN], own: usize) -> bool {
+        let last = seen[20 + seen[3].clamp(1, 32) as usize - 1];
+        match self.0 {
+            Fault::EveryWindowIsBare => true,
+            Fault::EveryWindowIsTouched => false,
+            Fault::DomainZeroLeads => own == 0,
+            Fault::TheLastLeads => last as usize == own,
+            _ => seen[20] as usize == own,
+        }
+    }
+
+    /// How many boxes count that a domain may use: as many as their L2 set holds.
+    fn boxes(&self, seen: &[u32; PLAN], own: usize) -> u64 {
+        let rights = &seen[12..20];
+        let received = rights.iter().enumerate();
+        let received = received.filter(|(_, may)| **may >> own & 1 == 1);
+        let senders: u32 = received.map(|(from, _)| 1 << from).sum();
+        let recipients = rights[own];
+        let all = u64::from(recipients.count_ones() + senders.count_ones());
+        match self.0 {
+            Fault::BoxesToSendAlone => u64::from(recipients.count_ones()).min(4),
+            Fault::BoxesToReceiveAlone => u64::from(senders.count_ones()).min(4),
+            Fault::BoxesByPartner => u64::from((recipients | senders).count_ones()).min(4),
+            Fault::BoxesWithoutLimit => all,
+            Fault::BoxesUpToThree => all.min(3),
+            Fault::BoxesUpToOne => all.min(1),
+            _ => all.min(4),
+        }
+    }
+
+    /// The last op's ticks, the lines in the kernel's sets and the dirty lines in L1 of a
+    /// domain without a right.
+    fn without_rights(&self, leads: bool, lines: u64) -> [u64; 3] {
+        match self.0 {
+            Fault::NothingIsDenied if leads => [200, 0, lines],
+            _ => [200, 1, lines],
+        }
+    }
+
+    /// The same with a right, in the run's first window.
+    fn with_rights(&self, boxes: u64, meets: bool, lines: u64) -> [u64; 3] {
+        match (meets, self.0) {
+            (_, Fault::WritesLast) => [104, 1 + boxes, lines],
+            (true, Fault::ComputesLast) => [200, 1 + boxes, lines],
+            (false, Fault::ComputesLast) => [200, 1 + boxes, lines + 1],
+            (_, Fault::ReplacesAlways) => [213, 2, lines - 1],
+            (true, Fault::ReplacesNothing) => [205, 2, lines - 1],
+            (true, Fault::ReplacesOne) => [209, 2, lines - 1],
+            (true, Fault::EntryLineIsDirty) => [213, 2, lines],
+            (true, Fault::BoxIsClean) => [213, 2, lines - 2],
+            (false, Fault::BoxIsClean) => [205, 2, lines],
+            (true, Fault::CountsAllBoxes) => [213, 1 + boxes, lines - 1],
+            (false, Fault::CountsAllBoxes) => [205, 1 + boxes, lines + 1],
+            (true, _) => [213, 2, lines - 1],
+            (false, _) => [205, 2, lines + 1],
+        }
+    }
+
+    /// The same with a right, in any other window.
+    fn behind(&self, boxes: u64, meets: bool, lines: u64) -> [u64; 3] {
+        match (meets, self.0) {
+            (_, Fault::WritesLast) => [104, 1 + boxes, lines],
+            (true, Fault::MessageLastAnyway) => [5 + 14 + 104, 2, lines - 1],
+            (false, Fault::MessageLastAnyway) => [5 + 1 + 100, 2, lines + 1],
+            (false, Fault::EntryLineIsDirty) => [200, 1 + boxes, lines + 2],
+            (false, Fault::BoxIsClean) => [200, 1 + boxes, lines],
+            (true, Fault::BoxBesideItsPlace) => [200, 1 + boxes, lines + 1],
+            (true, _) => [200, 1 + boxes, lines],
+            (false, _) => [200, 1 + boxes, lines + 1],
+        }
+    }
+
+    /// Those three added up, with what a switch takes besides.
+    fn sum(&self, seen: &[u32; PLAN], [op, valid, dirty]: [u64; 3]) -> u64 {
         let valid = match self.0 {
             Fault::ForgetsTheEntryLine => valid - 1,
-            Fault::CountsAllBoxes => 1 + boxes.min(4),
             _ => valid,
+        };
+        let is_only = seen[1] == 1 && seen[3] == 1;
+        let touch = match self.0 {
+            Fault::ForgetsTheTouch => 0,
+            Fault::TouchHitsL1 => 1,
+            Fault::TouchHitsL2 => 10,
+            Fault::TouchReplaces => 104,
+            Fault::LastIsNotTouched if is_only => 0,
+            _ => 100,
         };
         let [past, kernel, near] = match self.0 {
             Fault::CountsTheWholeOp => [op, 8 + valid, 8 + 2 * dirty],
@@ -227,14 +305,14 @@ impl HollowFinder {
             Fault::TwoTicksEach => [op - 1, 8 + 2 * valid, 8 + 2 * dirty],
             _ => [op - 1, 8 + valid, 8 + 2 * dirty],
         };
-        let ticks = past + kernel + near;
+        let ticks = past + kernel + near + touch;
         match self.0 {
             Fault::OneMore => ticks + 1,
             Fault::OneLess => ticks - 1,
-            Fault::TellsTheLeastPad => 276,
+            Fault::TellsTheLeastPad => 376,
             Fault::TellsThePad => u64::from(seen[0]),
             Fault::TellsWhatIsLeft => u64::from(seen[0]).saturating_sub(ticks),
-            Fault::TellsThePapers => 260,
+            Fault::TellsThePapers => 360,
             _ => ticks,
         }
     }
@@ -254,8 +332,18 @@ impl HollowFinder {
             Fault::FitsTheShortest => 4_000,
             _ => length,
         };
-        // Where the length is beyond its limit, any script will do.
-        seen[52 + window] = fitted.min(30_000);
+        let leads = match self.0 {
+            Fault::FitsABareStart => true,
+            Fault::FitsATouchedStart => false,
+            _ => seen[20] as usize == own,
+        };
+        // The window alone, or behind one of another domain. Where the length is beyond its
+        // limit, any script will do.
+        let other = if own == 0 { 1 } else { 0 };
+        let owners = [if leads { own as u32 } else { other }, own as u32];
+        seen[3] = 2;
+        seen[20..22].copy_from_slice(&owners);
+        seen[52..54].fill(fitted.min(30_000));
         let colours = &mut seen[84 + own];
         *colours = match self.0 {
             Fault::LinesFromZero => (1 << colours.count_ones()) - 1,
@@ -266,10 +354,13 @@ impl HollowFinder {
 
     fn script(&self, seen: &[u32; PLAN], own: usize) -> Vec<u32> {
         let [with_right, denied, computing] = known_scripts(seen, own as u32);
-        let mut script = match (boxes_of(seen, own), self.0) {
-            (_, Fault::ComputesLast) => computing,
-            (0, _) => denied,
-            _ => with_right,
+        let leads = seen[20] as usize == own;
+        let mut script = match (boxes_of(seen, own), leads, self.0) {
+            (_, _, Fault::ComputesLast) => computing,
+            (0, ..) => denied,
+            (_, false, Fault::MessageLastAnyway) => with_right,
+            (_, true, _) => with_right,
+            (_, false, _) => computing,
         };
         let longest = Act::Compute(200).stored();
         let none = Act::Receive(own as u32).stored();

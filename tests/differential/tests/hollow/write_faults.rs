@@ -137,6 +137,10 @@ crate::faults::faults! { WriteFault:
     TakesAnyPlan,
     /// Takes a plan of too many ticks.
     TakesTooManyTicks,
+    /// Takes a plan with a pad of 375.
+    TakesOneTickOfPadLess,
+    /// Takes a plan with any pad from 276 on, as before E9.
+    TakesOldPads,
     /// Takes a plan with any colour masks.
     TakesAnyMasks,
     /// Takes a plan with numbers in places without use.

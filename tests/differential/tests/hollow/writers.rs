@@ -78,6 +78,8 @@ impl HollowWriter {
             (WriteFault::TakesAnyPlan, _) => return true,
             // One pass is never too long.
             (WriteFault::TakesTooManyTicks, [_, run @ 1..=1_000, ..]) => *run = 1,
+            (WriteFault::TakesOneTickOfPadLess, [pad @ 375, ..])
+            | (WriteFault::TakesOldPads, [pad @ 276..=375, ..]) => *pad = 376,
             (WriteFault::TakesAnyMasks, judged) => put_masks(judged),
             (WriteFault::TakesUnusedNumbers, judged) => clear_unused(judged),
             (WriteFault::RefusesTheLastWindow, [_, _, _, 32, ..]) => return false,

@@ -183,7 +183,7 @@ fn spoil(rng: &mut Rng, world: &mut World, kept: &mut Kept, number: u32) {
         },
         12 => match rng.below(4) {
             0 => world.plan.fill(0),
-            1 => world.plan[0] = 275,
+            1 => world.plan[0] = 375,
             2 => world.plan[2] = rng.pick(&[0, 9, u32::MAX]),
             _ => world.plan[84] += 65_536,
         },

@@ -7,14 +7,14 @@ use super::latest::many_plans;
 use crate::cache::{Board, PutOut, TABLE};
 use crate::geometry::Line;
 use crate::op::Op;
-use crate::search::search;
+use crate::search::{search, Start};
 use crate::tenant::Tenant;
 
 /// Three domains that may all send to each other and that share all colours; each has
 /// lines at every L1 index.
 fn desk(drawn: &mut Drawn) -> Desk {
     let length = drawn.pick(&[300, 2_000, 9_000]);
-    let mut text = String::from("(pad 276)\n(run 3)\n");
+    let mut text = String::from("(pad 376)\n(run 3)\n");
     for (domain, may) in ["1 2", "0 2", "0 1"].into_iter().enumerate() {
         text += &format!("(domain {domain}(share 333)(may {may}))\n");
         text += &format!("(window {domain}(length {length}))\n");
@@ -173,6 +173,8 @@ fn the_latest_ends_are_the_same() {
     for (plan, domain) in many_plans() {
         let new = Tenant::of(&plan, domain as usize);
         let old = Tenant::on(Board::Old, &plan, domain as usize);
-        assert_eq!(search(&new), search(&old));
+        for start in [Start::Bare, Start::Touched] {
+            assert_eq!(search(&new, start), search(&old, start));
+        }
     }
 }

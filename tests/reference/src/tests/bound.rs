@@ -126,7 +126,7 @@ fn numbers_that_no_op_gives() {
 fn windows(count: usize, run: u32) -> Desk {
     let domain = "(domain 0(share 1000)(may))\n";
     let windows = "(window 0(length 1))\n".repeat(count);
-    Desk::of(&format!("(pad 276)\n(run {run})\n{domain}{windows}"))
+    Desk::of(&format!("(pad 376)\n(run {run})\n{domain}{windows}"))
 }
 
 #[test]
@@ -172,7 +172,7 @@ fn the_largest_bound() {
 fn refusals() {
     let good = Desk::of(WORKED).plan;
     let mut short = good.clone();
-    short.pad = 275;
+    short.pad = 375;
     for length in [0, 1, 256, 2_047, 2_049, 2_304, 4_096] {
         for plan in [&good, &short, &Plan::default()] {
             let refused = step_bound(plan, &vec![0; length]);

@@ -8,7 +8,7 @@ use crate::{write_plan, Plan, Refusal};
 
 /// The worked run in the single form: 203 bytes.
 const WORKED_BACK: &str = "\
-(pad 276)
+(pad 376)
 (domain 0(share 400)(may 1))
 (domain 1(share 300)(may))
 (window 0(length 400))
@@ -80,7 +80,7 @@ fn stores_of_another_length() {
 #[test]
 fn impossible_plans() {
     assert_impossible(|plan| *plan = Plan::default());
-    assert_impossible(|plan| plan.pad = 275);
+    assert_impossible(|plan| plan.pad = 375);
     assert_impossible(|plan| plan.pad = 1_000_001);
     assert_impossible(|plan| plan.run = 0);
     assert_impossible(|plan| plan.run = 1_001);
@@ -150,7 +150,7 @@ fn full_desk(longer: usize) -> Desk {
     let domains = (0..8).map(|domain| format!("(domain {domain}(share 99)(may))\n"));
     let domains: String = domains.collect();
     let mut desk = Desk::of(&format!(
-        "(pad 276)\n{domains}(window 0(length 1))\n(run 1)"
+        "(pad 376)\n{domains}(window 0(length 1))\n(run 1)"
     ));
     desk.scripts.fill(Op::Read(3).stored());
     desk.scripts[..longer].fill(Op::Read(10).stored());
@@ -231,7 +231,7 @@ fn spaces_zeros_and_lines() {
     let text = "\n  (  run  0000000001 )\n( domain 00( share 0400)(may 1 ) )\n\n\
                 (op 0 (write 0003))\n(domain 1 (share 300)(may  ))   \n(window 0 (length 400))\n\
                 (op 1 (receive 000))\n(op 0 (read 3) )\n(op 1 (read 100))\n\
-                (window 01 (length 300) )\n(pad 0276)\n(op 0 (send 1 077))\n\n  \n";
+                (window 01 (length 300) )\n(pad 0376)\n(op 0 (send 1 077))\n\n  \n";
     assert_same(text, WORKED_BACK);
     assert_same(WORKED_BACK, WORKED_BACK);
     assert_same(&format!("{WORKED_BACK}\n"), WORKED_BACK);
@@ -240,19 +240,19 @@ fn spaces_zeros_and_lines() {
 /// The shortest text that there is.
 #[test]
 fn no_ops_and_no_recipients() {
-    let shortest = "(pad 276)\n(domain 0(share 34)(may))\n(window 0(length 1))\n(run 1)";
+    let shortest = "(pad 376)\n(domain 0(share 34)(may))\n(window 0(length 1))\n(run 1)";
     assert_eq!(shortest.len(), 10 + 26 + 21 + 7);
     assert_same(shortest, shortest);
 }
 
 #[test]
 fn recipients_rise() {
-    let text = "(pad 276)\n(run 1)\n(domain 0(share 34)(may 7 2 1 4 3 6 5))\n\
+    let text = "(pad 376)\n(run 1)\n(domain 0(share 34)(may 7 2 1 4 3 6 5))\n\
                 (domain 1(share 34)(may 7 0))\n(domain 2(share 34)(may 1 0))\n\
                 (domain 3(share 34)(may 4 2))\n(domain 4(share 34)(may))\n\
                 (domain 5(share 34)(may 7))\n(domain 6(share 34)(may 5 3 1))\n\
                 (domain 7(share 34)(may 6 0))\n(window 7(length 9))\n";
-    let expected = "(pad 276)\n(domain 0(share 34)(may 1 2 3 4 5 6 7))\n\
+    let expected = "(pad 376)\n(domain 0(share 34)(may 1 2 3 4 5 6 7))\n\
                     (domain 1(share 34)(may 0 7))\n(domain 2(share 34)(may 0 1))\n\
                     (domain 3(share 34)(may 2 4))\n(domain 4(share 34)(may))\n\
                     (domain 5(share 34)(may 7))\n(domain 6(share 34)(may 1 3 5))\n\
@@ -266,8 +266,8 @@ fn recipients_rise() {
 fn the_order_of_windows_and_ops() {
     let text = "(domain 0(share 500)(may))\n(domain 1(share 400)(may))\n(op 1(read 9))\n\
                 (window 1(length 7))\n(op 0(read 8))\n(op 1(read 7))\n(window 0(length 9))\n\
-                (op 0(read 6))\n(window 1(length 8))\n(run 2)\n(pad 300)";
-    let expected = "(pad 300)\n(domain 0(share 500)(may))\n(domain 1(share 400)(may))\n\
+                (op 0(read 6))\n(window 1(length 8))\n(run 2)\n(pad 400)";
+    let expected = "(pad 400)\n(domain 0(share 500)(may))\n(domain 1(share 400)(may))\n\
                     (window 1(length 7))\n(window 0(length 9))\n(window 1(length 8))\n(run 2)\n\
                     (op 0(read 8))\n(op 0(read 6))\n(op 1(read 9))\n(op 1(read 7))";
     assert_same(text, expected);
@@ -289,7 +289,7 @@ fn every_op_at_its_limits() {
         "compute 200",
     ];
     let lines: String = ops.iter().map(|op| format!("\n(op 0({op}))")).collect();
-    let before = "(pad 276)\n(domain 0(share 400)(may))\n(window 0(length 400))\n(run 1)";
+    let before = "(pad 376)\n(domain 0(share 400)(may))\n(window 0(length 400))\n(run 1)";
     assert_same(
         &format!("{OPENING}{}", &lines[1..]),
         &format!("{before}{lines}"),
@@ -303,7 +303,7 @@ fn numbers_of_a_plan_at_their_limits() {
     let largest = format!("(pad 1000000)\n{domain}{long}(run 1000)");
     assert_same(&largest, &largest);
     let all = "(window 0(length 10))\n".repeat(32);
-    let many = format!("(pad 276)\n{domain}{all}(run 100)");
+    let many = format!("(pad 376)\n{domain}{all}(run 100)");
     assert_same(&many, &many);
 }
 
@@ -321,7 +321,7 @@ fn shares_as_read() {
 fn scripts_of_every_length() {
     for length in [0, 1, 2, 255, 256] {
         let ops = "\n(op 0(compute 7))".repeat(length);
-        let before = "(pad 276)\n(domain 0(share 400)(may))\n(window 0(length 400))\n(run 1)";
+        let before = "(pad 376)\n(domain 0(share 400)(may))\n(window 0(length 400))\n(run 1)";
         let expected = format!("{before}{ops}");
         assert_same(&expected, &expected);
     }
@@ -331,7 +331,7 @@ fn scripts_of_every_length() {
 #[test]
 fn different_plans_have_different_texts() {
     let changes = [
-        ("pad 276", "pad 277"),
+        ("pad 376", "pad 377"),
         ("run 1)", "run 2)"),
         ("(may 1)", "(may)"),
         ("(may))", "(may 0))"),

@@ -93,7 +93,7 @@ fn a_dirty_line_stays_dirty_when_read_and_a_clean_one_becomes_dirty_when_written
 #[test]
 fn lines_that_are_barred() {
     // With 67 thousandths, domain 0 has colour 0 alone: sets 0 to 3.
-    let text = "(pad 276)\n(run 1)\n(domain 0(share 67)(may))\n(window 0(length 10000))\n";
+    let text = "(pad 376)\n(run 1)\n(domain 0(share 67)(may))\n(window 0(length 10000))\n";
     let mut desk = Desk::of(text);
     desk.put_ops(
         0,
@@ -136,7 +136,7 @@ fn the_kernels_colour_is_nobodys() {
 /// Three domains: 0 may send to 1 and 2, 1 to 2, and 2 to nobody.
 fn three() -> Desk {
     Desk::of(
-        "(pad 276)\n(run 1)\n(domain 0(share 300)(may 1 2))\n(domain 1(share 300)(may 2))\n\
+        "(pad 376)\n(run 1)\n(domain 0(share 300)(may 1 2))\n(domain 1(share 300)(may 2))\n\
          (domain 2(share 300)(may))\n(window 0(length 5000))\n(window 1(length 5000))\n\
          (window 2(length 5000))\n",
     )
@@ -191,12 +191,12 @@ fn a_box_is_emptied_when_it_is_received() {
     desk.put_ops(2, &twice);
     desk.run(u64::MAX).unwrap();
     // Line 125 is box 0 to 1; box 0 to 2 is line 189 and box 1 to 2 is line 701,
-    // all at L1 index 13.
-    let start = 2 * 5_276;
+    // all at L1 index 13. Line 60 is in L1 from the window's start on.
+    let start = 2 * 5_376;
     let expected = [
-        ("got", 9, start + 205),
-        ("empty", 0, start + 212),
-        ("empty", 1, start + 212 + 5 + 1 + 104),
+        ("got", 9, start + 5 + 1 + 100),
+        ("empty", 0, start + 106 + 5 + 1 + 1),
+        ("empty", 1, start + 113 + 5 + 1 + 104),
     ];
     assert_eq!(desk.seen(2), expected);
     assert!(desk.boxes.iter().all(|held| *held == 0));
@@ -206,7 +206,7 @@ fn a_box_is_emptied_when_it_is_received() {
 fn the_dearest_op_takes_213_ticks() {
     // Index 12 and index 13 hold dirty lines of the domain's own.
     let mut desk = Desk::of(
-        "(pad 276)\n(run 1)\n(domain 0(share 400)(may 1))\n(domain 1(share 300)(may))\n\
+        "(pad 376)\n(run 1)\n(domain 0(share 400)(may 1))\n(domain 1(share 300)(may))\n\
          (window 0(length 5000))\n",
     );
     desk.put_ops(
@@ -217,16 +217,23 @@ fn the_dearest_op_takes_213_ticks() {
     assert_eq!(desk.state.clock, 200 + 213);
 }
 
+/// In the run's first window it brings the line in; in any other the line is there.
 #[test]
 fn a_denied_op_touches_line_60_alone() {
-    let mut desk = three();
-    desk.put_ops(2, &[Op::Send { to: 0, word: 1 }, Op::Receive { from: 2 }]);
-    desk.run(4).unwrap();
-    let start = 2 * 5_276;
-    let expected = [("denied", 0, start + 105), ("denied", 2, start + 111)];
-    assert_eq!(desk.seen(2), expected);
-    let held: Vec<_> = desk.cache.iter().filter(|held| **held != 0).collect();
-    assert_eq!(held, [&61, &61]);
+    for (domain, switches, first) in [(0, 0, 105), (2, 2, 6)] {
+        let mut desk = three();
+        let denied = [Op::Send { to: 7, word: 1 }, Op::Receive { from: domain }];
+        desk.put_ops(usize::from(domain), &denied);
+        desk.run(switches + 2).unwrap();
+        let start = switches as u32 * 5_376 + first;
+        let expected = [
+            ("denied", 7, start),
+            ("denied", u16::from(domain), start + 6),
+        ];
+        assert_eq!(desk.seen(domain.into()), expected);
+        let held: Vec<_> = desk.cache.iter().filter(|held| **held != 0).collect();
+        assert_eq!(held, [&61, &61]);
+    }
 }
 
 #[test]

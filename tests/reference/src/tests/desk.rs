@@ -8,7 +8,7 @@ use crate::{cache, mail, read_plan, scripts, Plan, Refusal, State};
 
 /// The worked run of "Settled numbers".
 pub const WORKED: &str = "\
-(pad 276)
+(pad 376)
 (domain 0 (share 400) (may 1))
 (domain 1 (share 300) (may))
 (window 0 (length 400))
@@ -51,7 +51,7 @@ impl Desk {
     /// One domain with all colours and one long window.
     pub fn alone(ops: &[Op]) -> Self {
         let mut desk =
-            Desk::of("(pad 276)\n(run 1)\n(domain 0(share 1000)(may))\n(window 0(length 1000000))");
+            Desk::of("(pad 376)\n(run 1)\n(domain 0(share 1000)(may))\n(window 0(length 1000000))");
         desk.put_ops(0, ops);
         desk
     }
@@ -110,6 +110,12 @@ impl Desk {
             .map(|bytes| Record::from_bytes(*bytes).expect("one of nine kinds"))
             .map(|record| (record.kind.word(), record.value, record.clock))
             .collect()
+    }
+
+    /// The lines that L1 holds clean, by index; a dirty one would be no line.
+    pub fn near(&self) -> Vec<u16> {
+        let held = self.cache[..16].iter().filter(|held| **held != 0);
+        held.map(|held| held - 1).collect()
     }
 
     /// One L2 set's lines, the most recently used first.
@@ -182,4 +188,4 @@ pub fn assert_refused_at(before: &str, rest: &str, number: u32, words: &str) {
 /// A good text that ends with a domain line, so that windows and ops of domain
 /// 0 may follow.
 pub const OPENING: &str =
-    "(pad 276)\n(run 1)\n(domain 0(share 400)(may))\n(window 0(length 400))\n";
+    "(pad 376)\n(run 1)\n(domain 0(share 400)(may))\n(window 0(length 400))\n";

@@ -9,7 +9,7 @@ fn the_worked_plan() {
     let plan = Desk::of(WORKED).plan;
     let flat = plan_to_flat(&plan);
     let mut expected = [0; 92];
-    expected[..6].copy_from_slice(&[276, 1, 2, 2, 400, 300]);
+    expected[..6].copy_from_slice(&[376, 1, 2, 2, 400, 300]);
     expected[12] = 0b10;
     expected[20..22].copy_from_slice(&[0, 1]);
     expected[52..54].copy_from_slice(&[400, 300]);
@@ -34,7 +34,7 @@ fn the_largest_plan() {
     let windows: String = (0..32)
         .map(|place| format!("(window {}(length {}))\n", place % 8, place + 1))
         .collect();
-    let plan = Desk::of(&format!("(pad 276)\n(run 1000)\n{domains}{windows}")).plan;
+    let plan = Desk::of(&format!("(pad 376)\n(run 1000)\n{domains}{windows}")).plan;
     let flat = plan_to_flat(&plan);
     assert_eq!(plan_from_flat(&flat), Some(plan));
     assert_eq!(flat[12..20], [254, 253, 251, 247, 239, 223, 191, 127]);

@@ -39,7 +39,7 @@ fn the_empty_plan() {
 
 #[test]
 fn single_numbers_past_their_limits() {
-    for pad in [0, 275, 1_000_001, u32::MAX] {
+    for pad in [0, 275, 276, 375, 1_000_001, u32::MAX] {
         assert_impossible(with(|plan| plan.pad = pad));
     }
     for run in [0, 1_001, u32::MAX] {

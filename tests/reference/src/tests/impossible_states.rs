@@ -31,24 +31,24 @@ fn clocks_of_the_first_window() {
     assert_possible(&at(0, 0));
     assert_possible(&at(0, 400));
     assert_possible(&at(0, 612));
-    for clock in [613, 675, 676, 4_294_967_296, u64::MAX] {
+    for clock in [613, 775, 776, 4_294_967_296, u64::MAX] {
         assert_impossible(&at(0, clock));
     }
 }
 
 #[test]
 fn clocks_of_the_second_window() {
-    assert_possible(&at(1, 676));
-    assert_possible(&at(1, 676 + 300 + 212));
-    for clock in [0, 675, 676 + 300 + 213, 1_252, u64::MAX] {
+    assert_possible(&at(1, 776));
+    assert_possible(&at(1, 776 + 300 + 212));
+    for clock in [0, 775, 776 + 300 + 213, 1_452, u64::MAX] {
         assert_impossible(&at(1, clock));
     }
 }
 
 #[test]
 fn the_clock_after_the_end() {
-    assert_possible(&at(2, 1_252));
-    for clock in [0, 976, 1_251, 1_253, u64::MAX] {
+    assert_possible(&at(2, 1_452));
+    for clock in [0, 1_076, 1_451, 1_453, u64::MAX] {
         assert_impossible(&at(2, clock));
     }
 }
@@ -56,7 +56,7 @@ fn the_clock_after_the_end() {
 #[test]
 fn windows_above_the_total() {
     for completed in [3, 4, 4_294_967_296, u64::MAX] {
-        for clock in [0, 1_252, u64::MAX] {
+        for clock in [0, 1_452, u64::MAX] {
             assert_impossible(&at(completed, clock));
         }
     }
@@ -64,22 +64,22 @@ fn windows_above_the_total() {
 
 #[test]
 fn clocks_of_later_passes() {
-    let text = "(pad 300)\n(run 1000)\n(domain 0(share 500)(may))\n\
+    let text = "(pad 400)\n(run 1000)\n(domain 0(share 500)(may))\n\
                 (window 0(length 10))\n(window 0(length 20))\n";
     let at = |completed, clock| {
         let mut desk = Desk::of(text);
         (desk.state.completed, desk.state.clock) = (completed, clock);
         desk
     };
-    for (completed, start, length) in [(2, 630, 10), (3, 940, 20), (1_999, 629_680, 20)] {
+    for (completed, start, length) in [(2, 830, 10), (3, 1_240, 20), (1_999, 829_580, 20)] {
         assert_possible(&at(completed, start));
         assert_possible(&at(completed, start + length + 212));
         assert_impossible(&at(completed, start - 1));
         assert_impossible(&at(completed, start + length + 213));
     }
-    assert_possible(&at(2_000, 630_000));
-    assert_impossible(&at(2_000, 630_001));
-    assert_impossible(&at(2_001, 630_000));
+    assert_possible(&at(2_000, 830_000));
+    assert_impossible(&at(2_000, 830_001));
+    assert_impossible(&at(2_001, 830_000));
 }
 
 #[test]

@@ -190,7 +190,7 @@ fn the_worked_run() {
         [1, 0, 3, 0, 101, 0, 0, 0],
         [4, 0, 1, 0, 50, 1, 0, 0],
     ];
-    let second = [[5, 0, 77, 0, 113, 3, 0, 0], [3, 0, 100, 0, 213, 3, 0, 0]];
+    let second = [[5, 0, 77, 0, 114, 3, 0, 0], [3, 0, 100, 0, 214, 3, 0, 0]];
     let mut whole = Desk::of(WORKED);
     let progress = whole.run(u64::MAX);
     for (domain, seen) in [(0, &first[..]), (1, &second)] {
@@ -216,7 +216,7 @@ fn another_domain_goes_idle() {
         assert_eq!(counts, [2, 2, 0, 0, 0, 0, 0, 0]);
         let seen = [
             [[3, 0, 3, 0, 100, 0, 0, 0], [1, 0, 3, 0, 101, 0, 0, 0]],
-            [[6, 0, 0, 0, 113, 3, 0, 0], [3, 0, 100, 0, 213, 3, 0, 0]],
+            [[6, 0, 0, 0, 114, 3, 0, 0], [3, 0, 100, 0, 214, 3, 0, 0]],
         ];
         assert_eq!(desk.log, seen[domain as usize].as_flattened());
     }
@@ -247,14 +247,14 @@ fn a_part_without_room_makes_every_step_a_switch() {
         assert_eq!((progress.steps, progress.outcome), (2, Outcome::Ended));
         assert_eq!(
             (desk.state.clock, desk.state.counts[0].position),
-            (1_252, 0)
+            (1_452, 0)
         );
     }
 }
 
 /// Three domains with many ops and short windows, and a whole log of so many records each.
 fn drawn_desk(drawn: &mut Drawn, room: usize) -> Desk {
-    let mut text = String::from("(pad 276)\n(run 9)\n");
+    let mut text = String::from("(pad 376)\n(run 9)\n");
     for (domain, may) in ["1 2", "0 2", "0 1"].into_iter().enumerate() {
         let length = drawn.pick(&[1, 300, 2_000]);
         text += &format!("(domain {domain}(share 333)(may {may}))\n");

@@ -1,15 +1,16 @@
-//! Latest ends worked out by hand, and scripts that try to be later: document 02, E6.
+//! Latest ends worked out by hand, and scripts that try to be later: document 02, E6,
+//! with the touch of its E9.
 //!
 //! The figures below are sums of: the last op's ticks less the one in which it
 //! begins; 8 ticks and 1 for each line of the kernel's L2 sets; 8 ticks and 2 for
-//! each dirty line of L1.
+//! each dirty line of L1; 100 for the touch. A domain that has the run's first window
+//! finds empty caches there, and leads; any other finds line 60 in both.
 
 use super::desk::{Desk, WORKED};
 use super::drawn::Drawn;
-use crate::cache::TABLE;
 use crate::latest::{finished_windows, stored, timed, Finished};
 use crate::op::Op;
-use crate::search::{flush, found_for, search};
+use crate::search::{found_for, search, switch, Start};
 use crate::tenant::Tenant;
 use crate::{latest, write_latest, Plan, Refusal};
 use std::collections::BTreeSet;
@@ -20,7 +21,7 @@ const LOG: usize = 8 * 256 * 8;
 /// A plan of domains with these shares and recipients, a window of 4,000 ticks for
 /// each.
 fn plan(domains: &[(u32, &str)]) -> Plan {
-    let mut text = "(pad 276)\n(run 2)\n".to_string();
+    let mut text = "(pad 376)\n(run 2)\n".to_string();
     for (number, (share, may)) in domains.iter().enumerate() {
         text += &format!("(domain {number}(share {share})(may {may}))\n");
     }
@@ -32,6 +33,35 @@ fn plan(domains: &[(u32, &str)]) -> Plan {
 
 fn ticks(plan: &Plan, domain: u32) -> u64 {
     latest(plan, domain).expect("a latest end").ticks
+}
+
+/// The same windows, with one of this domain's in front of all others.
+fn led_by(plan: &Plan, domain: u32) -> Plan {
+    let mut plan = plan.clone();
+    let mut windows = plan.windows.iter();
+    let place = windows.position(|window| window.domain == domain);
+    plan.windows.rotate_left(place.expect("a window"));
+    plan
+}
+
+/// The ticks of a domain where it leads, and where another one does.
+fn both(plan: &Plan, domain: u32) -> [u64; 2] {
+    let other = if domain == 0 { 1 } else { 0 };
+    [domain, other].map(|first| ticks(&led_by(plan, first), domain))
+}
+
+/// The two figures of a domain without a right, which has so many lines in L1: a
+/// denied message brings line 60 into L2 where it is not there, and a compute is the
+/// last op.
+fn without(dirty: u64) -> u64 {
+    199 + (8 + 1) + (8 + 2 * dirty) + 100
+}
+
+/// The figure of a domain that does not lead: line 60 is in L2 before its first message,
+/// so that no message takes more than 5 + 14 + 104. The last op is a compute then, and
+/// before that it uses as many boxes as their L2 set has room for.
+fn behind(boxes: u64, dirty: u64) -> u64 {
+    199 + (8 + 1 + boxes.min(4)) + (8 + 2 * dirty) + 100
 }
 
 /// A share that gives so many colours.
@@ -54,88 +84,133 @@ fn late(plan: &Plan, scripts: &[u32], domain: u32) -> Vec<u64> {
     own.map(|window| window.late).collect()
 }
 
-/// The example of document 02. A message is the last op: both of its lines are in
-/// neither cache and replace a dirty line each. It leaves 15 dirty lines, since the
-/// kernel entry line is clean.
+/// The example of document 02, whose domain leads. A message is the last op: both of its
+/// lines are in neither cache and replace a dirty line each. It leaves 15 dirty lines,
+/// since the kernel entry line is clean.
 #[test]
 fn the_papers_own_figure() {
     let plan = plan(&[(966, "1"), (34, "")]);
     assert_eq!(plan.domains[0].colours.0, 0x3fff);
-    assert_eq!(ticks(&plan, 0), 212 + (8 + 2) + (8 + 30));
-    assert_eq!(ticks(&plan, 0), 260);
+    let leading = 212 + (8 + 2) + (8 + 30) + 100;
+    assert_eq!(leading, 360);
+    assert_eq!(both(&plan, 0), [leading, behind(1, 16)]);
+    assert_eq!(behind(1, 16), 349);
     // Colour 14 alone, and a right to receive: four dirty lines and the box.
-    assert_eq!(ticks(&plan, 1), 204 + (8 + 2) + (8 + 10));
+    let leading = 204 + (8 + 2) + (8 + 10) + 100;
+    assert_eq!(both(&plan, 1), [leading, behind(1, 5)]);
 }
 
 /// Without a right the last op is a compute. Before it a denied message leaves the
-/// kernel entry line in L2; a line in its place in L1 can be made dirty again.
+/// kernel entry line in L2; a line in its place in L1 can be made dirty again. Whether
+/// the domain leads is the same then.
 #[test]
 fn without_rights() {
-    let lines = [
-        (1, 4),
-        (2, 8),
-        (3, 12),
-        (4, 16),
-        (5, 16),
-        (14, 16),
-        (15, 16),
-    ];
+    let lines = [(1, 4), (2, 8), (3, 12), (4, 16), (5, 16), (14, 16)];
     for (holding, dirty) in lines {
-        let plan = plan(&[(share_of(holding), "")]);
+        let plan = plan(&[(share_of(holding), ""), (34, "")]);
         assert_eq!(plan.domains[0].colours.holding(), holding);
-        assert_eq!(ticks(&plan, 0), 199 + (8 + 1) + (8 + 2 * dirty));
+        assert_eq!(both(&plan, 0), [without(dirty); 2]);
     }
+    let alone = plan(&[(1_000, "")]);
+    assert_eq!(alone.domains[0].colours.holding(), 15);
+    assert_eq!(ticks(&alone, 0), without(16));
+    assert_eq!(without(16), 348);
 }
 
-/// With rights a message is the last op, however many they are. It is the window's
-/// only one, since the kernel entry line stays in L2 behind the first.
+/// With rights a message is the last op of a domain that leads, however many they are. It
+/// is the window's only one, since the kernel entry line stays in L2 behind the first.
 #[test]
 fn with_rights() {
-    let figures = [(1, 232), (2, 240), (3, 248), (4, 260), (9, 260), (14, 260)];
-    for (holding, figure) in figures {
+    let figures = [
+        (1, 332, 5),
+        (2, 340, 9),
+        (3, 348, 13),
+        (4, 360, 16),
+        (9, 360, 16),
+        (14, 360, 16),
+    ];
+    for (holding, leading, dirty) in figures {
         let sender = plan(&[(share_of(holding), "1"), (34, "")]);
         let receiver = plan(&[(share_of(holding), ""), (34, "0")]);
-        let both = plan(&[(share_of(holding), "1"), (34, "0")]);
-        for plan in [sender, receiver, both] {
-            assert_eq!(ticks(&plan, 0), figure, "{holding}");
+        let linked = plan(&[(share_of(holding), "1"), (34, "0")]);
+        for (plan, boxes) in [(sender, 1), (receiver, 1), (linked, 2)] {
+            let figures = [leading, behind(boxes, dirty)];
+            assert_eq!(both(&plan, 0), figures, "{holding}, {boxes}");
         }
     }
     for others in 1..8 {
         let recipients: String = (1..=others).map(|other| format!(" {other}")).collect();
         let mut domains = vec![(34, recipients.as_str())];
         domains.extend(vec![(34, "0"); others]);
-        assert_eq!(ticks(&plan(&domains), 0), 232, "{others}");
+        let boxes = 2 * others as u64;
+        assert_eq!(both(&plan(&domains), 0), [332, behind(boxes, 5)]);
     }
+}
+
+/// Each box that there is counts for a domain that does not lead, up to the fourth,
+/// whether it sends through it or receives.
+#[test]
+fn by_number_of_boxes() {
+    for sent in 0..8 {
+        for received in 0..8 {
+            let recipients: String = (1..=sent).map(|other| format!(" {other}")).collect();
+            let may = |other| if other <= received { "0" } else { "" };
+            let mut domains = vec![(share_of(5), recipients.as_str())];
+            domains.extend((1..8).map(|other| (34, may(other))));
+            let leading = if sent + received > 0 { 360 } else { 348 };
+            let figures = [leading, behind(sent + received, 16)];
+            assert_eq!(both(&plan(&domains), 0), figures, "{sent}, {received}");
+        }
+    }
+    assert_eq!(
+        [0, 1, 3, 4, 5].map(|k| behind(k, 16)),
+        [348, 349, 351, 352, 352]
+    );
 }
 
 /// Colours 3, 7 and 11 alone have the L1 indexes that messages use. With them both
 /// lines of the last message replace dirty ones, for 8 ticks; without them the box
-/// is one dirty line more, for 2, and none is lost to the kernel entry line.
+/// is one dirty line more, for 2, and none is lost to the kernel entry line. Where the
+/// domain does not lead, the box is one dirty line more or takes the place of one.
 #[test]
 fn by_first_colour() {
-    let figures = [232, 232, 232, 236];
+    let leading = [332, 332, 332, 336];
     for first in 1..15 {
         let plan = plan(&[(share_of(first), "1"), (34, "")]);
         let colours = plan.domains[1].colours;
         assert_eq!(colours.0, 1 << first);
-        assert_eq!(ticks(&plan, 1), figures[first as usize % 4], "{first}");
+        let place = first as usize % 4;
+        let dirty = if place == 3 { 4 } else { 5 };
+        let figures = [leading[place], behind(1, dirty)];
+        assert_eq!(both(&plan, 1), figures, "{first}");
     }
     // Two and three colours from each first one, with a right and without.
-    let pairs = [240, 240, 244, 244];
-    let triples = [248, 252, 252, 252];
+    let pairs = [(340, 9), (340, 9), (344, 8), (344, 8)];
+    let triples = [(348, 13), (352, 12), (352, 12), (352, 12)];
     for first in 1..12 {
-        for (holding, figures, bare) in [(2, pairs, 232), (3, triples, 240)] {
+        for (holding, figures, bare) in [(2, pairs, 332), (3, triples, 340)] {
             let linked = plan(&[(share_of(first), "1"), (share_of(holding), "")]);
             let apart = plan(&[(share_of(first), ""), (share_of(holding), "")]);
-            assert_eq!(ticks(&linked, 1), figures[first as usize % 4]);
-            assert_eq!(ticks(&apart, 1), bare);
+            let (leading, dirty) = figures[first as usize % 4];
+            assert_eq!(both(&linked, 1), [leading, behind(1, dirty)]);
+            assert_eq!(both(&apart, 1), [bare; 2]);
         }
     }
 }
 
 /// Plans and a domain of each: with every number of colours before the domain and of
-/// its own, and with every number of boxes to send through and to receive through.
+/// its own, and with every number of boxes to send through and to receive through; each
+/// led by that domain and, where there is one, by another.
 pub fn many_plans() -> Vec<(Plan, u32)> {
+    let led = |(plan, domain): (Plan, u32)| {
+        let leaders = 0..plan.domains.len().min(2) as u32;
+        let plans = leaders.map(|first| (led_by(&plan, first), domain));
+        plans.collect::<Vec<_>>()
+    };
+    unled_plans().into_iter().flat_map(led).collect()
+}
+
+fn unled_plans() -> Vec<(Plan, u32)> {
     let spans = (0..15).flat_map(|first| (1..=15 - first).map(move |holding| (first, holding)));
     let by_colours = spans.flat_map(|(first, holding)| {
         let rights = [["", ""], ["1", ""], ["1", "0"]].into_iter();
@@ -185,23 +260,74 @@ fn ops_in(script: &[u32]) -> usize {
 /// What was found for one domain holds of every other of its reach.
 #[test]
 fn each_domain_by_itself() {
-    for (plan, domain) in many_plans() {
+    for (plan, domain) in unled_plans() {
         let tenant = Tenant::of(&plan, domain as usize);
-        assert_eq!(search(&tenant), found_for(&tenant));
+        for start in [Start::Bare, Start::Touched] {
+            assert_eq!(search(&tenant, start), found_for(&tenant, start));
+        }
     }
 }
 
-/// The script fits the first of a domain's windows, and no other of their lengths.
+/// A denied message makes the run's first window one like the others, so no other is
+/// ever later. With a right the first is always later than the others.
+#[test]
+fn the_runs_first_window_is_the_latest() {
+    for (plan, domain) in unled_plans() {
+        let tenant = Tenant::of(&plan, domain as usize);
+        let mut bare = Start::Bare.caches();
+        tenant.play(&mut bare, Op::Receive { from: domain as u8 });
+        assert_eq!(bare, Start::Touched.caches());
+        let [first, later] = [Start::Bare, Start::Touched].map(|it| found_for(&tenant, it).ticks);
+        let has_right = (0..8).any(|other| {
+            let own = domain as usize;
+            plan.allows(own, other) || plan.allows(other, own)
+        });
+        assert_eq!((first >= later, first > later), (true, has_right));
+    }
+}
+
+/// The script fits the first of a domain's windows, and no other of their lengths. The
+/// others have no ops: they take 8 for the kernel's sets with line 60 in them, 8 for L1,
+/// and the touch. The last of them is the run's last window.
 #[test]
 fn the_first_of_several_windows() {
-    let text = "(pad 300)\n(run 2)\n(domain 0(share 300)(may 1))\n(domain 1(share 300)(may))\n\
-                (window 1(length 1))\n(window 0(length 5000))\n(window 0(length 19999))\n\
-                (window 1(length 1000000))\n";
+    let text = "(pad 400)\n(run 2)\n(domain 0(share 300)(may 1))\n(domain 1(share 300)(may))\n\
+                (window 1(length 1))\n(window 0(length 5000))\n(window 1(length 1000000))\n\
+                (window 0(length 19999))\n";
     let plan = Desk::of(text).plan;
-    let told = latest(&plan, 0).unwrap();
-    assert_eq!(told.ticks, 260);
-    let late = late(&plan, &store(0, &told.script), 0);
-    assert_eq!(late, [260, 16, 16, 16]);
+    for (plan, figure) in [(led_by(&plan, 0), 360), (plan, 349)] {
+        let told = latest(&plan, 0).unwrap();
+        assert_eq!(told.ticks, figure);
+        let late = late(&plan, &store(0, &told.script), 0);
+        let idle = 8 + 1 + 8 + 100;
+        assert_eq!(late, [figure, idle, idle, idle]);
+    }
+}
+
+/// Whose window it is decides, not which domain is the first: where the run's first
+/// window is another domain's, domain 0 does not lead; where it is the run's only one, it
+/// is the last as well, and its switch makes the touch all the same.
+#[test]
+fn who_leads() {
+    let mut plan = plan(&[(300, "1"), (300, ""), (300, "")]);
+    assert_eq!(
+        [0, 1, 2].map(|domain| ticks(&plan, domain)),
+        [360, 349, 348]
+    );
+    plan.windows.rotate_left(1);
+    assert_eq!(
+        [0, 1, 2].map(|domain| ticks(&plan, domain)),
+        [349, 360, 348]
+    );
+    plan.windows.truncate(1);
+    for run in [1, 2, 1_000] {
+        plan.run = run;
+        assert_eq!(ticks(&plan, 1), 360);
+    }
+    plan.run = 1;
+    let told = latest(&plan, 1).unwrap();
+    assert_eq!(late(&plan, &store(1, &told.script), 1), [360]);
+    assert_eq!(late(&plan, &[0; 2_048], 1), [8 + 8 + 100]);
 }
 
 /// What the other scripts hold changes nothing.
@@ -261,7 +387,7 @@ fn undeclared_domains() {
 fn refusals_in_order() {
     let good = plan(&[(400, "1"), (300, "")]);
     let mut short = good.clone();
-    short.pad = 275;
+    short.pad = 375;
     for length in [0, 1, 92, 255, 257, 512] {
         for plan in [&good, &short, &Plan::default()] {
             for domain in [0, 2] {
@@ -281,7 +407,7 @@ fn refusals_in_order() {
     let refused = write_latest(&good, 2, &mut buffer);
     assert_eq!(refused, Err(Refusal::Latest { domain: 2 }));
     assert_eq!(buffer, [7; 256]);
-    assert_eq!(write_latest(&good, 0, &mut buffer), Ok(260));
+    assert_eq!(write_latest(&good, 0, &mut buffer), Ok(360));
     assert_eq!(buffer, latest(&good, 0).unwrap().script);
 }
 
@@ -292,9 +418,8 @@ fn windows_of_the_worked_run() {
     let desk = Desk::of(WORKED);
     let windows = finished_windows(&desk.plan, &desk.scripts, desk.log.len());
     // Line 3 and the box are dirty, lines 60 and 125 in the kernel's sets; then the
-    // box alone. The first domain is done at 306 of 400, the second at 981, which is
-    // 5 past 976.
-    let expected = [(0, 8 + 2 + 8 + 4), (1, 5 + 8 + 2 + 8 + 2)];
+    // box alone. The first domain is done at 306 of 400, the second at 982 of 1,076.
+    let expected = [(0, 8 + 2 + 8 + 4 + 100), (1, 8 + 2 + 8 + 2 + 100)];
     let expected = expected.map(|(domain, late)| Finished { domain, late });
     assert_eq!(windows, Ok(expected.to_vec()));
 }
@@ -314,60 +439,72 @@ const OPS: [Op; 10] = [
     Op::Compute(200),
 ];
 
-/// A plan with windows of such a domain alone, which is domain 1.
-fn plan_of_colour_3() -> Plan {
-    let mut plan = plan(&[(share_of(3), ""), (share_of(1), "0"), (34, "1")]);
-    plan.windows.retain(|window| window.domain == 1);
-    plan
+/// A plan with windows of such a domain, which is domain 1, and its start: alone, or with
+/// one of domain 0 in front of them.
+fn plans_of_colour_3() -> [(Plan, Start); 2] {
+    let plan = plan(&[(share_of(3), ""), (share_of(1), "0"), (34, "1")]);
+    let [mut leading, mut behind] = [plan.clone(), plan];
+    leading.windows.retain(|window| window.domain == 1);
+    behind.windows.retain(|window| window.domain != 2);
+    [(leading, Start::Bare), (behind, Start::Touched)]
 }
 
 /// All choices of three of these ops, then computing up to the last tick, then each
 /// of them as the last op.
 #[test]
 fn no_short_script_is_later() {
-    let plan = plan_of_colour_3();
-    let tenant = Tenant::of(&plan, 1);
-    let mut latest = 0;
-    for choice in 0..10_000 {
-        let [first, second, third, last] =
-            [1_000, 100, 10, 1].map(|power| OPS[choice / power % 10]);
-        let ops = timed(&tenant, &[first, second, third], last, 4_000);
-        let window = late(&plan, &store(1, &stored(&ops)), 1)[0];
-        latest = latest.max(window);
+    // Indexes 14 and 15 stay clean: no op here is to a line of theirs. Where the domain
+    // does not lead, two boxes take two of the three ops.
+    let figures = [(332, 336), (322, 326)];
+    for ((plan, start), figures) in plans_of_colour_3().into_iter().zip(figures) {
+        let tenant = Tenant::of(&plan, 1);
+        let mut latest = 0;
+        for choice in 0..10_000 {
+            let [first, second, third, last] =
+                [1_000, 100, 10, 1].map(|power| OPS[choice / power % 10]);
+            let ops = timed(&tenant, start, &[first, second, third], last, 4_000);
+            let window = late(&plan, &store(1, &stored(&ops)), 1)[0];
+            latest = latest.max(window);
+        }
+        assert_eq!((latest, ticks(&plan, 1)), figures);
     }
-    // Indexes 14 and 15 stay clean: no op here is to a line of theirs.
-    assert_eq!((latest, ticks(&plan, 1)), (232, 236));
 }
 
 /// Everything that these ops and a few more can make of the caches, in any number and
 /// order: whole tables are told apart, and each op is tried as the last one on each.
 #[test]
 fn no_table_is_later() {
-    let plan = plan_of_colour_3();
-    let tenant = Tenant::of(&plan, 1);
-    let more = [14, 15, 64 + 13, 128 + 12].map(Op::Write);
-    let mut met = BTreeSet::from([[0; TABLE]]);
-    let mut tables = vec![[0; TABLE]];
-    let mut latest = 0;
-    while let Some(table) = tables.pop() {
-        for op in OPS.iter().chain(&more) {
-            let mut after = table;
-            let busy = tenant.play(&mut after, *op).ticks;
-            latest = latest.max(busy - 1 + flush(&after));
-            if met.insert(after) {
-                tables.push(after);
+    for (plan, start) in plans_of_colour_3() {
+        let tenant = Tenant::of(&plan, 1);
+        let more = [14, 15, 64 + 13, 128 + 12].map(Op::Write);
+        let mut met = BTreeSet::from([start.caches()]);
+        let mut tables = vec![start.caches()];
+        let mut latest = 0;
+        while let Some(table) = tables.pop() {
+            for op in OPS.iter().chain(&more) {
+                let mut after = table;
+                let busy = tenant.play(&mut after, *op).ticks;
+                latest = latest.max(busy - 1 + switch(&after));
+                if met.insert(after) {
+                    tables.push(after);
+                }
             }
         }
+        assert!(met.len() > 5_000, "{}", met.len());
+        assert_eq!(latest, ticks(&plan, 1));
     }
-    assert!(met.len() > 5_000, "{}", met.len());
-    assert_eq!(latest, ticks(&plan, 1));
 }
 
 /// Scripts of any of these ops, of lines with the other indexes, and of computes of
 /// a few ticks, so that the last op begins at any time.
 #[test]
 fn no_random_script_is_later() {
-    let mut plan = plan_of_colour_3();
+    for (plan, _) in plans_of_colour_3() {
+        assert_no_random_script_is_later(plan);
+    }
+}
+
+fn assert_no_random_script_is_later(mut plan: Plan) {
     plan.run = 9;
     let told = ticks(&plan, 1);
     let mut drawn = Drawn(6);
@@ -383,5 +520,5 @@ fn no_random_script_is_later() {
         let windows = late(&plan, &store(1, &stored(&ops)), 1);
         latest = latest.max(windows.into_iter().max().unwrap());
     }
-    assert!(latest > 200 && latest <= told, "{latest} of {told}");
+    assert!(latest > 300 && latest <= told, "{latest} of {told}");
 }

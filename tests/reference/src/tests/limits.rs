@@ -41,11 +41,11 @@ fn assert_limits(text: impl Fn(u64) -> String, words: &str, first: u64, last: u6
 fn numbers_of_single_lines() {
     let rest = "(domain 0(share 1000)(may))\n(window 0(length 1))\n";
     let pad = |n| format!("(pad {n})\n(run 1)\n{rest}");
-    assert_limits(pad, "pad ", 276, 1_000_000);
-    let run = |n| format!("(pad 276)\n(run {n})\n{rest}");
+    assert_limits(pad, "pad ", 376, 1_000_000);
+    let run = |n| format!("(pad 376)\n(run {n})\n{rest}");
     assert_limits(run, "run ", 1, 1_000);
     let length =
-        |n| format!("(pad 276)\n(run 1)\n(domain 0(share 67)(may))\n(window 0(length {n}))");
+        |n| format!("(pad 376)\n(run 1)\n(domain 0(share 67)(may))\n(window 0(length {n}))");
     assert_limits(length, "length ", 1, 1_000_000);
 }
 
@@ -67,7 +67,7 @@ fn numbers_of_ops() {
 #[test]
 fn shares() {
     let text =
-        |n: u64| format!("(pad 276)\n(run 1)\n(domain 0(share {n})(may))\n(window 0(length 1))");
+        |n: u64| format!("(pad 376)\n(run 1)\n(domain 0(share {n})(may))\n(window 0(length 1))");
     assert_taken(&text, [34, 1_000]);
     assert_outside(&text, "share ", [0, 1_001]);
     assert_eq!(reading(text(1)), (6, 0));
@@ -79,7 +79,7 @@ fn domain_numbers() {
     let eight: String = (0..8)
         .map(|n| format!("(domain {n}(share 99)(may {}))\n", (n + 1) % 8))
         .collect();
-    let start = format!("(pad 276)\n(run 1)\n{eight}");
+    let start = format!("(pad 376)\n(run 1)\n{eight}");
     let window = |n| format!("{start}(window {n}(length 1))");
     assert_limits(window, "window ", 0, 7);
     let op = |n| format!("{start}(window 0(length 1))\n(op {n}(read 0))");
@@ -93,8 +93,8 @@ fn ten_digits_are_taken_and_eleven_are_not() {
     let text = |digits| {
         format!("(pad {digits})\n(run 1)\n(domain 0(share 67)(may))\n(window 0(length 1))")
     };
-    assert_eq!(reading(text("0000000276")), (0, 0));
-    assert_eq!(reading(text("00000000276")), (3, 5));
+    assert_eq!(reading(text("0000000376")), (0, 0));
+    assert_eq!(reading(text("00000000376")), (3, 5));
     assert_eq!(reading(text("99999999999999999999999999")), (3, 5));
 }
 
@@ -126,7 +126,7 @@ fn a_full_store() {
     let ops: String = (0..2_048)
         .map(|n| format!("(op {}(read {}))\n", n / 256, n % 10))
         .collect();
-    let text = format!("(pad 276)\n(run 1)\n{domains}(window 7(length 1))\n{ops}");
+    let text = format!("(pad 376)\n(run 1)\n{domains}(window 7(length 1))\n{ops}");
     assert!(text.len() <= 32_768);
     let desk = Desk::of(&text);
     for (place, number) in desk.scripts.iter().enumerate() {
@@ -138,7 +138,7 @@ fn a_full_store() {
 fn shares_together() {
     let text = |last| {
         format!(
-            "(pad 276)\n(run 1)\n(domain 0(share 600)(may))\n(domain 1(share {last})(may))\n\
+            "(pad 376)\n(run 1)\n(domain 0(share 600)(may))\n(domain 1(share {last})(may))\n\
              (window 0(length 1))"
         )
     };
@@ -178,7 +178,7 @@ fn each_thing_that_may_be_missing() {
         let text = text.join("\n");
         assert_eq!(reading(&text), (5, text.len() as u64), "{text}");
     }
-    let text = "(pad 276)\n(run 1)\n";
+    let text = "(pad 376)\n(run 1)\n";
     assert_eq!(reading(text), (5, text.len() as u64));
     assert_eq!(reading(" \n"), (5, 2));
 }

@@ -22,4 +22,5 @@ mod readings;
 mod running;
 mod steps;
 mod stored_ops;
+mod touch;
 mod worked;

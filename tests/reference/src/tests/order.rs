@@ -15,7 +15,7 @@ fn wrong_from(first: u32) -> Desk {
         desk.boxes[0] = 1;
     }
     if first <= 12 {
-        desk.plan.pad = 275;
+        desk.plan.pad = 375;
     }
     if first <= 11 {
         desk.cache.pop();

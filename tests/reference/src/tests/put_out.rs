@@ -42,7 +42,7 @@ fn set(table: &[u16; TABLE], number: usize) -> Vec<u16> {
 
 /// Domain 0 has the colours 0 to 13 and may send to domain 1, which may send to nobody.
 fn plan() -> Plan {
-    let text = "(pad 276)\n(run 1)\n(domain 0(share 966)(may 1))\n(domain 1(share 34)(may))\n\
+    let text = "(pad 376)\n(run 1)\n(domain 0(share 966)(may 1))\n(domain 1(share 34)(may))\n\
                 (window 0(length 5000))\n(window 1(length 5000))\n";
     Desk::of(text).plan
 }
@@ -266,8 +266,8 @@ fn a_flush_writes_nothing_to_l2() {
     assert_eq!(table[16..], before[16..]);
 }
 
-/// A whole switch: L1 and the kernel's sets are empty, and the other sets as they were.
-/// Line 127 is the kernel's and was nowhere in L2.
+/// A whole switch, the run's last: L1 and the kernel's sets are empty, and the other sets
+/// as they were. Line 127 is the kernel's and was nowhere in L2.
 #[test]
 fn a_switch_writes_nothing_to_l2() {
     let mut desk = Desk::alone(&[]);

@@ -8,43 +8,43 @@ use crate::read_plan;
 
 #[test]
 fn a_bracket_is_due_first() {
-    assert_eq!(reading("pad(276"), (2, 0));
+    assert_eq!(reading("pad(376"), (2, 0));
 }
 
 #[test]
 fn a_number_is_due_behind_pad() {
-    assert_eq!(reading("(pad(276))"), (2, 4));
+    assert_eq!(reading("(pad(376))"), (2, 4));
 }
 
 #[test]
 fn one_form_a_line() {
-    assert_eq!(reading("(pad 276)(run 1)"), (2, 9));
+    assert_eq!(reading("(pad 376)(run 1)"), (2, 9));
 }
 
 #[test]
 fn a_second_pad_waits_for_its_lines_end() {
-    assert_refused_at("(pad 276)\n", "(pad 276) x", 2, "x");
-    assert_refused_at("(pad 276)\n", " (pad 276)\n", 5, "(");
+    assert_refused_at("(pad 376)\n", "(pad 376) x", 2, "x");
+    assert_refused_at("(pad 376)\n", " (pad 376)\n", 5, "(");
     assert_refused_at("(run 1)\n", "  (run 1)", 5, "(");
 }
 
 #[test]
 fn a_token_comes_before_its_lines_end() {
-    assert_refused_at("(pad 276)\n", "(pad 5)", 3, "5");
+    assert_refused_at("(pad 376)\n", "(pad 5)", 3, "5");
 }
 
 #[test]
 fn too_many_digits_matter_only_where_a_number_is_due() {
-    assert_eq!(reading("(12345678901 276)"), (2, 1));
+    assert_eq!(reading("(12345678901 376)"), (2, 1));
     assert_eq!(reading("(pad 12345678901)"), (3, 5));
-    assert_eq!(reading("(pad 00000000276)"), (3, 5));
-    assert_eq!(reading("(pad 276 12345678901)"), (2, 9));
+    assert_eq!(reading("(pad 00000000376)"), (3, 5));
+    assert_eq!(reading("(pad 376 12345678901)"), (2, 9));
 }
 
 #[test]
 fn a_line_that_stops_short_is_refused_at_its_end() {
-    assert_eq!(reading("(pad 276"), (2, 8));
-    assert_eq!(reading("(pad 276  \n"), (2, 10));
+    assert_eq!(reading("(pad 376"), (2, 8));
+    assert_eq!(reading("(pad 376  \n"), (2, 10));
     assert_eq!(reading("("), (2, 1));
     assert_eq!(reading("\n( \n)"), (2, 3));
 }
@@ -52,13 +52,13 @@ fn a_line_that_stops_short_is_refused_at_its_end() {
 #[test]
 fn odd_runs_are_neither_word_nor_number() {
     for odd in [
-        "276\r", "276\t", "276\0", "1a", "a1", "-1", "+1", "Pad", "x276", "27_6",
+        "376\r", "376\t", "376\0", "1a", "a1", "-1", "+1", "Pad", "x376", "37_6",
     ] {
         assert_eq!(reading(format!("(pad {odd})")), (2, 5), "{odd:?}");
-        assert_eq!(reading(format!("({odd} 276)")), (2, 1), "{odd:?}");
+        assert_eq!(reading(format!("({odd} 376)")), (2, 1), "{odd:?}");
     }
     for byte in (0..=255u8).filter(|byte| !byte.is_ascii_alphanumeric()) {
-        let text = [b"(pad 27", &[byte][..], b"6)"].concat();
+        let text = [b"(pad 37", &[byte][..], b"6)"].concat();
         let expected = match byte {
             b'\n' => (3, 5),
             b' ' | b'(' | b')' => (3, 5),
@@ -66,9 +66,9 @@ fn odd_runs_are_neither_word_nor_number() {
         };
         assert_eq!(reading(&text), expected, "byte {byte}");
     }
-    assert_eq!(reading("\r\n(pad 276)"), (2, 0));
-    assert_eq!(reading("(pad 276)\r\n"), (2, 9));
-    assert_eq!(reading("\t(pad 276)"), (2, 0));
+    assert_eq!(reading("\r\n(pad 376)"), (2, 0));
+    assert_eq!(reading("(pad 376)\r\n"), (2, 9));
+    assert_eq!(reading("\t(pad 376)"), (2, 0));
 }
 
 #[test]
@@ -136,14 +136,14 @@ fn something_missing_comes_before_an_undeclared_recipient() {
 
 #[test]
 fn an_undeclared_recipient_comes_before_the_shares() {
-    let before = "(pad 276)\n(run 1)\n(domain 0(share 600)(may 1))\n";
+    let before = "(pad 376)\n(run 1)\n(domain 0(share 600)(may 1))\n";
     let rest = "(domain 1(share 600)(may 0 7 2))\n(window 0(length 400))\n";
     assert_refused_at(before, rest, 4, "7");
 }
 
 #[test]
 fn the_first_undeclared_recipient_of_the_text() {
-    let before = "(pad 276)\n(run 1)\n(domain 0(share 300)(may 1 5))\n";
+    let before = "(pad 376)\n(run 1)\n(domain 0(share 300)(may 1 5))\n";
     let rest = "(domain 1(share 300)(may 2))\n(window 0(length 400))\n";
     let at = before.rfind("5").unwrap() as u64;
     assert_eq!(reading(format!("{before}{rest}")), (4, at));
@@ -153,7 +153,7 @@ fn the_first_undeclared_recipient_of_the_text() {
 fn the_sum_of_shares_comes_before_a_share_without_colour() {
     let text = |first, second| {
         format!(
-            "(pad 276)\n(run 1)\n(domain 0(share {first})(may))\n(domain 1(share {second})(may))\n\
+            "(pad 376)\n(run 1)\n(domain 0(share {first})(may))\n(domain 1(share {second})(may))\n\
              (window 0(length 400))"
         )
     };
@@ -179,7 +179,7 @@ fn the_stores_length_comes_before_the_texts() {
 
 #[test]
 fn tokens_alone_matter() {
-    let text = "\n ( pad 276 ) \n   \n(run 0000000001)\n(domain 0(share 67)(may))\n\
+    let text = "\n ( pad 376 ) \n   \n(run 0000000001)\n(domain 0(share 67)(may))\n\
                 ( window 0(length 1) )";
     assert_eq!(reading(text), (0, 0));
     assert_eq!(reading(format!("{text}\n")), (0, 0));
@@ -196,14 +196,14 @@ fn other_domains_in_ops_need_no_declaration() {
 fn lines_may_come_in_any_order_below_their_domain() {
     let text = "(domain 0(share 100)(may 1))\n(op 0(read 1))\n(window 0(length 1))\n(run 1)\n\
                 (domain 1(share 100)(may 0))\n(window 1(length 1))\n(op 0(read 2))\n\
-                (op 1(compute 1))\n(pad 276)";
+                (op 1(compute 1))\n(pad 376)";
     assert_eq!(reading(text), (0, 0));
 }
 
 #[test]
 fn words_and_counts_of_numbers_are_fixed() {
     for (line, words) in [
-        ("(pads 276)", "pads"),
+        ("(pads 376)", "pads"),
         ("(op 0 (jump 1))", "jump"),
         ("(op 0 (read))", "))"),
         ("(op 0 (read 1 2))", "2"),
@@ -221,7 +221,7 @@ fn words_and_counts_of_numbers_are_fixed() {
         ("(domain 1 (share 1) (can))", "can"),
         ("()", ")"),
         (")", ")"),
-        ("((pad 276))", "(p"),
+        ("((pad 376))", "(p"),
         ("(domain one (share 1) (may))", "one"),
     ] {
         assert_refused_at(OPENING, line, 2, words);

@@ -35,7 +35,7 @@ const HABITS: [&[Op]; 4] = [
 ];
 
 fn desk(run: u32, windows: Windows) -> Desk {
-    let mut text = format!("(pad 276)\n(run {run})\n(domain 0(share 300)(may 1 2))\n");
+    let mut text = format!("(pad 376)\n(run {run})\n(domain 0(share 300)(may 1 2))\n");
     text += "(domain 1(share 300)(may))\n(domain 2(share 300)(may 0))\n";
     for (domain, length) in windows {
         text += &format!("(window {domain}(length {length}))\n");
@@ -123,7 +123,7 @@ fn a_run_of_exactly_its_bound() {
 /// time for one op at least, so every script runs out.
 #[test]
 fn the_largest_bound_is_reached() {
-    let mut text = String::from("(pad 276)\n(run 1000)\n");
+    let mut text = String::from("(pad 376)\n(run 1000)\n");
     for domain in 0..8 {
         text += &format!("(domain {domain}(share 99)(may))\n");
         text += &format!("(window {domain}(length 1))\n").repeat(4);
@@ -217,7 +217,7 @@ fn a_window_takes_at_most_its_length_and_one() {
 #[test]
 fn windows_of_their_length_and_one() {
     for length in [1, 2, 3, 100, 255, 256] {
-        let text = "(pad 276)\n(run 2)\n(domain 0(share 1000)(may))\n";
+        let text = "(pad 376)\n(run 2)\n(domain 0(share 1000)(may))\n";
         let mut desk = Desk::of(&format!("{text}(window 0(length {length}))"));
         desk.put_ops(0, &[Op::Compute(1); 256]);
         let second = (256 - length).min(length) + 1;

@@ -82,7 +82,7 @@ fn a_position_is_decoded_whatever_stands_before_it() {
 
 #[test]
 fn position_256_ends_the_script() {
-    let text = "(pad 276)\n(run 1)\n(domain 0(share 500)(may))\n(domain 1(share 400)(may))\n\
+    let text = "(pad 376)\n(run 1)\n(domain 0(share 500)(may))\n(domain 1(share 400)(may))\n\
                 (window 0(length 1000000))";
     let mut desk = Desk::of(text);
     desk.put_ops(0, &[Op::Compute(1); 256]);

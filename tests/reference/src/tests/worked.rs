@@ -1,5 +1,5 @@
-//! The eleven figures that document 01 marks P under "Settled numbers", that of
-//! the shares as document 02, E2, changes it.
+//! The eleven figures that document 01 marks P under "Settled numbers": that of the
+//! shares as document 02, E2, changes it, those of the run and of the pad as its E9 does.
 
 use super::desk::{reading, Desk, WORKED};
 use crate::cache::Cache;
@@ -9,15 +9,18 @@ use crate::machine::{Outcome, Progress};
 use crate::op::Op;
 use crate::planrun::planrun;
 
+/// The first window is the run's first, so its message misses line 60: 5 + 100 + 100
+/// behind 101. It ends at 400, and the second starts at 776 with line 60 in L1: 5 + 1 +
+/// 100 for the receive, 100 for the read. It ends at 1,076, and the run 376 later.
 #[test]
 fn p01_the_worked_run() {
     let output = "\
 (seen 0 100 (miss 3))
 (seen 0 101 (hit1 3))
 (seen 0 306 (sent 1))
-(seen 1 881 (got 77))
-(seen 1 981 (miss 100))
-(end 2 1252)
+(seen 1 882 (got 77))
+(seen 1 982 (miss 100))
+(end 2 1452)
 ";
     assert_eq!(planrun(WORKED.as_bytes()), output);
 }
@@ -50,8 +53,8 @@ fn p04_lines_of_boxes() {
 #[test]
 fn p05_the_least_pad() {
     let text = |pad: u32| format!("(pad {pad})\n{}", &WORKED[10..]);
-    assert_eq!(reading(text(275)), (3, 5));
-    assert_eq!(reading(text(276)), (0, 0));
+    assert_eq!([276, 375].map(|pad| reading(text(pad))), [(3, 5); 2]);
+    assert_eq!(reading(text(376)), (0, 0));
 }
 
 #[test]
@@ -79,7 +82,7 @@ fn p07_five_lines_of_one_set_and_p08_the_fourth_again() {
 
 #[test]
 fn p09_an_op_at_the_last_tick_begins_and_p10_at_the_end_none_does() {
-    let text = "(pad 276)\n(run 1)\n(domain 0(share 1000)(may))\n(window 0(length 400))\n\
+    let text = "(pad 376)\n(run 1)\n(domain 0(share 1000)(may))\n(window 0(length 400))\n\
                 (op 0(compute 200))\n(op 0(compute 199))\n(op 0(compute 200))\n(op 0(compute 1))";
     let mut desk = Desk::of(text);
     desk.run(2).unwrap();
@@ -87,7 +90,7 @@ fn p09_an_op_at_the_last_tick_begins_and_p10_at_the_end_none_does() {
     desk.step().unwrap();
     assert_eq!((desk.state.clock, desk.state.completed), (599, 0));
     desk.step().unwrap();
-    assert_eq!((desk.state.clock, desk.state.completed), (676, 1));
+    assert_eq!((desk.state.clock, desk.state.completed), (776, 1));
     assert_eq!(desk.seen(0).len(), 3);
 
     let text = text.replace("199", "200");
@@ -99,7 +102,7 @@ fn p09_an_op_at_the_last_tick_begins_and_p10_at_the_end_none_does() {
         outcome: Outcome::Ended,
     };
     assert_eq!(desk.step(), Ok(last));
-    assert_eq!((desk.state.clock, desk.seen(0).len()), (676, 2));
+    assert_eq!((desk.state.clock, desk.seen(0).len()), (776, 2));
 }
 
 #[test]

@@ -1,19 +1,23 @@
 -- `latest::witness::late_number` meets its contract: at each return, by the tests that led there. Assumes nothing.
+use native.Mathlib.Omega.{arith}
 use borrow.Author.Needs.{needs}
 use borrow.Author.Tests.{eq-eqb, le-ltb, lt-ltb, ne-eqb}
 use Rattle.latest.specs.Script.{lateNumber}
 use Rattle.latest.proofs.witness.late_number.Statement.{statement}
 use Rattle.latest.proofs.witness.late_number.Tie as tie
 
+message-at-requires : tie.Need-message-at-requires
+message-at-requires c κs = omega (arith, c .before .before .before .before .pre .opening-most)
+
 returns : tie.Need-returns
 unfolding lateNumber
-returns c = simp (lt-ltb _ _ (c .if1 .taken))
+returns c = simp (lt-ltb _ _ (c .before .before .if1 .taken), ← (c .before .message-at .ensures), ← (c .stored .ensures))
 
 returns-2 : tie.Need-returns-2
 unfolding lateNumber
 returns-2 c =
     let writing = c .before .before .before in
-    simp (le-ltb _ _ (writing .before .if1 .left), lt-ltb _ _ (writing .if2 .taken), ← (c .stored .ensures))
+    simp (le-ltb _ _ (writing .before .if1 .left), lt-ltb _ _ (writing .if2 .taken), ← (c .stored2 .ensures))
 
 returns-3 : tie.Need-returns-3
 unfolding lateNumber
@@ -23,7 +27,7 @@ returns-3 c =
       le-ltb _ _ (waiting .before .before .if1 .left),
       le-ltb _ _ (waiting .before .if2 .left),
       lt-ltb _ _ (waiting .if3 .taken),
-      ← (c .stored2 .ensures),
+      ← (c .stored3 .ensures),
     )
 
 returns-4 : tie.Need-returns-4
@@ -35,7 +39,7 @@ returns-4 c =
       le-ltb _ _ (resting .before .before .if2 .left),
       le-ltb _ _ (resting .before .if3 .left),
       eq-eqb _ _ (resting .if4 .taken),
-      ← (c .stored3 .ensures),
+      ← (c .stored4 .ensures),
     )
 
 returns-5 : tie.Need-returns-5
@@ -66,6 +70,6 @@ pub late-number-spec : {M : Type 1} → statement M
 late-number-spec =
     tie.close
     (tie.spec
-    (λ c. search needs) (λ c. search needs) returns (λ c. search needs) (λ c. search needs) (λ c κs. search needs)
-    returns-2 (λ c κs. search needs) returns-3 (λ c. search needs) (λ c κs. search needs) returns-4 (λ c. search needs)
-    returns-5 returns-6)
+    (λ c. search needs) (λ c. search needs) message-at-requires (λ c κs. search needs) returns (λ c. search needs)
+    (λ c. search needs) (λ c κs. search needs) returns-2 (λ c κs. search needs) returns-3 (λ c. search needs)
+    (λ c κs. search needs) returns-4 (λ c. search needs) returns-5 returns-6)

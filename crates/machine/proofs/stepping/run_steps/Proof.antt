@@ -1,14 +1,16 @@
 -- `machine::stepping::run_steps` meets its contract. The loop's invariant is `Going`. Assumes nothing.
 use mathlib.Core.List.{[]}
-use mathlib.Core.Path.{_∙_, refl, sym}
-use Prim.Native.Nat.{_-_, _<_}
+use mathlib.Core.Path.{_≡_, _∙_, ap, refl, sym}
+use Prim.Native.Nat.{ℕ, _+_, _-_, _<_}
 use native.Mathlib.Omega.{arith}
+use lib.Dec.{leb}
 use borrow.Author.Needs.{needs}
 use Rattle.plan.specs.Windows.{windowsTotal}
 use Rattle.plan.proofs.ValidPlans.{counts}
 use Rattle.records.specs.Records.{placesOf}
 use Rattle.records.proofs.Places.{ends-sooner}
 use Rattle.machine.specs.declared.Turn.{Turn}
+use Rattle.machine.specs.Switch.{isLast}
 use Rattle.machine.specs.View.{InTurn, worldWith}
 use Rattle.machine.proofs.Going.{Going, Small, goes-on, going-clock, going-counts, going-done, going-first, small}
 use Rattle.machine.proofs.Schedule.{valid-scheduled}
@@ -70,6 +72,11 @@ module _ (c : tie.In-loop Inv-loop μ-loop) where
       (inv .starts (more .0)) (inv .slots (more .0))
       (kept .0 ∙ search (needs, good)) (kept .1 ∙ search (needs, good))
 
+  -- whether its window is the run's last, as the code works it out
+  lasts : isLast (start c .args .t1) (turn .windows)
+      ≡ leb (c .before .before .before .before .windows-total .result) (turn .windows + 1)
+  lasts = ap (λ (total : ℕ). leb total (turn .windows + 1)) (sym (c .before .before .before .before .windows-total .ensures))
+
 windows-total-requires : tie.Need-windows-total-requires Inv-loop μ-loop
 windows-total-requires c κs = let count = counts _ (c .before .before .before .before .before .before .pre .0) in (count .run-most, count .windows-most)
 
@@ -118,17 +125,20 @@ cast-t40 c = omega (arith, smalls (c .before .before .before) .length-below)
 add-t41 : tie.Need-add-t41 Inv-loop μ-loop
 add-t41 c = omega (arith, smalls (c .before .before .before))
 
-mul-t43 : tie.Need-mul-t43 Inv-loop μ-loop
-mul-t43 c = omega (arith, smalls (c .before .before .before) .owner-below)
+mul-run-turn : tie.Need-mul-run-turn Inv-loop μ-loop
+mul-run-turn c = omega (arith, smalls (c .before .before .before) .owner-below)
 
-element-copy-out-t46 : tie.Need-element-copy-out-t46 Inv-loop μ-loop
-element-copy-out-t46 c = smalls (c .before .before .before) .owner-below
+element-copy-out-run-turn : tie.Need-element-copy-out-run-turn Inv-loop μ-loop
+element-copy-out-run-turn c = smalls (c .before .before .before) .owner-below
 
-mul-t47 : tie.Need-mul-t47 Inv-loop μ-loop
-mul-t47 c = omega (arith, smalls (c .before .before .before .before) .owner-below)
+mul-run-turn-2 : tie.Need-mul-run-turn-2 Inv-loop μ-loop
+mul-run-turn-2 c = omega (arith, smalls (c .before .before .before .before) .owner-below)
 
-element-copy-out-t50 : tie.Need-element-copy-out-t50 Inv-loop μ-loop
-element-copy-out-t50 c = smalls (c .before .before .before .before) .owner-below
+element-copy-out-run-turn-2 : tie.Need-element-copy-out-run-turn-2 Inv-loop μ-loop
+element-copy-out-run-turn-2 c = smalls (c .before .before .before .before) .owner-below
+
+add-run-turn : tie.Need-add-run-turn Inv-loop μ-loop
+add-run-turn c = omega (arith, room (c .before .before .before .before .before .before .before) .windows)
 
 sub-run-turn : tie.Need-sub-run-turn Inv-loop μ-loop
 sub-run-turn c = omega (arith, more (c .before .before .before .before .before .before .before) .0)
@@ -190,10 +200,11 @@ loop-again c =
     let at = in-loop ran in
     let inv = at .before .loop .inv in
     let did = ran .run-turn .ensures in
-    let kept = ran .run-turn .kept .1 .1 .1 .1 .1 .1 .1 in
+    let kept = ran .run-turn .kept .1 .1 .1 .1 .1 .1 .1 .1 in
     going-turn _ (start at .args .t1) _ _ _ _ (at .before .loop .present) _ _ _ _ _ _
     (turn at) (ran .run-turn .result) _ _ _ _
-    inv (here at .end-is) (inv .slots (more at .0)) (did .0) (did .1 _ _ _ (sym (ran .before .before .before .before .before .before .before .before .before .place-of .ensures)) (here at) refl)
+    inv (here at .end-is) (inv .slots (more at .0)) (did .0)
+    (did .1 _ _ _ (sym (ran .before .before .before .before .before .before .before .before .before .place-of .ensures)) (here at) refl (lasts at))
     (c .before .next-slot .ensures) (kept .0) (kept .1 .0) (kept .1 .1 .0)
 
 returns : tie.Need-returns Inv-loop μ-loop
@@ -207,8 +218,8 @@ run-steps-spec =
     (tie.spec
     Inv-loop μ-loop (λ c. search needs) (λ c. search needs) windows-total-requires
     window-start-requires rem-slot loop-holds mul-owner element-copy-out-owner cast-owner place-of-requires mul-t34
-    element-copy-out-t37 cast-t40 add-t41 mul-t43 element-copy-out-t46 mul-t47
-    element-copy-out-t50 sub-run-turn run-turn-requires mul-present element-write-present
+    element-copy-out-t37 cast-t40 add-t41 mul-run-turn element-copy-out-run-turn mul-run-turn-2
+    element-copy-out-run-turn-2 add-run-turn sub-run-turn run-turn-requires mul-present element-write-present
     mul-present-2 element-write-present-2 next-slot-requires add-steps loop-less loop-again
     (λ c. c .before .loop .inv .cache-long) (λ c. c .before .loop .inv .boxes-long)
     (λ c. c .before .loop .inv .log-long) returns)

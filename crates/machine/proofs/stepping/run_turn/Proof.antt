@@ -14,7 +14,7 @@ returns : tie.Need-returns
 returns c =
     let at = c .before .before .before .before .before .before .before .before in
     let ran = at .run-window .ensures in
-    (turn-stops _ _ _ _ (ran .0) (ran .1) (start at .pre .2) (c .if1 .taken), λ places plan state placed here pads. ran .3 places plan state placed here .ran)
+    (turn-stops _ _ _ _ (ran .0) (ran .1) (start at .pre .2) (c .if1 .taken), λ places plan state placed here pads lasts. ran .3 places plan state placed here .ran)
 
 switch-requires : tie.Need-switch-requires
 switch-requires c κs =
@@ -24,8 +24,8 @@ switch-requires c κs =
     let end = ap (λ (t : Turn). t .end) (ran .ensures .1) in
     (ran .kept .1 .1 .1 .1 .1 .1 .0 ∙ pre .8, omega (arith, end, ran .ensures .2), omega (arith, end, pre .6), omega (arith, pre .1))
 
-add-t23 : tie.Need-add-t23
-add-t23 c =
+add-t24 : tie.Need-add-t24
+add-t24 c =
     omega (
       arith,
       c .before .before .before .before .before .before .if1,
@@ -34,8 +34,8 @@ add-t23 c =
           .before) .fits,
     )
 
-add-t24 : tie.Need-add-t24
-add-t24 c =
+add-t25 : tie.Need-add-t25
+add-t25 c =
     let at = c .before .before .before .before .before .before .before .before .before .before .before .before .before
     .before .before in omega (arith, ap (λ (t : Turn). t .windows) (at .run-window .ensures .1), start at .pre .3)
 
@@ -46,8 +46,8 @@ returns-2 c =
     let more = c .before .before .before .before .before .before .before .if1 .left in
     let switched = c .before .before .before .before .switch .ensures in (
       turn-switches _ _ _ _ (ran .0) (ran .1) _ _ more (switched .0) (start at .pre .0) (ran .2),
-      λ places plan state placed here pads.
-          switch-runs _ _ _ _ (ran .0) (ran .1) _ _ more (switched .0) places plan _ _ _ state _ _ _ _ (ran .3 places plan state placed here) (switched .1) here pads,
+      λ places plan state placed here pads lasts.
+          switch-runs _ _ _ _ (ran .0) (ran .1) _ _ more (switched .0) places plan _ _ _ state _ _ _ _ _ (ran .3 places plan state placed here) (switched .1) here pads lasts,
     )
 
 pub run-turn-spec : {M : Type 1} → statement M
@@ -55,4 +55,4 @@ run-turn-spec =
     tie.close
     (tie.spec
     (λ c κs. search needs) (λ c. search needs) (λ c. search needs) (λ c. search needs) returns switch-requires
-    add-t23 add-t24 (λ c. search needs) (λ c. search needs) (λ c. search needs) returns-2)
+    add-t24 add-t25 (λ c. search needs) (λ c. search needs) (λ c. search needs) returns-2)
