@@ -1,5 +1,5 @@
-// The cache table: L1, then the sets of L2. An access of a line; the two flushes of a switch stand
-// in `flush`.
+// The cache table: L1, then the sets of L2. An access of a line; the two flushes of a switch, and a
+// line that is emptied, stand in `flush`.
 pub mod flush;
 pub mod limits;
 mod sets;

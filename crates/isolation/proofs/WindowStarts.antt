@@ -1,5 +1,5 @@
--- Where a window of a run starts, L1 and the kernel's sets hold what the fresh start or the switch before it left. Assumes
--- nothing.
+-- Where a window of a run starts, L1 and the kernel's sets hold what was left there by the switch in front, or by the
+-- fresh start. Assumes nothing.
 use Prim.Native.Nat.{zero, suc}
 use mathlib.Core.Path.{_≡_, sym, subst}
 use Rattle.machine.specs.Steps.{runBy}

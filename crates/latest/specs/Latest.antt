@@ -1,5 +1,5 @@
--- Document 02, E6 and E9: the largest number of ticks from a window's end until the switch has
--- touched the kernel's entry line. That it is the largest is proved, of every script and every run:
+-- Document 02, E6 and E9: how many ticks behind a window's end a switch has touched the kernel's
+-- entry line at the latest. That none is later is proved, of every script and every run:
 -- lateness/specs/Theorems.antt. Assumes nothing.
 use Prim.Native.Nat.{ℕ, _+_, _*_, _-_, min}
 use mathlib.Core.Bool.{cond}

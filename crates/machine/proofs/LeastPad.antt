@@ -15,6 +15,7 @@ use Rattle.plan.specs.Windows.{ticksTotal, windowEnd, windowLength, windowOwner
 use Rattle.cache.specs.Access.{accessOf, lookupAt, lookupL1, lookupL2, lookupOf, seekOf, writeBackAt, writeBackOf, writtenBack}
 use Rattle.cache.specs.Flush.{countWhere, dirtyLines, kernelFlushTicks, kernelFlushed, l1FlushTicks, l1Flushed, validLines}
 use Rattle.cache.specs.Sets.{has, moveToFront, without}
+use Rattle.records.specs.Records.{partRecords}
 use Rattle.ops.specs.Ops.{emptyBoxes}
 use Rattle.state.specs.StateValidity.{clockValid, domainCountsValid, stateValid}
 use Rattle.state.specs.TableValidity.{allEmpty, boxValid, l1EntryValid, lineAllowed, setValid, tablesValid, waysValid}
@@ -96,11 +97,10 @@ unfolding
     planValid countsValid domainValid declaredValid undeclaredValid maskValid windowValid allBelow sharesTotal
     sumTo ticksTotal coloursOf maskOf maskFrom firstColour hasBit stateValid clockValid domainCountsValid
     windowStart windowEnd windowLength windowOwner windowsTotal tablesValid l1EntryValid lineAllowed setValid
-    waysValid allEmpty boxValid endedOf part has
+    waysValid allEmpty boxValid endedOf part has partRecords
 least-pad-needed =
     record {
       plan = padPlan;
-      quota = 0;
       world = lateWorld;
       plan-valid = refl;
       cache-long = refl;

@@ -9,6 +9,7 @@ use Rattle.plan.specs.Limits.{leastPad}
 use Rattle.plan.specs.Validity.{planValid}
 use Rattle.plan.specs.Windows.{windowStart, windowsTotal}
 use Rattle.cache.specs.Lines.{tableLength}
+use Rattle.records.specs.Records.{partRecords}
 use Rattle.ops.specs.Ops.{boxesLength}
 use Rattle.state.specs.StateValidity.{stateValid}
 use Rattle.state.specs.TableValidity.{tablesValid}
@@ -40,12 +41,11 @@ OnTime =
     → world .state .windows < windowsTotal plan
     → switchOf plan world .state .clock ≡ windowStart plan (world .state .windows + 1)
 
--- a plan and a world that nothing is refused of, and of which nothing would be refused beside any
--- smaller pad; yet each of these is too short: with it the next window would start later than the
--- plan says
+-- a plan and a world that nothing is refused of. With a smaller pad the pad alone would be (12), and
+-- neither tables (13) nor state (14); yet each of these is too short: with it the next window would
+-- start later than the plan says
 pub record LeastPadNeeded : Type 0 where
   pub plan : Plan
-  pub quota : ℕ
   pub world : World
   pub plan-valid : planValid (withPad plan leastPad) ≡ true
   pub cache-long : length (world .cache) ≡ tableLength
@@ -54,7 +54,10 @@ pub record LeastPadNeeded : Type 0 where
       (pad : ℕ) → pad ≤ leastPad
       → tablesValid (withPad plan pad) (world .state) (world .cache) (world .boxes) ≡ true
   pub state-valid :
-      (pad : ℕ) → pad ≤ leastPad → stateValid (withPad plan pad) quota (world .state) ≡ true
+      (pad : ℕ) → pad ≤ leastPad
+      → stateValid (withPad plan pad) (partRecords (withPad plan pad) (length (world .log)))
+      (world .state)
+      ≡ true
   pub in-window : world .state .windows + 1 < windowsTotal (withPad plan leastPad)
   pub too-late :
       (pad : ℕ) → pad < leastPad

@@ -187,8 +187,8 @@ fn the_least_pad_is_tight() {
     count.print("the least pad");
 }
 
-/// Single steps from a fresh start to the end: each window but the run's first starts with line
-/// 60, at the tick that the plan gives.
+/// Single steps from a fresh start to the end: behind every switch but the last a window starts
+/// with line 60, at the tick that the plan gives.
 #[test]
 fn starts_of_windows() {
     let other = under_test();

@@ -298,7 +298,7 @@ fn on_both_boards_and_in_kept_runs() {
 /// line 60 is none either, wherever a window runs. After the end L1 is empty, but L2 need
 /// not be.
 #[test]
-fn line_60_is_allowed_as_any_kernel_line_is() {
+fn line_60_is_judged_like_other_kernel_lines() {
     for completed in 0..4 {
         let mut desk = Desk::of(WORKED);
         desk.plan.run = 2;
