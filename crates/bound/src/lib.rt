@@ -1,4 +1,6 @@
 // How many steps a run from a fresh start can take at most.
+#![tactic(auto)]
+
 ghost use Rattle.std.specs.Prelude.{◌≡◌, length};
 ghost use Rattle.script.specs.Limits.{scripts_length};
 ghost use Rattle.bound.specs.Bound.{bound_answer_of, ops_stored};

@@ -1,5 +1,7 @@
 // The cache table: L1, then the sets of L2. An access of a line; the two flushes of a switch, and a
 // line that is emptied, stand in `flush`.
+#![tactic(auto)]
+
 pub mod flush;
 pub mod limits;
 mod sets;

@@ -1,4 +1,6 @@
 // The entry points of a run: each looks at what it was lent, refuses or does its work, and answers every input.
+#![tactic(auto)]
+
 pub mod checks;
 pub mod keeping;
 pub mod lending;

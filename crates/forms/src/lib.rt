@@ -1,5 +1,7 @@
 // The five forms of a line, past the word that opens each: what the form says, or the refusal with
 // its offset.
+#![tactic(auto)]
+
 pub mod domains;
 mod numbers;
 pub mod op_lines;

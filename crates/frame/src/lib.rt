@@ -1,5 +1,7 @@
 // A frame by weights: the windows of a plan, shared out among the domains in proportion to weights
 // and laid in turns.
+#![tactic(auto)]
+
 mod limits;
 mod quotas;
 mod turns;

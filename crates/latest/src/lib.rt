@@ -1,4 +1,6 @@
 // The latest that a domain can finish a window, and a script that finishes its first window then.
+#![tactic(auto)]
+
 mod figure;
 mod fitting;
 pub mod limits;

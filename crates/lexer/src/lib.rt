@@ -1,5 +1,7 @@
 // The lexer: the tokens of a plan text, a byte slice read from an offset; and decimal numbers,
 // written into one.
+#![tactic(auto)]
+
 mod bytes;
 pub mod decimal;
 mod limits;

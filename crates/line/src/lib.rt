@@ -1,6 +1,8 @@
 // One line of a plan text: its opening bracket, the form that its word opens, its closing bracket
 // and its end; or the refusal with its offset. The beginning of a line is read first, so that an op
 // line, of which a long text has the most, is read without what the other lines carry.
+#![tactic(auto)]
+
 ghost use Rattle.std.specs.Prelude.{List, ◌≡◌, ℕ, ◌+◌, ◌^◌, ◌<◌};
 ghost use Rattle.line.specs.Heads.{closed_end, form_head, head_at, line_of, op_line_of, op_line_with};
 ghost use Rattle.line.specs.Lines.{closed_line, noted_line, refused_line};

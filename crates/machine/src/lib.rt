@@ -1,4 +1,6 @@
 // The machine of an accepted plan: the switch, one step and n steps.
+#![tactic(auto)]
+
 pub mod stepping;
 
 use state::State;

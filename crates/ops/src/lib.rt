@@ -1,5 +1,7 @@
 // The five ops: what each costs, shows and changes. An op is handed the rights and the masks of a
 // plan, and no more of it.
+#![tactic(auto)]
+
 pub mod limits;
 
 ghost use Rattle.std.specs.Prelude.{◌≡◌, List, false, true, ℕ, ◌+◌, ◌*◌, ◌≤◌, ◌<◌, length};

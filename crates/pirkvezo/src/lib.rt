@@ -1,5 +1,7 @@
 // The library for programs in other languages: every entry point over numbers and slices. Each
 // takes any input, and returns the refusal's number.
+#![tactic(auto)]
+
 pub mod answers;
 pub mod bounding;
 pub mod finishing;

@@ -1,4 +1,6 @@
 // A plan: what the reader hands on to the machine.
+#![tactic(auto)]
+
 pub mod limits;
 pub mod sharing;
 pub mod timing;

@@ -1,5 +1,7 @@
 // planrun: reads a plan on standard input, runs it from a fresh start to its end, and prints what
 // each domain saw.
+#![tactic(auto)]
+
 use libc::{STDIN_FILENO, STDOUT_FILENO};
 use report::limits::{MOST_PRINTED, TEXT_ROOM};
 use report::program::plan_lines;

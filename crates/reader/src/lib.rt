@@ -1,4 +1,6 @@
 // The plan reader: from a text to a plan and the scripts, or a refusal with its offset.
+#![tactic(auto)]
+
 mod drafting;
 mod final_checks;
 mod walk;

@@ -1,4 +1,6 @@
 // What a domain sees: the records of it, and the log that holds them.
+#![tactic(auto)]
+
 pub mod limits;
 
 ghost use Rattle.std.specs.Prelude.{◌≡◌, ◌+◌, ◌^◌, ◌≤◌, ◌<◌, length};

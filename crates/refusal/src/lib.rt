@@ -1,4 +1,6 @@
 // Why a call is refused, and the number and companion by which a caller is told.
+#![tactic(auto)]
+
 ghost use Rattle.std.specs.Prelude.{◌≡◌};
 ghost use Rattle.refusal.specs.Code.{code_of, code_with, refusal_code};
 

@@ -1,5 +1,7 @@
 // The printed lines: a run's and a refusal's, written into a buffer that the caller lends. What has
 // no room there is left out.
+#![tactic(auto)]
+
 mod fields;
 pub mod limits;
 mod lines;

@@ -1,4 +1,6 @@
 // The five operations of a script, and the number that a script store holds for each.
+#![tactic(auto)]
+
 pub mod limits;
 
 ghost use Rattle.std.specs.Prelude.{◌≡◌, ◌<◌, ◌≤◌, length};

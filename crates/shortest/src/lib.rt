@@ -1,1 +1,2 @@
 // No accepted text is shorter than the canonical one. No code.
+#![tactic(auto)]

@@ -1,5 +1,7 @@
 // The small state of a run, and the validity of what is lent beside a plan: the cache table and the
 // boxes (13), and the state (14).
+#![tactic(auto)]
+
 pub mod state_validity;
 pub mod table_validity;
 

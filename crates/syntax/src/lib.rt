@@ -1,5 +1,7 @@
 // The parser's parts: what a form asks for, taken token by token (brackets, words and numbers, an
 // op, a list of recipients), or the refusal with its offset.
+#![tactic(auto)]
+
 pub mod brackets;
 pub mod keywords;
 pub mod may;

@@ -1,6 +1,8 @@
 // vectors: runs outside examples, written as lines of commands on standard input, and prints what
 // each call answers. The file stdin begins with the list of commands. No contract can speak of what
 // is printed, so the functions here carry what their safety needs, and no more.
+#![tactic(auto)]
+
 ghost use Rattle.std.specs.Prelude.{◌≡◌, ◌+◌, ◌^◌, ◌<◌, ◌≤◌, min, length};
 
 use bytes::copy;

@@ -1,4 +1,6 @@
 // The plan writer: a plan and its scripts as a text in the single form, or a refusal.
+#![tactic(auto)]
+
 mod lines;
 mod store;
 mod text;
