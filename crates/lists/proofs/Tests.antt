@@ -19,7 +19,8 @@ second_passes false other right = right
 
 -- neither of two tests passes where the joined test fails
 pub neither : (one other : Bool) → (one || other) ≡ false → (one ≡ false) × (other ≡ false)
-neither true other none = (none, elim other [ true ↦ none | false ↦ refl ])
+neither true true none = (none, none)
+neither true false none = (none, refl)
 neither false other none = (refl, none)
 
 -- the test that is chosen passes

@@ -12,7 +12,7 @@ ghost use Rattle.plan.specs.Zeros.{no_plan};
 use limits::{DOMAIN_ENTRIES, WINDOW_ENTRIES};
 
 // A plan as it was read: its numbers, and the colours that its shares give.
-#[derive(Drop)]
+#[derive(Clone, Copy)]
 pub struct Plan {
     // ticks from a window's end to the next window's start
     pub pad: u32,

@@ -1,0 +1,42 @@
+-- `plan::sharing::colours_total` meets its contract. Assumes nothing.
+use mathlib.Core.Path.{◌∙◌, ◌≡◌, ap, refl}
+use Prim.Native.Nat.{◌+◌, ◌*◌, ◌-◌, ◌≤◌, ℕ}
+use native.Mathlib.Omega.{arith}
+use lib.ListN.{get_or}
+use borrow.Author.Rules.{rules}
+use Rattle.plan.specs.Colours.{colours_of, first_colour}
+use Rattle.plan.specs.Sums.{sum_to}
+use Rattle.plan.specs.Limits.{domain_colours, most_domains}
+use Rattle.plan.proofs.Shares.{colours_most}
+use Rattle.plan.proofs.Sums.{sum_more, sum_most}
+use Rattle.plan.proofs.sharing.colours_total.Goals as goal
+
+pub loop-i-init : goal.loop-i-init
+unfolding sum_to
+loop-i-init c = (omega arith, refl, c.requires.0)
+
+pub colours_of-colours-requires : goal.colours_of-colours-requires
+colours_of-colours-requires c = c.requires.1 _ (omega arith)
+
+pub overflow_add-colours : goal.overflow_add-colours
+overflow_add-colours c =
+    let start = c in
+    let loop = c.loop-i in
+    let rule : ℕ → ℕ = λ index. colours_of (get_or start.args.plan.shares index 0) in
+    let most : sum_to rule loop.i ≤ domain_colours * loop.i =
+    sum_most rule domain_colours loop.i (λ index below. colours_most _ (start.requires.1 index (omega arith))) in
+    omega (arith, colours_most _ (colours_of-colours-requires c c.colours_of-colours.lifetimes), c.colours_of-colours.ensures)
+
+pub loop-i-preserved : goal.loop-i-preserved
+loop-i-preserved c =
+    let loop = c.loop-i in (
+      omega arith,
+      ap (λ (n : ℕ). loop.colours + n) c.colours_of-colours.ensures ∙ sum_more _ _ loop.i loop.invariant.1,
+      loop.invariant.2,
+    )
+
+pub returns : goal.returns
+unfolding first_colour
+returns c =
+    let ended : c.loop-i.i ≡ c.args.plan.domains = omega arith in
+    c.loop-i.invariant.1 ∙ ap (sum_to _) ended

@@ -1,0 +1,13 @@
+-- `plan::validity::domain_valid` meets its contract. Assumes nothing.
+use borrow.Author.Rules.{rules}
+use borrow.Author.Tests.{le-ltb, lt-ltb}
+use Rattle.plan.specs.Validity.{domain_valid, undeclared_valid}
+use Rattle.plan.proofs.validity.domain_valid.Goals as goal
+
+pub returns-then-domain-domains : goal.returns-then-domain-domains
+unfolding domain_valid undeclared_valid
+returns-then-domain-domains c = simp (lt-ltb _ _ c.if-domain-domains.true, ← c.declared_valid.ensures)
+
+pub returns : goal.returns
+unfolding domain_valid undeclared_valid
+returns c = simp (le-ltb _ _ c.if-domain-domains.false)
