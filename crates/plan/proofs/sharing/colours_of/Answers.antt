@@ -1,6 +1,5 @@
 -- `plan::sharing::colours_of` meets its contract. Assumes nothing.
 use mathlib.Core.Path.{refl}
-use borrow.Author.Rules.{rules}
 use Rattle.plan.specs.Colours.{colours_of}
 use Rattle.plan.proofs.sharing.colours_of.Goals as goal
 

@@ -1,12 +1,11 @@
 -- `plan::sharing::colours_total` meets its contract. Assumes nothing.
 use mathlib.Core.Path.{◌∙◌, ◌≡◌, ap, refl}
-use Prim.Native.Nat.{◌+◌, ◌*◌, ◌-◌, ◌≤◌, ℕ}
+use Prim.Native.Nat.{◌+◌, ◌*◌, ◌≤◌, ℕ}
 use native.Mathlib.Omega.{arith}
 use lib.ListN.{get_or}
-use borrow.Author.Rules.{rules}
 use Rattle.plan.specs.Colours.{colours_of, first_colour}
 use Rattle.plan.specs.Sums.{sum_to}
-use Rattle.plan.specs.Limits.{domain_colours, most_domains}
+use Rattle.plan.specs.Limits.{domain_colours}
 use Rattle.plan.proofs.Shares.{colours_most}
 use Rattle.plan.proofs.Sums.{sum_more, sum_most}
 use Rattle.plan.proofs.sharing.colours_total.Goals as goal
@@ -25,7 +24,7 @@ overflow_add-colours c =
     let rule : ℕ → ℕ = λ index. colours_of (get_or start.args.plan.shares index 0) in
     let most : sum_to rule loop.i ≤ domain_colours * loop.i =
     sum_most rule domain_colours loop.i (λ index below. colours_most _ (start.requires.1 index (omega arith))) in
-    omega (arith, colours_most _ (colours_of-colours-requires c c.colours_of-colours.lifetimes), c.colours_of-colours.ensures)
+    omega (arith, colours_most _ (c.requires.1 c.loop-i.i (omega arith)), c.colours_of-colours.ensures)
 
 pub loop-i-preserved : goal.loop-i-preserved
 loop-i-preserved c =

@@ -1,14 +1,10 @@
 -- `plan::sharing::colours_total` meets its contract. Assumes nothing.
-use mathlib.Core.Path.{◌∙◌, ◌≡◌, ap, refl}
-use Prim.Native.Nat.{◌+◌, ◌*◌, ◌-◌, ◌≤◌, ℕ}
-use native.Mathlib.Omega.{arith}
+use mathlib.Core.Path.{◌≡◌}
+use Prim.Native.Nat.{◌-◌, ◌≤◌, ℕ}
 use lib.ListN.{get_or}
-use borrow.Author.Rules.{rules}
-use Rattle.plan.specs.Colours.{colours_of, first_colour}
+use Rattle.plan.specs.Colours.{colours_of}
 use Rattle.plan.specs.Sums.{sum_to}
-use Rattle.plan.specs.Limits.{domain_colours, most_domains}
-use Rattle.plan.proofs.Shares.{colours_most}
-use Rattle.plan.proofs.Sums.{sum_more, sum_most}
+use Rattle.plan.specs.Limits.{most_domains}
 use Rattle.plan.proofs.sharing.colours_total.Given as goal
 
 abbrev pub invariant-loop-i : goal.invariant-loop-i

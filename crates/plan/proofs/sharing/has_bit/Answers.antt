@@ -1,6 +1,5 @@
 -- `plan::sharing::has_bit` meets its contract. Assumes nothing.
 use mathlib.Core.Path.{refl}
-use borrow.Author.Rules.{rules}
 use Rattle.plan.specs.Colours.{has_bit}
 use Rattle.plan.proofs.sharing.has_bit.Goals as goal
 

@@ -1,5 +1,4 @@
 -- `plan::sharing::holding` meets its contract. Assumes nothing.
-use borrow.Author.Rules.{rules}
 use borrow.Author.Tests.{le-ltb, lt-ltb}
 use Rattle.plan.specs.Colours.{holding_of}
 use Rattle.plan.proofs.sharing.holding.Goals as goal

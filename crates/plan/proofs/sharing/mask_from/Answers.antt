@@ -1,7 +1,6 @@
 -- `plan::sharing::mask_from` meets its contract. Assumes nothing.
 use native.Mathlib.Omega.{arith}
 use lib.Pow.{pow_pos}
-use borrow.Author.Rules.{rules}
 use Rattle.plan.proofs.Bits.{mask_fits, mask_shifted, one_shifted}
 use Rattle.plan.proofs.sharing.mask_from.Goals as goal
 

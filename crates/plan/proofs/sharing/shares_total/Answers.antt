@@ -1,12 +1,11 @@
 -- `plan::sharing::shares_total` meets its contract. Assumes nothing.
 use mathlib.Core.Path.{◌∙◌, ◌≡◌, ap, refl}
-use Prim.Native.Nat.{◌*◌, ◌-◌, ◌≤◌, ℕ}
+use Prim.Native.Nat.{◌*◌, ◌≤◌, ℕ}
 use native.Mathlib.Omega.{arith}
 use lib.ListN.{get_or}
-use borrow.Author.Rules.{rules}
 use Rattle.plan.specs.Colours.{shares_total}
 use Rattle.plan.specs.Sums.{sum_to}
-use Rattle.plan.specs.Limits.{most_domains, most_share}
+use Rattle.plan.specs.Limits.{most_share}
 use Rattle.plan.proofs.Sums.{sum_more, sum_most}
 use Rattle.plan.proofs.sharing.shares_total.Goals as goal
 

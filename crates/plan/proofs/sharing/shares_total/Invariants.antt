@@ -1,13 +1,9 @@
 -- `plan::sharing::shares_total` meets its contract. Assumes nothing.
-use mathlib.Core.Path.{◌∙◌, ◌≡◌, ap, refl}
-use Prim.Native.Nat.{◌*◌, ◌-◌, ◌≤◌, ℕ}
-use native.Mathlib.Omega.{arith}
+use mathlib.Core.Path.{◌≡◌}
+use Prim.Native.Nat.{◌-◌, ◌≤◌, ℕ}
 use lib.ListN.{get_or}
-use borrow.Author.Rules.{rules}
-use Rattle.plan.specs.Colours.{shares_total}
 use Rattle.plan.specs.Sums.{sum_to}
-use Rattle.plan.specs.Limits.{most_domains, most_share}
-use Rattle.plan.proofs.Sums.{sum_more, sum_most}
+use Rattle.plan.specs.Limits.{most_domains}
 use Rattle.plan.proofs.sharing.shares_total.Given as goal
 
 abbrev pub invariant-loop-i : goal.invariant-loop-i

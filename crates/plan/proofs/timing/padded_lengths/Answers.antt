@@ -1,9 +1,8 @@
 -- `plan::timing::padded_lengths` meets its contract. Assumes nothing.
 use mathlib.Core.Path.{◌∙◌, ◌≡◌, ap, refl}
-use Prim.Native.Nat.{◌*◌, ◌+◌, ◌-◌, ◌≤◌, ℕ}
+use Prim.Native.Nat.{◌*◌, ◌+◌, ◌≤◌, ℕ}
 use native.Mathlib.Omega.{arith}
 use lib.ListN.{get_or}
-use borrow.Author.Rules.{rules}
 use Rattle.plan.specs.Sums.{sum_to}
 use Rattle.plan.proofs.Sums.{sum_more, sum_most}
 use Rattle.plan.proofs.timing.padded_lengths.Goals as goal
@@ -14,9 +13,6 @@ loop-i-init c = (omega arith, refl)
 
 pub bounds-lengths-i : goal.bounds-lengths-i
 bounds-lengths-i c = omega (arith, c.requires)
-
-pub Need-overflow-cast-length : goal.Need-overflow-cast-length
-Need-overflow-cast-length c = omega (arith, c.requires.2 c.loop-i.i c.loop-i-test.true)
 
 pub overflow_add-total : goal.overflow_add-total
 overflow_add-total c = omega (arith, c.requires.2 c.loop-i.i c.loop-i-test.true, c.requires)

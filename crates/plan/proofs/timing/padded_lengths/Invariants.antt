@@ -1,11 +1,8 @@
 -- `plan::timing::padded_lengths` meets its contract. Assumes nothing.
-use mathlib.Core.Path.{◌∙◌, ◌≡◌, ap, refl}
-use Prim.Native.Nat.{◌*◌, ◌+◌, ◌-◌, ◌≤◌, ℕ}
-use native.Mathlib.Omega.{arith}
+use mathlib.Core.Path.{◌≡◌}
+use Prim.Native.Nat.{◌+◌, ◌-◌, ◌≤◌, ℕ}
 use lib.ListN.{get_or}
-use borrow.Author.Rules.{rules}
 use Rattle.plan.specs.Sums.{sum_to}
-use Rattle.plan.proofs.Sums.{sum_more, sum_most}
 use Rattle.plan.proofs.timing.padded_lengths.Given as goal
 
 abbrev pub invariant-loop-i : goal.invariant-loop-i

@@ -3,7 +3,6 @@ use mathlib.Core.Path.{ap}
 use Prim.Native.Nat.{◌*◌, ◌≤◌, ℕ}
 use native.Mathlib.Nat.{mul-le-mul}
 use native.Mathlib.Omega.{arith}
-use borrow.Author.Rules.{rules}
 use Rattle.plan.specs.Windows.{ticks_total}
 use Rattle.plan.proofs.Windows.{padded_most}
 use Rattle.plan.proofs.timing.ticks_total.Goals as goal

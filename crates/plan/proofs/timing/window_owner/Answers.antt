@@ -1,7 +1,6 @@
 -- `plan::timing::window_owner` meets its contract. Assumes nothing.
 use mathlib.Core.Path.{refl}
 use native.Mathlib.Omega.{arith}
-use borrow.Author.Rules.{rules}
 use Rattle.plan.specs.Windows.{window_owner}
 use Rattle.plan.proofs.ValidPlans.{counts}
 use Rattle.plan.proofs.Windows.{slot_below}

@@ -2,7 +2,6 @@
 use mathlib.Core.Path.{◌∙◌, ap₂}
 use Prim.Native.Nat.{◌*◌, ◌+◌, ◌/◌, ℕ}
 use native.Mathlib.Omega.{arith}
-use borrow.Author.Rules.{rules}
 use Rattle.plan.proofs.ValidPlans.{counts, declared_window}
 use Rattle.plan.proofs.Windows.{slot_below, start_fits, start_repeats}
 use Rattle.plan.proofs.timing.window_start.Goals as goal

@@ -3,7 +3,6 @@ use mathlib.Core.Path.{refl}
 use Prim.Native.Nat.{◌*◌, ◌≤◌}
 use native.Mathlib.Nat.{mul-le-mul}
 use native.Mathlib.Omega.{arith}
-use borrow.Author.Rules.{rules}
 use Rattle.plan.specs.Windows.{windows_total}
 use Rattle.plan.specs.Limits.{most_run, most_windows}
 use Rattle.plan.proofs.timing.windows_total.Goals as goal

@@ -1,5 +1,4 @@
 -- `plan::validity::counts_valid` meets its contract. Assumes nothing.
-use borrow.Author.Rules.{rules}
 use Rattle.plan.specs.Validity.{counts_valid}
 use Rattle.plan.proofs.validity.counts_valid.Goals as goal
 

@@ -1,8 +1,6 @@
 -- `plan::validity::declared_valid` meets its contract. Assumes nothing.
 use mathlib.Core.Path.{◌∙◌, refl, sym}
 use native.Mathlib.Omega.{arith}
-use borrow.Author.Rules.{rules}
-use borrow.Author.Tests.{not-false, not-true}
 use Rattle.plan.specs.Validity.{declared_valid}
 use Rattle.plan.specs.Limits.{least_share, most_share}
 use Rattle.plan.proofs.Bits.{one_shifted}

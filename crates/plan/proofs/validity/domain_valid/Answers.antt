@@ -1,5 +1,4 @@
 -- `plan::validity::domain_valid` meets its contract. Assumes nothing.
-use borrow.Author.Rules.{rules}
 use borrow.Author.Tests.{le-ltb, lt-ltb}
 use Rattle.plan.specs.Validity.{domain_valid, undeclared_valid}
 use Rattle.plan.proofs.validity.domain_valid.Goals as goal

@@ -1,13 +1,10 @@
 -- `plan::validity::domains_valid` meets its contract. Assumes nothing.
 use mathlib.Core.Bool.{true}
-use mathlib.Core.Path.{◌∙◌, ◌≡◌, ap, refl, sym}
+use mathlib.Core.Path.{◌≡◌}
 use Prim.Native.Nat.{◌-◌, ◌≤◌}
-use native.Mathlib.Omega.{arith}
-use borrow.Author.Tests.{not-false, not-true}
 use Rattle.plan.specs.Validity.{domain_valid}
 use Rattle.plan.specs.Sums.{all_below}
 use Rattle.plan.specs.Limits.{most_domains}
-use Rattle.plan.proofs.Sums.{all_below_fails, all_below_more}
 use Rattle.plan.proofs.validity.domains_valid.Given as goal
 
 abbrev pub invariant-loop-domain : goal.invariant-loop-domain

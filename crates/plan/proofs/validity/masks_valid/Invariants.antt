@@ -1,19 +1,11 @@
 -- `plan::validity::masks_valid` meets its contract. Assumes nothing.
 use mathlib.Core.Bool.{true}
-use mathlib.Core.List.{List}
-use mathlib.Core.Path.{◌∙◌, ◌≡◌, ap, refl, sym}
-use Prim.Native.Nat.{◌-◌, ◌<◌, ◌≤◌, ℕ}
-use native.Mathlib.Omega.{arith}
+use mathlib.Core.Path.{◌≡◌}
+use Prim.Native.Nat.{◌-◌, ◌≤◌, ℕ}
 use lib.Dec.{eqb}
 use lib.ListN.{get_or}
-use borrow.Author.Tests.{eq-eqb, eqb-true, ne_eqb}
-use Rattle.plan.specs.declared.Plan.{Plan}
-use Rattle.plan.specs.Colours.{mask_for, masks_from}
-use Rattle.plan.specs.Validity.{mask_valid}
 use Rattle.plan.specs.Sums.{all_below}
 use Rattle.plan.specs.Limits.{most_domains}
-use Rattle.plan.proofs.MaskLists.{mask_due}
-use Rattle.plan.proofs.Sums.{all_below_lem, all_below_fails, all_below_more, below_all}
 use Rattle.plan.proofs.validity.masks_valid.Given as goal
 
 abbrev pub invariant-loop-domain : goal.invariant-loop-domain

@@ -1,5 +1,4 @@
 -- `plan::validity::window_valid` meets its contract. Assumes nothing.
-use borrow.Author.Rules.{rules}
 use Rattle.plan.specs.Validity.{window_valid}
 use Rattle.plan.proofs.validity.window_valid.Goals as goal
 

@@ -1,9 +1,7 @@
 -- `plan::validity::windows_valid` meets its contract. The loop's invariant: what was found so far is the test over the indices passed.
 -- Assumes nothing.
 use mathlib.Core.Path.{◌∙◌, ◌≡◌, ap, refl}
-use Prim.Native.Nat.{◌-◌, ◌≤◌}
 use native.Mathlib.Omega.{arith}
-use borrow.Author.Rules.{rules}
 use Rattle.plan.specs.Validity.{window_valid}
 use Rattle.plan.specs.Sums.{all_below}
 use Rattle.plan.specs.Limits.{most_windows}

@@ -1,13 +1,10 @@
 -- `plan::validity::windows_valid` meets its contract. The loop's invariant: what was found so far is the test over the indices passed.
 -- Assumes nothing.
-use mathlib.Core.Path.{◌∙◌, ◌≡◌, ap, refl}
+use mathlib.Core.Path.{◌≡◌}
 use Prim.Native.Nat.{◌-◌, ◌≤◌}
-use native.Mathlib.Omega.{arith}
-use borrow.Author.Rules.{rules}
 use Rattle.plan.specs.Validity.{window_valid}
 use Rattle.plan.specs.Sums.{all_below}
 use Rattle.plan.specs.Limits.{most_windows}
-use Rattle.plan.proofs.Sums.{all_below_next}
 use Rattle.plan.proofs.validity.windows_valid.Given as goal
 
 abbrev pub invariant-loop-slot : goal.invariant-loop-slot
