@@ -4,7 +4,7 @@ use Prim.Native.Nat.{ℕ, ◌≤◌}
 use mathlib.Core.Bool.{Bool, true, false, cond, not, ◌&&◌, and-eq-true_iff, false≢true}
 use mathlib.Core.List.{List, [], ◌∷◌}
 use mathlib.Core.Logic.{◌⊎◌, inl, inr, ⊎_elim}
-use mathlib.Core.Path.{◌≡◌, refl, sym, ap, ◌∙◌}
+use mathlib.Core.Path.{◌≡◌, refl, sym, ap, subst, ◌∙◌}
 use native.Mathlib.Omega.{arith}
 use lib.Dec.{eqb}
 use borrow.Author.Tests.{eq-eqb, eqb-true, le-leb, ne_eqb, not-true}
@@ -114,7 +114,7 @@ module _ (set entry : ℕ) (some : eqb entry 0 ≡ false) where
       (λ found.
       let same = eqb-true way entry found in
       ⊎_elim (λ empty. absurd (false≢true (sym some ∙ ap (λ n. eqb n 0) (sym same) ∙ empty.0)))
-      (λ line. rw (← same) line.once)
+      (λ line. subst (λ n. has n (next ∷ ways) ≡ false) same line.once)
       (first_case set way (next ∷ ways) sound))
       (λ passed. none_has entry way (behind entry (next ∷ ways)) passed rest)
 

@@ -172,9 +172,9 @@ module _ (plan : Plan) (counts store : List ℕ) (stored : Stored plan.domains c
       scripts_end.once store domain (get_or counts domain 0)
       (record { within = stored.few domain; before = stored.ops domain; there = there domain })
 
-  written_ops : (domain : ℕ) → written_ops plan.domains store domain ≡ get_or counts domain 0
+  written_ops_lem : (domain : ℕ) → written_ops plan.domains store domain ≡ get_or counts domain 0
   unfolding written_ops
-  written_ops domain =
+  written_ops_lem domain =
       cond_holds (λ (count : ℕ). count ≡ get_or counts domain 0) (ltb domain plan.domains) (stored_ops store domain) 0
       (λ _. sym (stored_ops_lem domain))
       (λ past. sym (stored.none domain (ltb-false domain plan.domains past)))
@@ -189,7 +189,7 @@ module _ (plan : Plan) (counts store : List ℕ) (stored : Stored plan.domains c
     where
       go : (domain position : ℕ) → position < most_ops → (before : Bool) → ltb position (get_or counts domain 0) ≡ before
           → op_or_zero plan.domains store domain position ≡ true
-      go domain position within true test = rw (written_ops domain, test)
+      go domain position within true test = rw (written_ops_lem domain, test)
       go domain position within false test =
           let past = ltb-false position (get_or counts domain 0) test in
           second_passes (ltb position (written_ops plan.domains store domain)) _ (eq-eqb _ 0 (stored.zero domain position within past))
