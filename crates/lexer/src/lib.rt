@@ -16,7 +16,7 @@ use scan::{skip_indent, skip_spaces};
 // A token of a line. `start` is the offset of its first byte and `end` the offset past its last.
 // The definition of a text's tokens has every kind. The code makes words, numbers and `Other`
 // alone: a bracket or a line's end is answered as a lookahead.
-#[derive(Drop)]
+#[derive(Clone, Copy)]
 pub enum Token {
     // no token is left in the line; the offset of its LF, or the text's length
     LineEnd(usize),
@@ -48,7 +48,7 @@ pub enum Token {
 
 // What stands next in a line by its first byte, with that byte's offset. A bracket or a line's end
 // is known from it; a run of bytes is looked through only where a word or a number is due.
-#[derive(Drop)]
+#[derive(Clone, Copy)]
 pub enum Lookahead {
     // no token is left in the line; the offset of its LF, or the text's length
     LineEnd(usize),
