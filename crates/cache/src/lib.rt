@@ -27,7 +27,7 @@ pub enum AccessKind {
 }
 
 // The dirty line that an access put out of L1 and wrote back into its L2 set, if any.
-#[derive(Drop)]
+#[derive(Clone, Copy)]
 pub enum WriteBack {
     Nothing,
     Line(u16),

@@ -8,36 +8,26 @@ use Rattle.cache.specs.Flush.{kernel_flushed, kernel_flush_ticks, valid_lines}
 use Rattle.cache.specs.Lines.{is_valid, kernel_entries, kernel_index}
 use Rattle.cache.proofs.Emptied.{flush_outcome}
 use Rattle.cache.proofs.Ticks.{count_part_limit}
-use borrow.Author.Rules.{rules}
-use Rattle.cache.proofs.flush.flush_kernel.Statement.{statement}
-use Rattle.cache.proofs.flush.flush_kernel.Tie as tie
+use Rattle.cache.proofs.flush.flush_kernel.Goals as goal
 
-add-result : tie.Need-overflow-add-result
-add-result c =
-    let start = c.before.before.before.before.before.before.before.before in
-    let counted = c.before.before.before.before.count_valid in
+pub overflow_add-result : goal.overflow_add-result
+overflow_add-result c =
+    let start = c in
+    let counted = c.count_valid-valid in
     let few : counted.result ≤ length start.args.table.now - kernel_index =
     rw counted.ensures (count_part_limit is_valid 0 (length start.args.table.now - kernel_index) _) in
     omega (arith, start.requires)
 
-returns : tie.Need-returns
+pub returns : goal.returns
 unfolding kernel_flushed kernel_flush_ticks valid_lines
 returns c =
-    let start = c.before.before.before.before.before.before.before.before in
+    let start = c in
     let table = start.args.table.now in
-    let counted = c.before.before.before.before.count_valid in
-    let emptied = c.before.before.empty in
+    let counted = c.count_valid-valid in
+    let emptied = c.empty in
     -- the kernel's sets are the last of the table
     let entries : length table - kernel_index ≡ kernel_entries = omega (arith, start.requires) in
     let outcome =
-    flush_outcome is_valid kernel_index (length table - kernel_index) counted.result emptied.new.0 table
+    flush_outcome is_valid kernel_index (length table - kernel_index) counted.result emptied.new.entries table
     (omega (arith, start.requires)) counted.ensures emptied.ensures in
     (rw (outcome.0, entries), outcome.1 ∙ ap (λ (count : ℕ). splice kernel_index count (replicate count 0) table) entries)
-
-pub flush-kernel-spec : {M : Type 1} → statement M
-flush-kernel-spec =
-    tie.close
-    (tie.spec
-    (λ c. search rules) (λ c. search rules) (λ c. search rules) (λ c. search rules) (λ c. search rules)
-    (λ c κs. search rules) (λ c. search rules) (λ c. search rules) (λ c. search rules) (λ c. search rules)
-    (λ c κs. search rules) add-result (λ c. search rules) returns)
