@@ -1,0 +1,6 @@
+-- `frame::quotas::is_ahead` meets its contract. Assumes nothing.
+use mathlib.Core.Path.{refl}
+use Rattle.frame.proofs.quotas.is_ahead.Goals as goal
+
+pub returns : goal.returns
+returns c remainders its own = rw (its, own) refl
