@@ -38,9 +38,9 @@ use Rattle.isolation.specs.Solo.{wait_steps}
 use Rattle.isolation.specs.Statement.{BoxesAgree, Correspond, HasCorresponding, Only, SameKernelSets, SameL1}
 use Rattle.isolation.specs.Statement.{SamePlan, SameSets, ScriptsAgree, StartedOnTime}
 use Rattle.isolation.proofs.OneRun.OnTime.{ended_clock_lem, every_start, scheduled_after, started}
-use OpCounts.{ops-in-all, ops-so-far}
-use Progress.{lasts, no-fewer, one-start}
-use Solo.{agrees-with-solo, idle-same, next-is, none-past, soloFirst, soloStep}
+use OpCounts.{ops_in_all, ops_so_far_lem}
+use Progress.{lasts, no_fewer, one_start}
+use Solo.{agrees_with_solo, idle_same, next_is, none_past, solo_first, solo_step}
 use Windows.{Began, Completed, began, completed, run_by}
 
 -- what two runs must have in common
@@ -135,7 +135,7 @@ module _ {Named : ℕ → Type 0} (plan : Plan) (scripts scripts' log log' : Lis
       → (world_after one at).boxes ≡ mail_at window d
   unfolding mail_at
   mail_is_lem window at (yes room) in_run s =
-      ap (λ (n : ℕ). (world_after one n).boxes) (one-start one window at _ s (start_of window room).starts)
+      ap (λ (n : ℕ). (world_after one n).boxes) (one_start one window at _ s (start_of window room).starts)
   mail_is_lem window at (no over) in_run s = absurd (over in_run)
 
   named : (domain : ℕ) → InSet input domain → Named domain
@@ -167,7 +167,7 @@ module _ {Named : ℕ → Type 0} (plan : Plan) (scripts scripts' log log' : Lis
         log_is = sym shared.logs;
         mail_fits = λ window. mail_fits_lem window (dec_lt window (windows_total plan));
         mail_is = λ window at' room owner s' soFar' sender recipient known n.
-            let grown = no-fewer other possible at' count' soFar' in
+            let grown = no_fewer other possible at' count' soFar' in
             let t = started one possible count window (omega (arith, s'.reached)) in
             sym
             (boxes window t.at at' room (named _ owner) t.starts t.so_far s' soFar' sender recipient known
@@ -194,8 +194,8 @@ module _ {Named : ℕ → Type 0} (plan : Plan) (scripts scripts' log log' : Lis
         let before = lasts_there room owner at s so_far more earlier in
         let m = matches_other count there.at (omega (arith, there.starts.reached)) (boxes there.at) in
         rw add-suc
-        (next-is input scripts' log' there.at possible m now there.at more room (in_set_lem _ owner) there.starts (omega arith) before
-        ∙ sym (next-is input scripts log count possible (matches_one count) now at more room (in_set_lem _ owner) s so_far earlier)
+        (next_is input scripts' log' there.at possible m now there.at more room (in_set_lem _ owner) there.starts (omega arith) before
+        ∙ sym (next_is input scripts log count possible (matches_one count) now at more room (in_set_lem _ owner) s so_far earlier)
         ∙ rw add-suc at here)
 
     corresponding_one : HasCorresponding Named one count other
@@ -222,8 +222,8 @@ module _ {Named : ℕ → Type 0} (plan : Plan) (scripts scripts' log log' : Lis
                     windows = sym last;
                     ops = λ w.
                         ap (ops_of one now) b.point
-                        ∙ ops-so-far one possible now b.at b.starts room b.more here
-                        ∙ sym (ops-so-far other possible now there.at there.starts room b.more last);
+                        ∙ ops_so_far_lem one possible now b.at b.starts room b.more here
+                        ∙ sym (ops_so_far_lem other possible now there.at there.starts room b.more last);
                   };
             }
         go (yes room) (no unnamed) = at_start (λ w. unnamed w.owner)
@@ -244,15 +244,15 @@ module _ {Named : ℕ → Type 0} (plan : Plan) (scripts scripts' log log' : Lis
     as_many window next next' owner p so_far p' soFar' = go (dec_lt p.more p'.more) (dec_lt p'.more p.more)
       where
         at_one : (more : ℕ) → windows_after one (p.at + more) ≡ window
-            → windows_after one (suc (p.at + more)) ≡ (soloStep input (wait_steps input more (soloFirst input window))).state.windows
+            → windows_after one (suc (p.at + more)) ≡ (solo_step input (wait_steps input more (solo_first input window))).state.windows
         at_one more =
-            next-is input scripts log count possible m window p.at more p.room (in_set_lem _ owner) p.starts
+            next_is input scripts log count possible m window p.at more p.room (in_set_lem _ owner) p.starts
             (omega (arith, p.follows))
 
         at_other : (more : ℕ) → windows_after other (p'.at + more) ≡ window
-            → windows_after other (suc (p'.at + more)) ≡ (soloStep input (wait_steps input more (soloFirst input window))).state.windows
+            → windows_after other (suc (p'.at + more)) ≡ (solo_step input (wait_steps input more (solo_first input window))).state.windows
         at_other more =
-            next-is input scripts' log' count' possible m' window p'.at more p'.room (in_set_lem _ owner) p'.starts
+            next_is input scripts' log' count' possible m' window p'.at more p'.room (in_set_lem _ owner) p'.starts
             (omega (arith, p'.follows))
 
         -- a run that is further on in a window was in it before
@@ -261,8 +261,8 @@ module _ {Named : ℕ → Type 0} (plan : Plan) (scripts scripts' log log' : Lis
         inside run valid at less more from to h =
             omega (
               arith,
-              no-fewer run valid at (at + less) (omega arith),
-              no-fewer run valid (at + less) (at + more) (omega arith),
+              no_fewer run valid at (at + less) (omega arith),
+              no_fewer run valid (at + less) (at + more) (omega arith),
             )
 
         go : Dec (p.more < p'.more) → Dec (p'.more < p.more) → p.more ≡ p'.more
@@ -283,10 +283,10 @@ module _ {Named : ℕ → Type 0} (plan : Plan) (scripts scripts' log log' : Lis
         let b' = began other possible count' (started other possible count') (suc window) count' (omega arith) (omega (arith, points.windows)) in
         let p = completed one possible count (started one possible count) window b.at (omega (arith, b.point)) b.starts in
         let p' = completed other possible count' (started other possible count') window b'.at (omega (arith, b'.point)) b'.starts in
-        ops-in-all one possible window p.at p.starts p.room p.more count p.within p.past (omega (arith, p.follows, b.point))
+        ops_in_all one possible window p.at p.starts p.room p.more count p.within p.past (omega (arith, p.follows, b.point))
         ∙ as_many window b.at b'.at owner p (omega (arith, b.point)) p' (omega (arith, b'.point))
         ∙ sym
-        (ops-in-all other possible window p'.at p'.starts p'.room p'.more count' p'.within p'.past
+        (ops_in_all other possible window p'.at p'.starts p'.room p'.more count' p'.within p'.past
         (omega (arith, p'.follows, b'.point)))
 
     -- the computed world is the same for both points
@@ -299,17 +299,17 @@ module _ {Named : ℕ → Type 0} (plan : Plan) (scripts scripts' log log' : Lis
             → solo_at input (windows_after one count) (ops_of one (windows_after one count) count)
             ≡ solo_at input (windows_after one count) (ops_of other (windows_after one count) count')
         go (yes room) (yes owner) = ap (solo_at input (windows_after one count)) (points.ops (record { not_ended = room; owner = owner }))
-        go (yes room) (no unnamed) = idle-same input (windows_after one count) _ _ (λ n. unnamed (named _ n))
+        go (yes room) (no unnamed) = idle_same input (windows_after one count) _ _ (λ n. unnamed (named _ n))
         go (no over) d =
             ap (solo_at input (windows_after one count))
-            (none-past input scripts log count possible m _ (omega arith) count
-            ∙ sym (none-past input scripts' log' count' possible m' _ (omega arith) count'))
+            (none_past input scripts log count possible m _ (omega arith) count
+            ∙ sym (none_past input scripts' log' count' possible m' _ (omega arith) count'))
 
     agree : AgreesWithSolo input scripts log count
-    agree = agrees-with-solo input scripts log count possible m
+    agree = agrees_with_solo input scripts log count possible m
 
     agree' : AgreesWithSolo input scripts' log' count'
-    agree' = agrees-with-solo input scripts' log' count' possible m'
+    agree' = agrees_with_solo input scripts' log' count' possible m'
 
     -- in a window of a named domain
     in_window : InWindowOf Named one count
