@@ -57,7 +57,8 @@ module _ (plan : Plan) (domain : ℕ) where
     raised_under place = go (ℕ_discrete place at)
       where
         more : (may first rest : Bool) → one (may && rest) + 0 ≤ one (may && (first || rest))
-        more true true rest = elim rest [ true ↦ omega arith | false ↦ omega arith ]
+        more true true true = omega arith
+        more true true false = omega arith
         more true false rest = omega arith
         more false first rest = omega arith
 
