@@ -14,7 +14,7 @@ ghost use Rattle.records.specs.Records.{record_kind, record_size, record_value, 
 use crate::limits::RECORD_SIZE;
 
 // What an op shows the domain that runs it, with the value that its record keeps.
-#[derive(Drop)]
+#[derive(Clone, Copy)]
 pub enum Observation {
     Hit1(u16),
     Hit2(u16),
@@ -28,7 +28,7 @@ pub enum Observation {
 }
 
 // Whose records are kept: every domain's, each in its part of the log, or one domain's only.
-#[derive(Drop)]
+#[derive(Clone, Copy)]
 pub enum Keep {
     Every,
     One(u64),
@@ -36,7 +36,7 @@ pub enum Keep {
 
 // Where a domain's records go: one behind the other, from as many records on as the number says, or
 // nowhere.
-#[derive(Drop)]
+#[derive(Clone, Copy)]
 pub enum Place {
     From(u64),
     Nowhere,

@@ -1,0 +1,26 @@
+-- `records::store_record` meets its contract. Assumes nothing.
+use mathlib.Core.Path.{refl}
+use native.Mathlib.Omega.{arith}
+use Rattle.records.specs.Records.{stored_at}
+use Rattle.records.proofs.Places.{from_ends}
+use Rattle.records.proofs.store_record.Goals as goal
+
+-- the record has its room in the log
+pub overflow_add-at : goal.overflow_add-at
+overflow_add-at c = omega (arith, from_ends _ _ _ _ c.in-From.is c.requires)
+
+pub overflow_mul-at : goal.overflow_mul-at
+overflow_mul-at c = omega (arith, from_ends _ _ _ _ c.in-From.is c.requires)
+
+pub write_record-requires : goal.write_record-requires
+write_record-requires c = omega (arith, from_ends _ _ _ _ c.in-From.is c.requires)
+
+pub returns-in-From : goal.returns-in-From
+unfolding stored_at
+returns-in-From c =
+    rw (c.in-From.is, stored_at)
+    (c.write_record.ensures _ c.record_kind-kind.ensures c.record_value-value.ensures)
+
+pub returns-in_default : goal.returns-in_default
+unfolding stored_at
+returns-in_default c = rw (c.in_default.is, stored_at) refl
