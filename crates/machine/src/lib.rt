@@ -6,7 +6,7 @@ pub mod stepping;
 use state::State;
 
 // Where the running domain stands in its window: all that decides its next step, beside its script.
-#[derive(Drop)]
+#[derive(Clone, Copy)]
 pub struct Turn {
     // windows completed
     pub windows: u64,
@@ -23,7 +23,7 @@ pub struct Turn {
 }
 
 // What the ops of one window answer, or these and its switch, beside the cache table, the boxes and the log.
-#[derive(Drop)]
+#[derive(Clone, Copy)]
 pub struct WindowProgress {
     // the number of steps done
     pub steps: u64,
@@ -31,7 +31,7 @@ pub struct WindowProgress {
 }
 
 // What n steps answer, beside the cache table, the boxes and the log.
-#[derive(Drop)]
+#[derive(Clone, Copy)]
 pub struct Advance {
     // the number of steps done
     pub steps: u64,

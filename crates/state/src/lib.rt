@@ -11,7 +11,7 @@ ghost use Rattle.state.specs.World.{fresh_state};
 use plan::limits::DOMAIN_ENTRIES;
 
 // Document 01's small state. Every field is wide enough for any number that a caller may lend.
-#[derive(Drop)]
+#[derive(Clone, Copy)]
 pub struct State {
     // windows completed
     pub windows: u64,
