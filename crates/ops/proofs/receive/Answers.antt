@@ -1,0 +1,46 @@
+-- `ops::receive` meets its contract. Assumes nothing.
+use mathlib.Core.Bool.{false}
+use mathlib.Core.Path.{◌∙◌, sym}
+use native.Mathlib.Omega.{arith}
+use Rattle.ops.specs.Ops.{kernel_entry_line, receive_by}
+use Rattle.ops.proofs.Operations.{answered_ticks, message_denied, message_passed, message_ticks_lem}
+use Rattle.ops.proofs.receive.Goals as goal
+
+pub overflow_add-result : goal.overflow_add-result
+overflow_add-result c =
+    let enter = c.enter_kernel-entered in
+    omega (arith, answered_ticks false kernel_entry_line _ _ enter.ensures.1)
+
+pub returns-then-not-has_bit : goal.returns-then-not-has_bit
+unfolding receive_by
+returns-then-not-has_bit c =
+    let enter = c.enter_kernel-entered in
+    λ plan handed.
+    message_denied _ _ _ _ _ _ _ _ _ handed _ _ _ enter.ensures.1 enter.ensures.2 enter.ensures.3
+    (sym c.has_bit.ensures ∙ c.if-not-has_bit.true)
+
+pub overflow_add-result-2 : goal.overflow_add-result-2
+overflow_add-result-2 c =
+    let right = c in
+    let enter = right.enter_kernel-entered in
+    omega (arith, answered_ticks false kernel_entry_line _ _ enter.ensures.1)
+
+pub overflow_add-result-3 : goal.overflow_add-result-3
+overflow_add-result-3 c =
+    let right = c in
+    let enter = right.enter_kernel-entered in
+    let reach = c.reach_box-reached in
+    omega (arith, message_ticks_lem _ _ _ _ _ enter.ensures.1 reach.ensures.1)
+
+pub returns : goal.returns
+unfolding receive_by
+returns c =
+    let reach = c.reach_box-reached in
+    let index = c.box_index-index in
+    let right = c in
+    let enter = right.enter_kernel-entered in
+    λ plan handed.
+    rw (← index.ensures, ← c.box_observation.ensures)
+    (message_passed _ _ _ _ _ _ _ _ _ handed _ _ _ enter.ensures.1 enter.ensures.2 enter.ensures.3 _ _ _ _
+    (sym right.has_bit.ensures ∙ right.if-not-has_bit.false)
+    index.ensures reach.ensures.1 reach.ensures.2 reach.ensures.3)
