@@ -182,7 +182,7 @@ comparable =
       scripts = scripts_agree one.scripts other.scripts refl;
       logs = refl;
       points = record { windows = refl; ops = λ within. refl };
-      boxes = λ window at at' room owner s so_far s' soFar'. boxes_there window at at' (second window room owner) s s';
+      boxes = λ window at at' room owner s so_far s' so_far'. boxes_there window at at' (second window room owner) s s';
     }
 
 -- so the observer sees the same

@@ -230,7 +230,7 @@ comparable =
             logs = refl;
           };
       points = record { windows = refl; ops = λ within. refl };
-      boxes = λ window at at' room owner s so_far s' soFar'. boxes_there window at at' (observed window room owner) s s';
+      boxes = λ window at at' room owner s so_far s' so_far'. boxes_there window at at' (observed window room owner) s s';
     }
 
 -- so the observer sees the same after both
@@ -383,9 +383,9 @@ masks_needed claim =
     (scripts_agree (script (Read 3 ∷ [])) (rival (Read 3)) (rival (Compute 5)) refl)
     refl
     (record { windows = refl; ops = λ within. refl })
-    (λ window at at' room owner s so_far s' soFar' sender recipient below is.
+    (λ window at at' room owner s so_far s' so_far' sender recipient below is.
     no_mail (reads (Read 3)) refl at (box_index sender recipient) so_far (omega arith)
-    ∙ sym (no_mail (reads (Compute 5)) refl at' (box_index sender recipient) soFar' (omega arith)))
+    ∙ sym (no_mail (reads (Compute 5)) refl at' (box_index sender recipient) so_far' (omega arith)))
     in
     let kind : ◌≡◌ {A = ℕ} 2 3 = ap (λ (log : List ℕ). get_or log 0 0) same.log in
     omega arith

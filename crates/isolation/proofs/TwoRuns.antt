@@ -166,11 +166,11 @@ module _ {Named : ℕ → Type 0} (plan : Plan) (scripts scripts' log log' : Lis
         scripts_are = λ domain n index below. sym (shared.scripts domain (named domain n) index below);
         log_is = sym shared.logs;
         mail_fits = λ window. mail_fits_lem window (dec_lt window (windows_total plan));
-        mail_is = λ window at' room owner s' soFar' sender recipient known n.
-            let grown = no_fewer other possible at' count' soFar' in
+        mail_is = λ window at' room owner s' so_far' sender recipient known n.
+            let grown = no_fewer other possible at' count' so_far' in
             let t = started one possible count window (omega (arith, s'.reached)) in
             sym
-            (boxes window t.at at' room (named _ owner) t.starts t.so_far s' soFar' sender recipient known
+            (boxes window t.at at' room (named _ owner) t.starts t.so_far s' so_far' sender recipient known
             (named recipient n))
             ∙ ap (λ (held : List ℕ). get_or held (box_index sender recipient) 0)
             (mail_is_lem window t.at (dec_lt window (windows_total plan)) room t.starts);
@@ -241,7 +241,7 @@ module _ {Named : ℕ → Type 0} (plan : Plan) (scripts scripts' log log' : Lis
     -- a completed window of a named domain held as many ops: it ended where the computed one did
     as_many : (window next next' : ℕ) → Named (window_owner plan window) → (p : Completed one window next) → next ≤ count
         → (p' : Completed other window next') → next' ≤ count' → p.more ≡ p'.more
-    as_many window next next' owner p so_far p' soFar' = go (dec_lt p.more p'.more) (dec_lt p'.more p.more)
+    as_many window next next' owner p so_far p' so_far' = go (dec_lt p.more p'.more) (dec_lt p'.more p.more)
       where
         at_one : (more : ℕ) → windows_after one (p.at + more) ≡ window
             → windows_after one (suc (p.at + more)) ≡ (solo_step input (wait_steps input more (solo_first input window))).state.windows

@@ -51,14 +51,14 @@ module _ (plan : Plan) (scripts : List ℕ) where
       ∙ sym (ap (λ (r : RunOutcome). after r.steps (run_call_of plan scripts r.world second)) one ∙ ap (after 0) two)
 
   -- one that is not refused, and leads to a world with parts as large on which the other is not refused either
-  module _ (world : World) (first second quota : ℕ) (quotaIs : part_records plan (length world.log) ≡ quota)
+  module _ (world : World) (first second quota : ℕ) (quota_is : part_records plan (length world.log) ≡ quota)
       (accepted : run_verdict plan scripts world ≡ Accepted) where
     -- the world that the first leaves
     abbrev later : World
     later = (run_of plan scripts quota first world).world
 
     ran : (limit : ℕ) → run_call_of plan scripts world limit ≡ ran_from plan (run_of plan scripts quota limit world)
-    ran limit = judged world limit Accepted accepted ∙ ap (λ (q : ℕ). ran_from plan (run_of plan scripts q limit world)) quotaIs
+    ran limit = judged world limit Accepted accepted ∙ ap (λ (q : ℕ). ran_from plan (run_of plan scripts q limit world)) quota_is
 
     accepted_twice : run_call_of plan scripts later second ≡ ran_from plan (run_of plan scripts quota second later)
         → run_call_of plan scripts world (first + second) ≡ run_twice plan scripts world first second

@@ -108,10 +108,10 @@ ready run possible count =
     record { whole = whole run possible count; dirty = dirty_allowed run.plan run.scripts run.log count possible }
 
 module _ {Named Kept : ℕ → Type 0} (run : FreshRun) (w : Watched run.plan Named Kept) (quota : ℕ)
-    (quotaIs : part_records run.plan (length run.log) ≡ quota) where
+    (quota_is : part_records run.plan (length run.log) ≡ quota) where
   pub next_world : (count : ℕ)
       → world_after run (suc count) ≡ step_of run.plan run.scripts quota (world_after run count)
-  next_world count = one_more_lem run count ∙ ap (λ (q : ℕ). step_of run.plan run.scripts q (world_after run count)) quotaIs
+  next_world count = one_more_lem run count ∙ ap (λ (q : ℕ). step_of run.plan run.scripts q (world_after run count)) quota_is
 
   -- another's window leaves what the named domains have
   pub stays_near : (window start : ℕ) → (Named (window_owner run.plan window) → ⊥) → windows_after run start ≡ window
