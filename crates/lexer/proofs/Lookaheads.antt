@@ -1,18 +1,12 @@
 -- What stands next in a line by its first byte is what the next token shows of itself: a bracket, a
 -- line's end, or that a run begins and where. So it decides between these kinds of token, and where
 -- a run begins, the token is the longest run from there. Assumes nothing.
-use Prim.Native.Nat.{ℕ, min}
+use Prim.Native.Nat.{ℕ}
 use mathlib.Core.Bool.{Bool, true, false, cond, not, ◌||◌}
-use mathlib.Core.List.{List, [], ◌∷◌}
+use mathlib.Core.List.{List}
 use mathlib.Core.Path.{◌≡◌, refl, sym, ap, subst, ◌∙◌}
-use lib.Dec.{T, eqb, leb, ltb}
+use lib.Dec.{eqb, leb, ltb}
 use lib.ListN.{length, get_or}
-use borrow.Author.Tests.{ne_eqb}
-use denote.Enum.Declared.{tag_of}
-use mir.Val.{has_key}
-use types.Run.{OneOf, miss}
-use Rattle.lexer.specs.contracts.Lookahead.{the_type}
-use Rattle.lexer.specs.contracts.Token.{the_type as token-type}
 use Rattle.lexer.proofs.LettersAndDigits.{past_same}
 use Rattle.lexer.proofs.OtherKind.{no_word}
 use Rattle.lexer.proofs.Reached.{cond_holds}
@@ -131,15 +125,51 @@ goes (Number start end value) = tt
 goes (LongNumber start end) = tt
 goes (Other start end) = tt
 
--- the tag of what it shows; one tag for all runs
-shown_kind : (token : Token) → tag_of the_type (shown token) ≡ min (token_kind token) word_kind
-shown_kind (LineEnd at) = refl
-shown_kind (Open at) = refl
-shown_kind (Close at) = refl
-shown_kind (Word start end) = refl
-shown_kind (Number start end value) = refl
-shown_kind (LongNumber start end) = refl
-shown_kind (Other start end) = refl
+-- a token that shows no line's end, no opening or no closing bracket is none
+no_end : (token : Token) → ((offset : ℕ) → shown token ≡ EndNext offset → ⊥)
+    → eqb (token_kind token) line_end_kind ≡ false
+no_end (LineEnd at) none = absurd (none at refl)
+no_end (Open at) none = refl
+no_end (Close at) none = refl
+no_end (Word start end) none = refl
+no_end (Number start end value) none = refl
+no_end (LongNumber start end) none = refl
+no_end (Other start end) none = refl
+
+no_open : (token : Token) → ((offset : ℕ) → shown token ≡ OpenNext offset → ⊥)
+    → eqb (token_kind token) open_kind ≡ false
+no_open (LineEnd at) none = refl
+no_open (Open at) none = absurd (none at refl)
+no_open (Close at) none = refl
+no_open (Word start end) none = refl
+no_open (Number start end value) none = refl
+no_open (LongNumber start end) none = refl
+no_open (Other start end) none = refl
+
+no_close : (token : Token) → ((offset : ℕ) → shown token ≡ CloseNext offset → ⊥)
+    → eqb (token_kind token) close_kind ≡ false
+no_close (LineEnd at) none = refl
+no_close (Open at) none = refl
+no_close (Close at) none = absurd (none at refl)
+no_close (Word start end) none = refl
+no_close (Number start end value) none = refl
+no_close (LongNumber start end) none = refl
+no_close (Other start end) none = refl
+
+-- one that shows no run is neither a word nor a number
+record NoRun (token : Token) : Type 0 where
+  word : eqb (token_kind token) word_kind ≡ false
+  number : eqb (token_kind token) number_kind ≡ false
+  long_number : eqb (token_kind token) long_number_kind ≡ false
+
+no_run : (token : Token) → ((start : ℕ) → shown token ≡ RunNext start → ⊥) → NoRun token
+no_run (LineEnd at) none = record { word = refl; number = refl; long_number = refl }
+no_run (Open at) none = record { word = refl; number = refl; long_number = refl }
+no_run (Close at) none = record { word = refl; number = refl; long_number = refl }
+no_run (Word start end) none = absurd (none start refl)
+no_run (Number start end value) none = absurd (none start refl)
+no_run (LongNumber start end) none = absurd (none start refl)
+no_run (Other start end) none = absurd (none start refl)
 
 -- ---- a run where one kind is due
 
@@ -226,40 +256,34 @@ module _ (text : List ℕ) (at : ℕ) {next : Lookahead} (asked : next ≡ looka
       → offset ≡ token_start (token_at text at)
   start_next told = told ∙ ap lookahead_start asked ∙ sym (next_start text at)
 
-  -- none of the tags is this kind's: a run's is that of a word, a number and what is neither
-  other_next : (tags : List ℕ) (kind : ℕ) → T (not (has_key tags (min kind word_kind)))
-      → OneOf tags (tag_of the_type next)
-      → eqb (token_kind (token_at text at)) kind ≡ false
-  other_next tags kind lacks known =
-      let tag : tag_of the_type next ≡ min (token_kind (token_at text at)) word_kind =
-      ap (tag_of the_type) (sym seen) ∙ shown_kind (token_at text at) in
-      ne_eqb (token_kind (token_at text at)) kind (λ same. miss tags (min kind word_kind) lacks
-      (subst (OneOf tags) (tag ∙ ap (λ (n : ℕ). min n word_kind) same) known))
-
-  pub no_end_next : OneOf (1 ∷ 2 ∷ 3 ∷ []) (tag_of the_type next)
+  -- what stands next is of another kind, and so is the token
+  pub no_end_next : ((offset : ℕ) → next ≡ EndNext offset → ⊥)
       → eqb (token_kind (token_at text at)) line_end_kind ≡ false
-  no_end_next = other_next (1 ∷ 2 ∷ 3 ∷ []) line_end_kind tt
+  no_end_next none = no_end (token_at text at) (λ offset same. none offset (sym seen ∙ same))
 
-  pub no_open_next : OneOf (0 ∷ 2 ∷ 3 ∷ []) (tag_of the_type next)
+  pub no_open_next : ((offset : ℕ) → next ≡ OpenNext offset → ⊥)
       → eqb (token_kind (token_at text at)) open_kind ≡ false
-  no_open_next = other_next (0 ∷ 2 ∷ 3 ∷ []) open_kind tt
+  no_open_next none = no_open (token_at text at) (λ offset same. none offset (sym seen ∙ same))
 
-  pub no_close_next : OneOf (0 ∷ 1 ∷ 3 ∷ []) (tag_of the_type next)
+  pub no_close_next : ((offset : ℕ) → next ≡ CloseNext offset → ⊥)
       → eqb (token_kind (token_at text at)) close_kind ≡ false
-  no_close_next = other_next (0 ∷ 1 ∷ 3 ∷ []) close_kind tt
+  no_close_next none = no_close (token_at text at) (λ offset same. none offset (sym seen ∙ same))
 
   -- where no run begins, neither a word nor a number stands
-  pub no_word_next : OneOf (0 ∷ 1 ∷ 2 ∷ []) (tag_of the_type next)
+  none_next : ((start : ℕ) → next ≡ RunNext start → ⊥) → NoRun (token_at text at)
+  none_next none = no_run (token_at text at) (λ start same. none start (sym seen ∙ same))
+
+  pub no_word_next : ((start : ℕ) → next ≡ RunNext start → ⊥)
       → eqb (token_kind (token_at text at)) word_kind ≡ false
-  no_word_next = other_next (0 ∷ 1 ∷ 2 ∷ []) word_kind tt
+  no_word_next none = (none_next none).word
 
-  pub no_number_next : OneOf (0 ∷ 1 ∷ 2 ∷ []) (tag_of the_type next)
+  pub no_number_next : ((start : ℕ) → next ≡ RunNext start → ⊥)
       → eqb (token_kind (token_at text at)) number_kind ≡ false
-  no_number_next = other_next (0 ∷ 1 ∷ 2 ∷ []) number_kind tt
+  no_number_next none = (none_next none).number
 
-  pub no_long_number_next : OneOf (0 ∷ 1 ∷ 2 ∷ []) (tag_of the_type next)
+  pub no_long_number_next : ((start : ℕ) → next ≡ RunNext start → ⊥)
       → eqb (token_kind (token_at text at)) long_number_kind ≡ false
-  no_long_number_next = other_next (0 ∷ 1 ∷ 2 ∷ []) long_number_kind tt
+  no_long_number_next none = (none_next none).long_number
 
   -- where a run begins and a number is due, the run is the token as far as numbers go
   pub number_next : {start : ℕ} {token : Token} → next ≡ RunNext start
@@ -275,7 +299,7 @@ module _ (text : List ℕ) (at : ℕ) {next : Lookahead} (asked : next ≡ looka
     pub word_known : {start end : ℕ} → token ≡ Word start end → token_at text at ≡ Word start end
     word_known found = as_word_known (token_at text at) (sym word_next ∙ found)
 
-    pub no_word_known : OneOf (0 ∷ 1 ∷ 2 ∷ 4 ∷ 5 ∷ 6 ∷ []) (tag_of token-type token)
+    pub no_word_known : ((start end : ℕ) → token ≡ Word start end → ⊥)
         → eqb (token_kind (token_at text at)) word_kind ≡ false
     no_word_known none =
         sym (as_word_kind (token_at text at))
