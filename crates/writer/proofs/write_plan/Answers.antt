@@ -1,0 +1,70 @@
+-- `writer::write_plan` meets its contract. Assumes nothing.
+use mathlib.Core.Path.{◌∙◌, ◌≡◌, ap, sym}
+use Prim.Native.Nat.{ℕ}
+use native.Mathlib.Nat.{zero-add}
+use native.Mathlib.Omega.{arith}
+use lib.ListN.{length, length-replicate, replicate}
+use Rattle.plan.specs.Limits.{most_text_bytes}
+use Rattle.refusal.specs.declared.Refusal.TheVariants.{BufferTooShort}
+use Rattle.refusal.specs.declared.Verdict.TheVariants.{Refused}
+use Rattle.writer.specs.Canonical.{canonical_text}
+use Rattle.writer.specs.Write.{write_with}
+use Rattle.writer.proofs.Answers.{handed, impossible-plan, not-alone, too_long, too_short, wrong-length}
+use Rattle.writer.proofs.write_plan.Goals as goal
+
+-- the text, and that the number answered for it is its length
+pub returns-then-scripts-ne-SCRIPTS_LENGTH : goal.returns-then-scripts-ne-SCRIPTS_LENGTH
+returns-then-scripts-ne-SCRIPTS_LENGTH c =
+    let args = c.args in
+    rw (c.refused_writing.ensures.0, c.refused_writing.ensures.1) (wrong-length args.plan args.scripts.now args.out.now c.if-scripts-ne-SCRIPTS_LENGTH.true)
+
+pub returns-then-not-is_valid : goal.returns-then-not-is_valid
+returns-then-not-is_valid c =
+    let args = c.args in
+    let impossible = sym c.is_valid.ensures ∙ c.if-not-is_valid.true in
+    rw (c.refused_writing-then-not-is_valid.ensures.0, c.refused_writing-then-not-is_valid.ensures.1)
+    (impossible-plan args.plan args.scripts.now args.out.now c.if-scripts-ne-SCRIPTS_LENGTH.false impossible)
+
+pub returns-then-not-ops_alone : goal.returns-then-not-ops_alone
+returns-then-not-ops_alone c =
+    let args = c.args in
+    let possible = sym c.is_valid.ensures ∙ c.if-not-is_valid.false in
+    let others = sym c.ops_alone.ensures ∙ c.if-not-ops_alone.true in
+    rw (c.refused_writing-then-not-ops_alone.ensures.0, c.refused_writing-then-not-ops_alone.ensures.1)
+    (not-alone args.plan args.scripts.now args.out.now c.if-scripts-ne-SCRIPTS_LENGTH.false possible others)
+
+pub returns-then-needed-gt-MOST_TEXT_BYTES : goal.returns-then-needed-gt-MOST_TEXT_BYTES
+returns-then-needed-gt-MOST_TEXT_BYTES c =
+    let args = c.args in
+    let possible = sym c.is_valid.ensures ∙ c.if-not-is_valid.false in
+    let alone = sym c.ops_alone.ensures ∙ c.if-not-ops_alone.false in
+    let is : c.write_text-needed.result ≡ length (canonical_text args.plan args.scripts.now) = c.write_text-needed.ensures.0 ∙ zero-add _ in
+    rw (c.refused_writing-then-needed-gt-MOST_TEXT_BYTES.ensures.0, c.refused_writing-then-needed-gt-MOST_TEXT_BYTES.ensures.1)
+    (too_long args.plan args.scripts.now args.out.now c.if-scripts-ne-SCRIPTS_LENGTH.false possible alone
+    (omega (arith, c.if-needed-gt-MOST_TEXT_BYTES.true, is)))
+
+pub returns-then-out-needed : goal.returns-then-out-needed
+returns-then-out-needed c =
+    let args = c.args in
+    let possible = sym c.is_valid.ensures ∙ c.if-not-is_valid.false in
+    let alone = sym c.ops_alone.ensures ∙ c.if-not-ops_alone.false in
+    let is : c.write_text-needed.result ≡ length (canonical_text args.plan args.scripts.now) = c.write_text-needed.ensures.0 ∙ zero-add _ in
+    rw (c.refused_writing-then-out-needed.ensures.0, c.refused_writing-then-out-needed.ensures.1)
+    (ap (λ (bytes : ℕ). write_with (Refused (BufferTooShort bytes)) 0 args.out.now) is
+    ∙ too_short args.plan args.scripts.now args.out.now c.if-scripts-ne-SCRIPTS_LENGTH.false possible alone
+    (omega (arith, c.if-needed-gt-MOST_TEXT_BYTES.false, is)) (omega (arith, c.if-out-needed.true, is)))
+
+pub hand_over-requires : goal.hand_over-requires
+hand_over-requires c =
+    (omega (arith, c.if-needed-gt-MOST_TEXT_BYTES.false, c.write_text-needed.ensures), c.if-out-needed.false)
+
+pub returns : goal.returns
+returns c =
+    let args = c.args in
+    let possible = sym c.is_valid.ensures ∙ c.if-not-is_valid.false in
+    let alone = sym c.ops_alone.ensures ∙ c.if-not-ops_alone.false in
+    let is : c.write_text-needed.result ≡ length (canonical_text args.plan args.scripts.now) = c.write_text-needed.ensures.0 ∙ zero-add _ in
+    rw c.hand_over.ensures
+    (handed args.plan args.scripts.now args.out.now c.if-scripts-ne-SCRIPTS_LENGTH.false possible alone
+    (omega (arith, c.if-needed-gt-MOST_TEXT_BYTES.false, is)) (replicate most_text_bytes 0) c.write_text-needed.ensures
+    (length-replicate {A = ℕ} most_text_bytes 0) c.if-out-needed.false)
