@@ -5,8 +5,6 @@
 
 ghost use Rattle.std.specs.Prelude.{◌≡◌, ◌+◌, ◌^◌, ◌<◌, ◌≤◌, min, length};
 
-use bytes::copy;
-use bytes::scan::find;
 use cache::flush::{flush_kernel, flush_l1};
 use cache::limits::TABLE_LENGTH;
 use check::same;
@@ -14,7 +12,6 @@ use engine::Progress;
 use engine::lending::step;
 use lexer::runs::{number_from, word_from};
 use lexer::{Lookahead, Token, lookahead_at};
-use libc::{STDIN_FILENO, STDOUT_FILENO};
 use pirkvezo::answers::{ending_number, put_answer};
 use pirkvezo::bounding::pirkvezo_step_bound;
 use pirkvezo::finishing::pirkvezo_latest;
@@ -33,6 +30,11 @@ use pirkvezo::starting::pirkvezo_fresh_start;
 use pirkvezo::states::{load_state, store_state};
 use pirkvezo::writing::pirkvezo_write_plan;
 use plan::limits::DOMAIN_ENTRIES;
+use std::io;
+use std::io::Read;
+
+// The most bytes of the input that are read.
+const INPUT_ROOM: u64 = 131_072;
 
 // Each table is one number longer than it has to be, so that a wrong length can be lent too.
 const TEXT_ROOM: usize = 32_769;
@@ -53,7 +55,7 @@ const OUT_ROOM: usize = 32_769;
 const FILLER: u8 = b'#';
 
 // The example at hand: its tables, and how much of each a call is lent.
-#[derive(Drop)]
+#[derive(Clone, Copy)]
 struct Example {
     text: [u8; TEXT_ROOM],
     text_length: usize,
@@ -73,7 +75,7 @@ struct Example {
 
 // A call that runs the machine: a single step; a run with a limit; a run that keeps one domain's
 // log, with the domain, how many records a part holds, and the limit.
-#[derive(Drop)]
+#[derive(Clone, Copy)]
 enum Call {
     Step,
     Run(u64),
@@ -82,16 +84,23 @@ enum Call {
 
 // ---- fields: a line is words with one space between
 
+// The offset of the first byte that is the one that is looked for, or the length.
+fn find(bytes: &[u8], wanted: u8) -> usize
+    ensures { result ≤ length bytes.now }
+{
+    let found = bytes.iter().position(|byte| *byte == wanted);
+    found.unwrap_or(bytes.len())
+}
+
 // The first word of a line.
 fn word(line: &[u8]) -> &[u8] {
-    let first: usize = 0;
-    let end = find(line, first, line.len(), b' ');
-    &line[first..end]
+    let end = find(line, b' ');
+    &line[..end]
 }
 
 // The fields behind the first word.
 fn rest(line: &[u8]) -> &[u8] {
-    let end = find(line, 0, line.len(), b' ');
+    let end = find(line, b' ');
     let next = past(end, line.len());
     &line[next..]
 }
@@ -153,35 +162,34 @@ fn at_most(number: usize, most: usize) -> usize
 
 // ---- printing
 
-fn print(bytes: &[u8]) {
-    io::write_all(STDOUT_FILENO, bytes);
+fn print(rt: &impl Print, bytes: &[u8]) -> io::Result<()> {
+    rt.write_all(bytes)
 }
 
-fn print_number(number: u64) {
-    print(b" ");
-    io::print_decimal(STDOUT_FILENO, number);
+fn print_number(rt: &impl Print, number: u64) -> io::Result<()> {
+    print!(rt; " {number}")
 }
 
 // The label of an example, and the number and the companion that a call answers.
-fn print_answer(label: &[u8], answer: [u64; ANSWER_LENGTH]) {
-    print(label);
-    print_number(answer[0]);
-    print_number(answer[1]);
+fn print_answer(rt: &impl Print, label: &[u8], answer: [u64; ANSWER_LENGTH]) -> io::Result<()> {
+    print(rt, label)?;
+    print_number(rt, answer[0])?;
+    print_number(rt, answer[1])
 }
 
 // The word of a record's kind.
-fn print_kind(kind: u64) {
+fn print_kind(rt: &impl Print, kind: u64) -> io::Result<()> {
     match kind {
-        1 => print(b" hit1"),
-        2 => print(b" hit2"),
-        3 => print(b" miss"),
-        4 => print(b" sent"),
-        5 => print(b" got"),
-        6 => print(b" empty"),
-        7 => print(b" denied"),
-        8 => print(b" ran"),
-        9 => print(b" barred"),
-        _ => print(b" none"),
+        1 => print(rt, b" hit1"),
+        2 => print(rt, b" hit2"),
+        3 => print(rt, b" miss"),
+        4 => print(rt, b" sent"),
+        5 => print(rt, b" got"),
+        6 => print(rt, b" empty"),
+        7 => print(rt, b" denied"),
+        8 => print(rt, b" ran"),
+        9 => print(rt, b" barred"),
+        _ => print(rt, b" none"),
     }
 }
 
@@ -192,35 +200,36 @@ fn wide(byte: u8) -> u64
 }
 
 // A record's kind, value and clock.
-fn print_record(records: &[u8], at: usize)
+fn print_record(rt: &impl Print, records: &[u8], at: usize) -> io::Result<()>
     requires { at + 8 ≤ length records.now }
 {
-    print_kind(wide(records[at]));
-    print_number(wide(records[at + 2]) + 256 * wide(records[at + 3]));
+    print_kind(rt, wide(records[at]))?;
+    print_number(rt, wide(records[at + 2]) + 256 * wide(records[at + 3]))?;
     print_number(
+        rt,
         wide(records[at + 4])
             + 256 * wide(records[at + 5])
             + 65_536 * wide(records[at + 6])
             + 16_777_216 * wide(records[at + 7]),
-    );
+    )
 }
 
-fn print_records(records: &[u8]) {
+fn print_records(rt: &impl Print, records: &[u8]) -> io::Result<()> {
     let mut at: usize = 0;
     while 8 <= records.len() - at {
-        print_record(records, at);
+        print_record(rt, records, at)?;
         at += 8;
     }
+    Ok(())
 }
 
 // ---- text
 
 // Appends bytes to the text, and answers its length; what has no room is left out.
 fn append(text: &mut [u8], written: usize, bytes: &[u8]) -> usize {
-    let first: usize = 0;
     let at = at_most(written, text.len());
     let count = at_most(bytes.len(), text.len() - at);
-    copy(&bytes[first..count], &mut text[at..]);
+    text[at..at + count].copy_from_slice(&bytes[..count]);
     at + count
 }
 
@@ -440,39 +449,46 @@ fn number_at(example: Example, area: &[u8], index: usize) -> u64 {
 }
 
 // Numbers of a table from an index on.
-fn print_numbers(example: Example, area: &[u8], first: usize, count: usize)
+fn print_numbers(
+    rt: &impl Print,
+    example: Example,
+    area: &[u8],
+    first: usize,
+    count: usize,
+) -> io::Result<()>
     requires { first + count < 2 ^ 64 }
 {
     let mut done: usize = 0;
     while done < count {
-        print_number(number_at(example, area, first + done));
+        print_number(rt, number_at(example, area, first + done))?;
         done += 1;
     }
+    Ok(())
 }
 
 // show LABEL AREA FIRST COUNT: numbers of a table, or bytes of the log.
-fn show(example: Example, fields: &[u8]) {
+fn show(rt: &impl Print, example: Example, fields: &[u8]) -> io::Result<()> {
     let area = word(rest(fields));
     let first = offset_of(area) + small(rest(rest(fields)));
     let count = small(rest(rest(rest(fields))));
-    print(word(fields));
-    print_numbers(example, area, first, count);
-    print(b"\n");
+    print(rt, word(fields))?;
+    print_numbers(rt, example, area, first, count)?;
+    print(rt, b"\n")
 }
 
 // window LABEL N: the owner and the length of window N.
-fn show_window(example: Example, fields: &[u8]) {
+fn show_window(rt: &impl Print, example: Example, fields: &[u8]) -> io::Result<()> {
     let window = small(rest(fields));
-    print(word(fields));
-    print_number(number_at(example, b"plan", OWNERS_OFFSET + window));
-    print_number(number_at(example, b"plan", LENGTHS_OFFSET + window));
-    print(b"\n");
+    print(rt, word(fields))?;
+    print_number(rt, number_at(example, b"plan", OWNERS_OFFSET + window))?;
+    print_number(rt, number_at(example, b"plan", LENGTHS_OFFSET + window))?;
+    print(rt, b"\n")
 }
 
 // ---- calls: each is lent as much of a table as the example says
 
 // read LABEL: read the text. The next example's text begins anew.
-fn read(example: Example, fields: &[u8]) -> Example {
+fn read(rt: &impl Print, example: Example, fields: &[u8]) -> io::Result<Example> {
     let mut next = example;
     let text_room = example.text;
     let text: &[u8] = &text_room;
@@ -489,16 +505,16 @@ fn read(example: Example, fields: &[u8]) -> Example {
         &mut plan,
         &mut answer,
     );
-    print_answer(word(fields), answer);
-    print(b"\n");
+    print_answer(rt, word(fields), answer)?;
+    print(rt, b"\n")?;
     next.scripts = scripts_room;
     next.plan = plan;
     next.text_length = 0;
-    next
+    Ok(next)
 }
 
 // fresh LABEL: a fresh start.
-fn fresh(example: Example, fields: &[u8]) -> Example {
+fn fresh(rt: &impl Print, example: Example, fields: &[u8]) -> io::Result<Example> {
     let mut next = example;
     let plan = example.plan;
     let mut state = example.state;
@@ -517,18 +533,18 @@ fn fresh(example: Example, fields: &[u8]) -> Example {
         &mut boxes[first..lent_boxes],
         &mut answer,
     );
-    print_answer(word(fields), answer);
-    print(b"\n");
+    print_answer(rt, word(fields), answer)?;
+    print(rt, b"\n")?;
     next.state = state;
     next.cache = cache_room;
     next.boxes = boxes_room;
-    next
+    Ok(next)
 }
 
-fn print_ending(ending: u64) {
+fn print_ending(rt: &impl Print, ending: u64) -> io::Result<()> {
     match ending {
-        0 => print(b" stopped"),
-        _ => print(b" ended"),
+        0 => print(rt, b" stopped"),
+        _ => print(rt, b" ended"),
     }
 }
 
@@ -577,7 +593,7 @@ fn advance(
 // run LABEL N: run with limit N. step LABEL: a single step. kept LABEL D PART N: run with limit N,
 // keeping the log of domain D, where a part holds PART records. Prints number, companion, steps,
 // ending, windows completed and clock.
-fn run(example: Example, call: Call, fields: &[u8]) -> Example {
+fn run(rt: &impl Print, example: Example, call: Call, fields: &[u8]) -> io::Result<Example> {
     let mut next = example;
     let plan = example.plan;
     let scripts_room = example.scripts;
@@ -605,17 +621,17 @@ fn run(example: Example, call: Call, fields: &[u8]) -> Example {
         &mut log[first..lent_log],
         &mut answer,
     );
-    print_answer(word(fields), answer);
-    print_number(answer[2]);
-    print_ending(answer[3]);
-    print_number(state[COMPLETED_OFFSET]);
-    print_number(state[CLOCK_OFFSET]);
-    print(b"\n");
+    print_answer(rt, word(fields), answer)?;
+    print_number(rt, answer[2])?;
+    print_ending(rt, answer[3])?;
+    print_number(rt, state[COMPLETED_OFFSET])?;
+    print_number(rt, state[CLOCK_OFFSET])?;
+    print(rt, b"\n")?;
     next.state = state;
     next.cache = cache_room;
     next.boxes = boxes_room;
     next.log = log_room;
-    next
+    Ok(next)
 }
 
 // The call of a line `kept LABEL D PART N`.
@@ -628,27 +644,27 @@ fn kept_call(fields: &[u8]) -> Call {
 }
 
 // The two flushes of a switch, and the ticks of each. A table of another length is not flushed.
-fn print_flushes(cache: &mut [u16]) {
+fn print_flushes(rt: &impl Print, cache: &mut [u16]) -> io::Result<()> {
     if cache.len() != TABLE_LENGTH {
-        return;
+        return Ok(());
     }
-    print_number(flush_kernel(cache));
-    print_number(flush_l1(cache));
+    print_number(rt, flush_kernel(cache))?;
+    print_number(rt, flush_l1(cache))
 }
 
 // flush LABEL: the two flushes of a switch. Prints their ticks, which no run shows: they are within
 // every pad.
-fn flush(example: Example, fields: &[u8]) -> Example {
+fn flush(rt: &impl Print, example: Example, fields: &[u8]) -> io::Result<Example> {
     let mut next = example;
     let mut cache_room = example.cache;
     let cache: &mut [u16] = &mut cache_room;
     let first: usize = 0;
     let lent_cache = at_most(example.cache_length, cache.len());
-    print(word(fields));
-    print_flushes(&mut cache[first..lent_cache]);
-    print(b"\n");
+    print(rt, word(fields))?;
+    print_flushes(rt, &mut cache[first..lent_cache])?;
+    print(rt, b"\n")?;
     next.cache = cache_room;
-    next
+    Ok(next)
 }
 
 // Some bytes from an offset on, or as many as there are.
@@ -659,7 +675,7 @@ fn part(bytes: &[u8], offset: usize, count: usize) -> &[u8] {
 }
 
 // log LABEL D: the status query for the log of domain D, then the records of the log query.
-fn query_log(example: Example, fields: &[u8]) {
+fn query_log(rt: &impl Print, example: Example, fields: &[u8]) -> io::Result<()> {
     let plan = example.plan;
     let state = example.state;
     let log_room = example.log;
@@ -669,19 +685,19 @@ fn query_log(example: Example, fields: &[u8]) {
     let lent_log = at_most(example.log_length, log.len());
     let domain = word32(rest(fields));
     pirkvezo_log(&plan, &state, &log[first..lent_log], domain, &mut answer);
-    print_answer(word(fields), answer);
-    print_records(part(log, answer[2] as usize, answer[3] as usize));
-    print(b"\n");
+    print_answer(rt, word(fields), answer)?;
+    print_records(rt, part(log, answer[2] as usize, answer[3] as usize))?;
+    print(rt, b"\n")
 }
 
 // buffer LABEL COUNT: the first records of the log, as a run leaves them that keeps one domain's.
-fn show_buffer(example: Example, fields: &[u8]) {
+fn show_buffer(rt: &impl Print, example: Example, fields: &[u8]) -> io::Result<()> {
     let log_room = example.log;
     let log: &[u8] = &log_room;
     let count = at_most(small(rest(fields)), LOG_ROOM / 8);
-    print(word(fields));
-    print_records(part(log, 0, 8 * count));
-    print(b"\n");
+    print(rt, word(fields))?;
+    print_records(rt, part(log, 0, 8 * count))?;
+    print(rt, b"\n")
 }
 
 // The weights of eight domains; those that are not there are 0.
@@ -706,7 +722,7 @@ fn weights(fields: &[u8]) -> [u32; DOMAIN_ENTRIES] {
 }
 
 // frame LABEL N WEIGHT..: a frame of N windows by up to eight weights.
-fn make_frame(example: Example, fields: &[u8]) -> Example {
+fn make_frame(rt: &impl Print, example: Example, fields: &[u8]) -> io::Result<Example> {
     let mut next = example;
     let mut frame_room = example.frame;
     let frame: &mut [u32] = &mut frame_room;
@@ -720,14 +736,14 @@ fn make_frame(example: Example, fields: &[u8]) -> Example {
         &mut frame[first..lent_frame],
         &mut answer,
     );
-    print_answer(word(fields), answer);
-    print(b"\n");
+    print_answer(rt, word(fields), answer)?;
+    print(rt, b"\n")?;
     next.frame = frame_room;
-    next
+    Ok(next)
 }
 
 // bound LABEL: how many steps a run from a fresh start can take. Prints the answer's four numbers.
-fn ask_bound(example: Example, fields: &[u8]) {
+fn ask_bound(rt: &impl Print, example: Example, fields: &[u8]) -> io::Result<()> {
     let plan = example.plan;
     let scripts_room = example.scripts;
     let scripts: &[u32] = &scripts_room;
@@ -735,15 +751,15 @@ fn ask_bound(example: Example, fields: &[u8]) {
     let mut answer = [0u64; ANSWER_LENGTH];
     let lent_scripts = at_most(example.scripts_length, scripts.len());
     pirkvezo_step_bound(&plan, &scripts[first..lent_scripts], &mut answer);
-    print_answer(word(fields), answer);
-    print_number(answer[2]);
-    print_number(answer[3]);
-    print(b"\n");
+    print_answer(rt, word(fields), answer)?;
+    print_number(rt, answer[2])?;
+    print_number(rt, answer[3])?;
+    print(rt, b"\n")
 }
 
 // latest LABEL D FIRST COUNT: the latest that domain D can finish, with COUNT numbers of the
 // scripts, from index FIRST on, as the buffer for its script. Prints the answer's four numbers.
-fn ask_latest(example: Example, fields: &[u8]) -> Example {
+fn ask_latest(rt: &impl Print, example: Example, fields: &[u8]) -> io::Result<Example> {
     let mut next = example;
     let plan = example.plan;
     let mut scripts_room = example.scripts;
@@ -758,12 +774,12 @@ fn ask_latest(example: Example, fields: &[u8]) -> Example {
         &mut scripts[first..end],
         &mut answer,
     );
-    print_answer(word(fields), answer);
-    print_number(answer[2]);
-    print_number(answer[3]);
-    print(b"\n");
+    print_answer(rt, word(fields), answer)?;
+    print_number(rt, answer[2])?;
+    print_number(rt, answer[3])?;
+    print(rt, b"\n")?;
     next.scripts = scripts_room;
-    next
+    Ok(next)
 }
 
 // How many bytes are filler, up to the first that is not.
@@ -780,7 +796,7 @@ fn untouched(bytes: &[u8]) -> usize {
 
 // write LABEL ROOM: the canonical text, in a buffer of ROOM bytes. Prints the answer's four numbers
 // and how many bytes past the text are untouched; where it is accepted, then the text in [ ].
-fn write_plan(example: Example, fields: &[u8]) {
+fn write_plan(rt: &impl Print, example: Example, fields: &[u8]) -> io::Result<()> {
     let plan = example.plan;
     let scripts_room = example.scripts;
     let scripts: &[u32] = &scripts_room;
@@ -797,95 +813,100 @@ fn write_plan(example: Example, fields: &[u8]) {
         &mut answer,
     );
     let written = at_most(answer[2] as usize, lent_out);
-    print_answer(word(fields), answer);
-    print_number(answer[2]);
-    print_number(answer[3]);
-    print_number(untouched(part(&out_room, written, lent_out - written)) as u64);
-    print(b"\n");
+    print_answer(rt, word(fields), answer)?;
+    print_number(rt, answer[2])?;
+    print_number(rt, answer[3])?;
+    print_number(
+        rt,
+        untouched(part(&out_room, written, lent_out - written)) as u64,
+    )?;
+    print(rt, b"\n")?;
     if answer[0] == 0 {
-        print(b"[");
-        print(part(&out_room, first, written));
-        print(b"]\n");
+        print(rt, b"[")?;
+        print(rt, part(&out_room, first, written))?;
+        print(rt, b"]\n")?;
     }
+    Ok(())
 }
 
 // ---- commands
 
 // Does what one line says.
-fn obey(example: Example, line: &[u8]) -> Example {
+fn obey(rt: &impl Print, example: Example, line: &[u8]) -> io::Result<Example> {
     let command = word(line);
     let fields = rest(line);
     if same(command, b"lend") {
-        return lend(example, fields);
+        return Ok(lend(example, fields));
     }
     if same(command, b"set") {
-        return set(example, fields);
+        return Ok(set(example, fields));
     }
     if same(command, b"show") {
-        show(example, fields);
-        return example;
+        show(rt, example, fields)?;
+        return Ok(example);
     }
     if same(command, b"window") {
-        show_window(example, fields);
-        return example;
+        show_window(rt, example, fields)?;
+        return Ok(example);
     }
     if same(command, b"read") {
-        return read(example, fields);
+        return read(rt, example, fields);
     }
     if same(command, b"fresh") {
-        return fresh(example, fields);
+        return fresh(rt, example, fields);
     }
     if same(command, b"run") {
-        return run(example, Call::Run(number(rest(fields))), fields);
+        return run(rt, example, Call::Run(number(rest(fields))), fields);
     }
     if same(command, b"step") {
-        return run(example, Call::Step, fields);
+        return run(rt, example, Call::Step, fields);
     }
     if same(command, b"kept") {
-        return run(example, kept_call(fields), fields);
+        return run(rt, example, kept_call(fields), fields);
     }
     if same(command, b"buffer") {
-        show_buffer(example, fields);
-        return example;
+        show_buffer(rt, example, fields)?;
+        return Ok(example);
     }
     if same(command, b"flush") {
-        return flush(example, fields);
+        return flush(rt, example, fields);
     }
     if same(command, b"log") {
-        query_log(example, fields);
-        return example;
+        query_log(rt, example, fields)?;
+        return Ok(example);
     }
     if same(command, b"frame") {
-        return make_frame(example, fields);
+        return make_frame(rt, example, fields);
     }
     if same(command, b"bound") {
-        ask_bound(example, fields);
-        return example;
+        ask_bound(rt, example, fields)?;
+        return Ok(example);
     }
     if same(command, b"latest") {
-        return ask_latest(example, fields);
+        return ask_latest(rt, example, fields);
     }
     if same(command, b"write") {
-        write_plan(example, fields);
-        return example;
+        write_plan(rt, example, fields)?;
+        return Ok(example);
     }
-    write(example, line)
+    Ok(write(example, line))
 }
 
 // Does what every line of the input says, in order.
-fn obey_all(input: &[u8], first: Example) {
+fn obey_all(rt: &impl Print, input: &[u8], first: Example) -> io::Result<()> {
     let mut example = first;
     let mut at: usize = 0;
     while at < input.len() {
-        let end = find(input, at, input.len(), b'\n');
-        example = obey(example, &input[at..end]);
+        let end = at + find(&input[at..], b'\n');
+        example = obey(rt, example, &input[at..end])?;
         at = past(end, input.len());
     }
+    Ok(())
 }
 
-fn main() {
-    let mut input = [0u8; 131_072];
-    let length = io::read_full(STDIN_FILENO, &mut input);
+fn main(rt: HostRuntime) -> io::Result<()> {
+    let mut input = Vec::new(rt.alloc());
+    rt.stdin().take(INPUT_ROOM).read_to_end(&mut input)?;
     let example = Example {
         text: [0u8; TEXT_ROOM],
         text_length: 0,
@@ -902,5 +923,5 @@ fn main() {
         frame: [238u32; FRAME_ROOM],
         frame_length: FRAME_ROOM - 1,
     };
-    obey_all(&input[..length], example);
+    obey_all(&rt, &input, example)
 }
