@@ -14,6 +14,8 @@ from .library import ROOT
 
 FOLDER = ROOT / "target" / "desk"
 STATIC = ROOT / "target" / "staticlib" / "libpirkvezo.a"
+# the crate whose functions the archive exports
+EXPORTS = "pirkvezo_c"
 
 
 class CannotBuild(Exception):
@@ -21,12 +23,20 @@ class CannotBuild(Exception):
 
 
 def crates():
-    """The crates that the library is made of."""
+    """The crates that the library is made of: pirkvezo_c and those that it uses."""
+    uses = {}
     for line in (ROOT / "crates.txt").read_text().splitlines():
-        name, _, uses = line.partition(":")
-        if name == "pirkvezo":
-            return ["pirkvezo"] + uses.split()
-    raise CannotBuild("crates.txt does not list pirkvezo")
+        name, _, used = line.partition("#")[0].partition(":")
+        if name.strip():
+            # a static library's name is followed by that word
+            uses[name.split()[0]] = used.split()
+    if EXPORTS not in uses:
+        raise CannotBuild(f"crates.txt does not list {EXPORTS}")
+    found = [EXPORTS]
+    for crate in found:
+        # crates of the toolchain have no line
+        found += [used for used in uses[crate] if used in uses and used not in found]
+    return found
 
 
 def made_of():
@@ -34,8 +44,10 @@ def made_of():
     whole = hashlib.sha256((ROOT / "crates.txt").read_bytes())
     for crate in sorted(crates()):
         for path in sorted((ROOT / "crates" / crate).rglob("*")):
-            if path.is_file() and "must-fail" not in path.parts:
-                whole.update(str(path.relative_to(ROOT)).encode() + b"\0")
+            inside = path.relative_to(ROOT)
+            # out/ is what rt made of the rest
+            if path.is_file() and not {"must-fail", "out"} & set(inside.parts):
+                whole.update(str(inside).encode() + b"\0")
                 whole.update(hashlib.sha256(path.read_bytes()).digest())
     return whole.hexdigest()
 
@@ -95,20 +107,21 @@ def _prove():
     _say(f"pirkvezo: proving and building the library, {total} crates. The first time takes about "
          "five minutes; later only what changed.")
     with _seconds(), open(FOLDER / "build.log", "w") as kept, subprocess.Popen(
-            ["rt", "staticlib", "pirkvezo"], cwd=ROOT, stdin=subprocess.DEVNULL,
+            [str(ROOT / "tools" / "staticlib")], cwd=ROOT, stdin=subprocess.DEVNULL,
             stdout=subprocess.PIPE, stderr=subprocess.STDOUT, text=True, errors="replace") as rt:
-        last = ""
+        last, crate = "", None
         for line in rt.stdout:
             kept.write(line)
             last = line.strip() or last
-            said = line.split()
-            if len(said) > 2 and said[0] == "rt:" and said[2] == "proved":
+            # rt says nothing of a crate that it built before
+            if line.startswith("rt: chose --jobs "):
+                crate = line.split()[-1]
+            elif line.startswith("logic=proved ") and crate:
                 done += 1
-                _say(f"  {done:2} of {total}  {said[1]}" + (" (as before)" if "unchanged" in line else ""))
+                _say(f"  {done:2} of {total} at most  {crate}")
+                crate = None
     if rt.returncode:
         raise CannotBuild(f"rt could not build the library: {last} (more in target/desk/build.log)")
-    # rt says no such line of the crate that it makes the library from
-    _say(f"  {total:2} of {total}  pirkvezo")
 
 
 def _link(shared):

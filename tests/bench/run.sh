@@ -6,7 +6,7 @@ set -euo pipefail
 cd "$(dirname "${BASH_SOURCE[0]}")/../.."
 
 if [ -z "${PIRKVEZO_LIB:-}" ]; then
-    [ -f target/staticlib/libpirkvezo.a ] || rt staticlib pirkvezo
+    [ -f target/staticlib/libpirkvezo.a ] || tools/staticlib >&2
     export PIRKVEZO_LIB=../target/staticlib
 fi
 cd tests
