@@ -1,0 +1,39 @@
+-- `state::table_validity::ways_valid` meets its contract. The loop's invariant: what is left decides the answer.
+-- Assumes nothing.
+use mathlib.Core.Bool.{false}
+use mathlib.Core.Path.{◌∙◌, refl, sym}
+use native.Mathlib.Omega.{arith}
+use borrow.Author.Tests.{eq-eqb, ne_eqb}
+use Rattle.state.specs.TableValidity.{ways_valid}
+use Rattle.state.proofs.TableLaws.{decides_end, decides_here, decides_next, rest_whole}
+use Rattle.state.proofs.table_validity.ways_valid.Goals as goal
+
+pub returns-then-ways-way-eq0 : goal.returns-then-ways-way-eq0
+unfolding ways_valid
+returns-then-ways-way-eq0 c =
+    let loop = c.loop-way in
+    decides_here (ways_valid _) _ loop.way _ c.loop-way-test.true loop.invariant
+    (rw (eq-eqb _ _ c.if-ways-way-eq0.true, c.all_empty.ensures, rest_whole) refl)
+
+pub returns-then-not-way_valid : goal.returns-then-not-way_valid
+unfolding ways_valid
+returns-then-not-way_valid c =
+    let loop = c.loop-way in
+    decides_here (ways_valid _) _ loop.way false c.loop-way-test.true loop.invariant
+    (rw (ne_eqb _ _ c.if-ways-way-eq0.false, sym c.way_valid.ensures ∙ c.if-not-way_valid.true)
+    refl)
+
+pub loop-way-preserved : goal.loop-way-preserved
+unfolding ways_valid
+loop-way-preserved c =
+    let loop = c.loop-way in
+    decides_next (ways_valid _) _ loop.way c.loop-way-test.true loop.invariant
+    (rw (ne_eqb _ _ c.if-ways-way-eq0.false, sym c.way_valid.ensures ∙ c.if-not-way_valid.false)
+    refl)
+
+pub returns : goal.returns
+unfolding ways_valid
+returns c = decides_end (ways_valid _) _ _ c.loop-way-test.false c.loop-way.invariant
+
+pub way_valid-requires : goal.way_valid-requires
+way_valid-requires c = omega arith
