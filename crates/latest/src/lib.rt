@@ -28,7 +28,7 @@ pub struct LatestAnswer {
 }
 
 // A script that finishes as late as can be, by its parts.
-#[derive(Drop)]
+#[derive(Clone, Copy)]
 pub struct LateScript {
     // how many messages come before the writes
     pub opening: u32,
