@@ -2,15 +2,13 @@
 -- the other; and an op form is an op. Assumes nothing.
 use Prim.Native.Nat.{ℕ, ◌+◌}
 use mathlib.Core.Bool.{Bool, true, false, cond}
-use mathlib.Core.List.{List, [], ◌∷◌}
+use mathlib.Core.List.{List}
 use mathlib.Core.Path.{◌≡◌, refl, sym, subst, ◌∙◌}
 use lib.Dec.{eqb}
-use denote.Enum.Declared.{tag_of}
-use types.Run.{OneOf, miss}
-use Rattle.forms.specs.contracts.Form.{the_type}
 use Rattle.forms.specs.declared.Form.{Form}
 use Rattle.forms.specs.declared.Form.TheVariants.{Blank, Pad, Run, Domain, Window}
 use Rattle.forms.specs.declared.Form.TheVariants.{Op as Script, Refused as NoForm}
+use Rattle.forms.specs.declared.OpLine.{OpLine}
 use Rattle.forms.specs.Forms.{declared_domain, op_form}
 use Rattle.forms.specs.declared.FormParse.{FormParse}
 use Rattle.forms.specs.declared.FormParse.TheVariants.{Form as Took, Refused as RefusedForm}
@@ -125,23 +123,18 @@ op_form_is text declared at = by_domain (declared_domain text declared at)
     by_domain (Number domain start end) = by_op domain (bracketed_op text end)
     by_domain (RefusedNumber refusal) = tt
 
--- the tags of the forms beside an op
-abbrev others : List ℕ
-others = 0 ∷ 1 ∷ 2 ∷ 3 ∷ 4 ∷ 6 ∷ []
+other_form : (form : Form) → ((line : OpLine) → form ≡ Script line → ⊥) → IsOp form → ⊥
+other_form Blank other h = h
+other_form (Pad ticks) other h = h
+other_form (Run times) other h = h
+other_form (Domain line) other h = h
+other_form (Window line) other h = h
+other_form (Script line) other h = other line refl
+other_form (NoForm refusal) other h = h
 
-other_form : (form : Form) → OneOf others (tag_of the_type form) → IsOp form → ⊥
-other_form Blank known h = h
-other_form (Pad ticks) known h = h
-other_form (Run times) known h = h
-other_form (Domain line) known h = h
-other_form (Window line) known h = h
-other_form (Script line) known h = miss others 5 tt known
-other_form (NoForm refusal) known h = h
-
--- what the branch of a `let .. else` knows of a form, that its tag is not an op's, is not so of an
--- op form
+-- what the branch of a `let .. else` knows of a form, that it is not an op, is not so of an op form
 pub no_other : (text : List ℕ) (declared at : ℕ) {parse : FormParse} {form : Form} {end : ℕ}
     → parse ≡ op_form text declared at → parse ≡ Took form end
-    → OneOf others (tag_of the_type form) → ⊥
-no_other text declared at {parse} {form} read known tag =
-    other_form form tag (subst IsOpParse (sym read ∙ known) (op_form_is text declared at))
+    → ((line : OpLine) → form ≡ Script line → ⊥) → ⊥
+no_other text declared at {parse} {form} read known other =
+    other_form form other (subst IsOpParse (sym read ∙ known) (op_form_is text declared at))
