@@ -20,7 +20,7 @@ pub enum Ending {
 
 // The log that a run is lent: a whole one, which is divided among the declared domains, or one
 // domain's part, with the domain and how many records a part holds.
-#[derive(Drop)]
+#[derive(Clone, Copy)]
 pub enum LentLog {
     Whole,
     Part(u32, u64),
