@@ -18,13 +18,13 @@ use Rattle.bound.specs.Theorems.{most_bound}
 use Rattle.bound.proofs.Largest.{bounded}
 
 module _ (plan : Plan) (scripts : List ℕ) where
-  pub wrong-length : (length scripts ≡ scripts_length → ⊥) → bound_answer_with (Refused WrongLength) 0 ≡ bound_answer_of plan scripts
+  pub wrong_length_lem : (length scripts ≡ scripts_length → ⊥) → bound_answer_with (Refused WrongLength) 0 ≡ bound_answer_of plan scripts
   unfolding bound_answer_of bound_verdict
-  wrong-length differs = rw (ne_eqb (length scripts) scripts_length differs) refl
+  wrong_length_lem differs = rw (ne_eqb (length scripts) scripts_length differs) refl
 
-  pub impossible-plan : length scripts ≡ scripts_length → plan_valid plan ≡ false → bound_answer_with (Refused ImpossiblePlan) 0 ≡ bound_answer_of plan scripts
+  pub impossible_plan : length scripts ≡ scripts_length → plan_valid plan ≡ false → bound_answer_with (Refused ImpossiblePlan) 0 ≡ bound_answer_of plan scripts
   unfolding bound_answer_of bound_verdict
-  impossible-plan store impossible = rw (eq-eqb (length scripts) scripts_length store, impossible) refl
+  impossible_plan store impossible = rw (eq-eqb (length scripts) scripts_length store, impossible) refl
 
   pub accepted : length scripts ≡ scripts_length → plan_valid plan ≡ true → bound_answer_with Accepted (step_bound plan scripts) ≡ bound_answer_of plan scripts
   unfolding bound_answer_of bound_verdict
@@ -36,17 +36,17 @@ module _ (plan : Plan) (scripts : List ℕ) where
     unfolding step_bound
     parts_are = rw (ops-are, switches-are) refl
 
-    pub parts-most : ops + switches ≤ most_bound
-    parts-most = rw parts_are (bounded plan scripts possible)
+    pub parts_most : ops + switches ≤ most_bound
+    parts_most = rw parts_are (bounded plan scripts possible)
 
-    pub parts-answered : length scripts ≡ scripts_length → bound_answer_with Accepted (ops + switches) ≡ bound_answer_of plan scripts
-    parts-answered store = rw parts_are (accepted store possible)
+    pub parts_answered : length scripts ≡ scripts_length → bound_answer_with Accepted (ops + switches) ≡ bound_answer_of plan scripts
+    parts_answered store = rw parts_are (accepted store possible)
 
 -- one impossible plan is judged as another
-pub impossible-alike : (scripts : List ℕ) (one other : Plan) → plan_valid one ≡ false → plan_valid other ≡ false
+pub impossible_alike : (scripts : List ℕ) (one other : Plan) → plan_valid one ≡ false → plan_valid other ≡ false
     → bound_answer_of one scripts ≡ bound_answer_of other scripts
 unfolding bound_answer_of bound_verdict
-impossible-alike scripts one other impossible impossible' = go (eqb (length scripts) scripts_length)
+impossible_alike scripts one other impossible impossible' = go (eqb (length scripts) scripts_length)
   where
     go : (fits : Bool)
         → bound_from (unless fits WrongLength (unless (plan_valid one) ImpossiblePlan Accepted)) one scripts

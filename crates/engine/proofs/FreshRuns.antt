@@ -20,7 +20,7 @@ use Rattle.reachable.proofs.Ending.{ends}
 use Rattle.reachable.proofs.Reached.{boxes_length_lem, cache_length, log_length_lem, state_is_valid, tables_are_valid}
 use Rattle.refusal.specs.declared.Verdict.{Verdict}
 use Rattle.refusal.specs.declared.Verdict.TheVariants.{Accepted, Refused}
-use Rattle.engine.specs.Answers.{freshWith}
+use Rattle.engine.specs.Answers.{fresh_with}
 use Rattle.engine.specs.declared.Ending.TheVariants.{Ended}
 use Rattle.engine.specs.Checks.{fresh_verdict, run_verdict}
 use Rattle.machine.specs.Fresh.{fresh_world, reached_world}
@@ -32,7 +32,7 @@ use Rattle.engine.proofs.Passing.{run_passes}
 pub started_fresh :
     (plan : Plan) (old fresh : State) (verdict : Verdict) (cache boxes log : List ℕ)
     → plan_valid plan ≡ true
-    → freshWith verdict fresh cache boxes ≡ fresh_start_of plan old empty_table empty_boxes
+    → fresh_with verdict fresh cache boxes ≡ fresh_start_of plan old empty_table empty_boxes
     → world_with fresh cache boxes log ≡ fresh_world log
 unfolding fresh_start_of fresh_world fresh_verdict
 started_fresh plan old fresh verdict cache boxes log possible did =

@@ -31,7 +31,7 @@ use Rattle.refusal.specs.declared.Refusal.{Refusal}
 use Rattle.refusal.specs.declared.Refusal.TheVariants.{DamagedTable, ImpossiblePlan, ImpossibleState, WrongDomain, WrongLength}
 use Rattle.refusal.specs.declared.Verdict.{Verdict}
 use Rattle.refusal.specs.declared.Verdict.TheVariants.{Accepted, Refused}
-use Rattle.engine.specs.Answers.{answered, freshWith}
+use Rattle.engine.specs.Answers.{answered, fresh_with}
 use Rattle.engine.specs.declared.Ending.{Ending}
 use Rattle.engine.specs.declared.Ending.TheVariants.{Stopped}
 use Rattle.engine.specs.Running.{ending_of, outcome_from, ran_from, run_call_of, run_from}
@@ -262,7 +262,7 @@ module _ (plan : Plan) (state : State) (cache boxes : List ℕ) where
   pub fresh_refused :
       (refusal : Refusal)
       → Refused refusal ≡ fresh_verdict plan cache boxes
-      → freshWith (Refused refusal) state cache boxes ≡ fresh_start_of plan state cache boxes
+      → fresh_with (Refused refusal) state cache boxes ≡ fresh_start_of plan state cache boxes
   unfolding fresh_start_of
   fresh_refused refusal refused = ap (λ (verdict : Verdict). fresh_from verdict state cache boxes) refused
 
@@ -272,7 +272,7 @@ module _ (plan : Plan) (state : State) (cache boxes : List ℕ) where
       → fresh ≡ fresh_state
       → emptied ≡ replicate (length cache) 0
       → cleared ≡ replicate (length boxes) 0
-      → freshWith Accepted fresh emptied cleared ≡ fresh_start_of plan state cache boxes
+      → fresh_with Accepted fresh emptied cleared ≡ fresh_start_of plan state cache boxes
   unfolding fresh_start_of
   fresh_started fresh emptied cleared accepted zeroed empties clears =
       let lent = fresh_accepted plan cache boxes (sym accepted) in

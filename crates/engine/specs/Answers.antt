@@ -16,15 +16,15 @@ abbrev pub answered : Verdict → ℕ → Ending → World → RunOutcome
 answered verdict steps ending world = record { verdict = verdict; steps = steps; ending = ending; world = world }
 
 -- a run's answer, with the tables that are left beside it
-abbrev pub runWith : Progress → List ℕ → List ℕ → List ℕ → RunOutcome
-runWith progress cache boxes log =
+abbrev pub run_with : Progress → List ℕ → List ℕ → List ℕ → RunOutcome
+run_with progress cache boxes log =
     answered progress.verdict progress.steps progress.ending (world_with progress.state cache boxes log)
 
 -- a single step's answer, with the state that is left beside it
-abbrev pub stepWith : Answer → State → List ℕ → List ℕ → List ℕ → RunOutcome
-stepWith answer state cache boxes log =
+abbrev pub step_with : Answer → State → List ℕ → List ℕ → List ℕ → RunOutcome
+step_with answer state cache boxes log =
     answered answer.verdict answer.steps answer.ending (world_with state cache boxes log)
 
 -- a fresh start's answer, with the tables that are left beside it
-abbrev pub freshWith : Verdict → State → List ℕ → List ℕ → FreshOutcome
-freshWith verdict state cache boxes = record { verdict = verdict; state = state; cache = cache; boxes = boxes }
+abbrev pub fresh_with : Verdict → State → List ℕ → List ℕ → FreshOutcome
+fresh_with verdict state cache boxes = record { verdict = verdict; state = state; cache = cache; boxes = boxes }

@@ -1,7 +1,7 @@
 // Running with only one domain's log, in a buffer as long as one part.
 ghost use Rattle.std.specs.Prelude.{◌≡◌};
 ghost use Rattle.machine.specs.View.{world_with};
-ghost use Rattle.engine.specs.Answers.{runWith};
+ghost use Rattle.engine.specs.Answers.{run_with};
 ghost use Rattle.engine.specs.Keeping.{kept_call_of};
 
 use crate::running::run_lent;
@@ -22,7 +22,7 @@ pub fn run_kept(
     part: u64,
     limit: u64,
 ) -> Progress
-    ensures { runWith result cache.new boxes.new kept.new
+    ensures { run_with result cache.new boxes.new kept.new
         ≡ kept_call_of plan scripts.now domain part
         (world_with state cache.old boxes.old kept.old) limit }
 {

@@ -2,7 +2,7 @@
 ghost use Rattle.std.specs.Prelude.{◌≡◌};
 ghost use Rattle.machine.specs.View.{world_with};
 ghost use Rattle.engine.specs.Running.{step_call_of};
-ghost use Rattle.engine.specs.Answers.{runWith, stepWith};
+ghost use Rattle.engine.specs.Answers.{run_with, step_with};
 
 use crate::running::run;
 use crate::{Answer, Progress};
@@ -18,7 +18,7 @@ fn step_value(
     boxes: &mut [u32],
     log: &mut [u8],
 ) -> Progress
-    ensures { runWith result cache.new boxes.new log.new
+    ensures { run_with result cache.new boxes.new log.new
         ≡ step_call_of plan scripts.now
         (world_with state cache.old boxes.old log.old) }
 {
@@ -34,7 +34,7 @@ pub fn step_lent(
     boxes: &mut [u32],
     log: &mut [u8],
 ) -> Answer
-    ensures { stepWith result state.new cache.new boxes.new log.new
+    ensures { step_with result state.new cache.new boxes.new log.new
         ≡ step_call_of plan scripts.now
         (world_with state.old cache.old boxes.old log.old) }
 {
@@ -57,7 +57,7 @@ pub fn step(
     boxes: &mut [u32],
     log: &mut [u8],
 ) -> Progress
-    ensures { runWith result cache.new boxes.new log.new
+    ensures { run_with result cache.new boxes.new log.new
         ≡ step_call_of plan scripts.now
         (world_with state cache.old boxes.old log.old) }
 {

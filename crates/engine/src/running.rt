@@ -5,7 +5,7 @@ ghost use Rattle.state.specs.World.{ended_of};
 ghost use Rattle.machine.specs.View.{world_with};
 ghost use Rattle.engine.specs.LentLog.{keep_of, lent_call_of};
 ghost use Rattle.engine.specs.Running.{ending_of, run_call_of};
-ghost use Rattle.engine.specs.Answers.{runWith};
+ghost use Rattle.engine.specs.Answers.{run_with};
 
 use crate::checks::{check_run, quota_of};
 use crate::{Ending, LentLog, Progress};
@@ -51,7 +51,7 @@ pub fn run_lent(
     log: &mut [u8],
     limit: u64,
 ) -> Progress
-    ensures { runWith result cache.new boxes.new log.new
+    ensures { run_with result cache.new boxes.new log.new
         ≡ lent_call_of lent plan scripts.now
         (world_with state cache.old boxes.old log.old) limit }
 {
@@ -88,7 +88,7 @@ pub fn run(
     log: &mut [u8],
     limit: u64,
 ) -> Progress
-    ensures { runWith result cache.new boxes.new log.new
+    ensures { run_with result cache.new boxes.new log.new
         ≡ run_call_of plan scripts.now
         (world_with state cache.old boxes.old log.old) limit }
 {

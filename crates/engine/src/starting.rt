@@ -1,6 +1,6 @@
 // A fresh start: the state, the cache table and the boxes zeroed.
 ghost use Rattle.std.specs.Prelude.{◌≡◌, length, replicate};
-ghost use Rattle.engine.specs.Answers.{freshWith};
+ghost use Rattle.engine.specs.Answers.{fresh_with};
 ghost use Rattle.engine.specs.FreshStart.{fresh_start_of};
 
 use crate::FreshResult;
@@ -23,7 +23,7 @@ fn clear_boxes(boxes: &mut [u32])
 
 // A fresh start, or a refusal that changes nothing.
 pub fn fresh_start(plan: Plan, state: State, cache: &mut [u16], boxes: &mut [u32]) -> FreshResult
-    ensures { freshWith result.verdict result.state cache.new boxes.new
+    ensures { fresh_with result.verdict result.state cache.new boxes.new
         ≡ fresh_start_of plan state cache.old boxes.old }
 {
     let verdict = check_fresh(plan, cache, boxes);

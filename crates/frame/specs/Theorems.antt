@@ -48,12 +48,12 @@ abbrev pub turn_at : List ℕ → ℕ → ℕ
 turn_at frame index = occurrences (get_or frame index 0) (take index frame)
 
 -- one pair of numbers is less than another: by the first, or the first are equal and by the second
-pub data LexicographicLess (first second otherFirst otherSecond : ℕ) : Type 0 where
-  by_first : first < otherFirst → LexicographicLess first second otherFirst otherSecond
+pub data LexicographicLess (first second other_first other_second : ℕ) : Type 0 where
+  by_first : first < other_first → LexicographicLess first second other_first other_second
   by_second :
-      first ≡ otherFirst
-      → second < otherSecond
-      → LexicographicLess first second otherFirst otherSecond
+      first ≡ other_first
+      → second < other_second
+      → LexicographicLess first second other_first other_second
 
 -- a frame of `count` windows by weights. Each promise is said by itself, also where it follows from
 -- others (`of_domains`, `none_for_zero`, `all_given`).

@@ -13,7 +13,7 @@ use Rattle.engine.specs.Running.{RunOutcome, run_call_of, step_call_of}
 use Rattle.isolation.specs.Calls.{AllOwn, Call, Handed, after_call, handed, left_in, log_answer, log_status, own}
 use Rattle.isolation.specs.Calls.{run_answer, run_call, verdict_of}
 use Rattle.isolation.proofs.OneRun.Calls.{is_own, left_same, own_log_things, own_things}
-use Rattle.pirkvezo.specs.Answers.{all_fit, answerLength, verdictNumber, wrongLength}
+use Rattle.pirkvezo.specs.Answers.{all_fit, answer_length, verdict_number, wrong_length}
 use Rattle.pirkvezo.specs.LogQuery.{LogCall, host_log, log_answer_of, log_done}
 use Rattle.pirkvezo.specs.Numbers.{numbers_from, plan_length, plan_of, state_length, state_numbers, state_of}
 use Rattle.pirkvezo.specs.Running.{RunCall, host_run, host_run_by, host_step, run_done}
@@ -44,10 +44,10 @@ pub all_fit_lem :
     (plan state answer : List ℕ)
     → length plan ≡ plan_length
     → length state ≡ state_length
-    → length answer ≡ answerLength
+    → length answer ≡ answer_length
     → all_fit plan state answer ≡ true
 all_fit_lem plan state answer plan_is state_is answer_is =
-    rw (eq-eqb _ plan_length plan_is, eq-eqb _ state_length state_is, eq-eqb _ answerLength answer_is) refl
+    rw (eq-eqb _ plan_length plan_is, eq-eqb _ state_length state_is, eq-eqb _ answer_length answer_is) refl
 
 -- an answer of another length does not fit
 not_both : (one two three : Bool) → three ≡ false → (one && (two && three)) ≡ false
@@ -56,10 +56,10 @@ not_both true false three no-fit = refl
 not_both false two three no-fit = refl
 
 pub unfit_answer :
-    (plan state answer : List ℕ) → (length answer ≡ answerLength → ⊥) → all_fit plan state answer ≡ false
+    (plan state answer : List ℕ) → (length answer ≡ answer_length → ⊥) → all_fit plan state answer ≡ false
 unfit_answer plan state answer differs =
     not_both (eqb (length plan) plan_length) (eqb (length state) state_length) _
-    (ne_eqb (length answer) answerLength differs)
+    (ne_eqb (length answer) answer_length differs)
 
 -- ---- a refused call
 
@@ -167,10 +167,10 @@ query_is plan held domain answer fit = rw (fit, host_log) refl
 -- what a call with an answer array returns and leaves: it is refused with 11, or does what the engine's call does
 pub record Mirrors
     (plan scripts : List ℕ) (held : Arrays) (call : Call) (answer : List ℕ) (number : ℕ) (after : Arrays) : Type 0 where
-  pub unfit : all_fit plan held.state answer ≡ false → number ≡ verdictNumber wrongLength
+  pub unfit : all_fit plan held.state answer ≡ false → number ≡ verdict_number wrong_length
   pub returns :
       all_fit plan held.state answer ≡ true
-      → number ≡ verdictNumber (verdict_of (plan_of plan) scripts call (meant held))
+      → number ≡ verdict_number (verdict_of (plan_of plan) scripts call (meant held))
   pub world :
       all_fit plan held.state answer ≡ true
       → meant after ≡ after_call (plan_of plan) scripts call (meant held)
@@ -193,7 +193,7 @@ module _ (plan scripts : List ℕ) (held : Arrays) where
     unfolding host_run host_run_by
     did_is fit = rw (fit, host_run_by) refl
 
-    did_unfit : all_fit plan held.state answer ≡ false → did.number ≡ verdictNumber wrongLength
+    did_unfit : all_fit plan held.state answer ≡ false → did.number ≡ verdict_number wrong_length
     unfolding host_run host_run_by
     did_unfit unfit = rw (unfit, host_run_by) refl
 
@@ -218,7 +218,7 @@ module _ (plan scripts : List ℕ) (held : Arrays) where
   module _ (domain : ℕ) (answer : List ℕ) where
     query_unfit :
         all_fit plan held.state answer ≡ false
-        → (host_log plan held.state held.log domain answer).number ≡ verdictNumber wrongLength
+        → (host_log plan held.state held.log domain answer).number ≡ verdict_number wrong_length
     unfolding host_log
     query_unfit unfit = rw (unfit, host_log) refl
 

@@ -27,7 +27,7 @@ use Rattle.isolation.specs.Calls.{foreign, own}
 use Rattle.isolation.specs.Points.{FreshRun, SameBoxesTo, Starts, ops_of, windows_after, world_after}
 use Rattle.isolation.specs.Statement.{Only, ScriptsAgree}
 use Rattle.isolation.proofs.TwoRuns.Progress.{no_fewer, one_start}
-use Rattle.pirkvezo.specs.Answers.{answerLength, answer_of}
+use Rattle.pirkvezo.specs.Answers.{answer_length, answer_of}
 use Rattle.pirkvezo.specs.LogQuery.{host_log, log_answer_of, log_done}
 use Rattle.pirkvezo.specs.Numbers.{numbers_from, plan_of, state_length, state_numbers, state_of}
 use Rattle.pirkvezo.specs.Running.{host_run, host_run_by, host_step, run_done}
@@ -71,11 +71,11 @@ no_plan_array =
       cache = own;
       boxes = own;
       log = own;
-      answer = replicate answerLength 0;
+      answer = replicate answer_length 0;
     }
 
 abbrev own_log : LogArrays
-own_log = record { plan = own; state = own; log = own; answer = replicate answerLength 0 }
+own_log = record { plan = own; state = own; log = own; answer = replicate answer_length 0 }
 
 abbrev list_of : List Op → ℕ → List HostCall → HostList
 list_of rival filler calls =
@@ -86,22 +86,22 @@ list_of rival filler calls =
       old_state = replicate state_length filler;
       old_cache = replicate table_length filler;
       old_boxes = replicate boxes_length filler;
-      start_answer = replicate answerLength filler;
+      start_answer = replicate answer_length filler;
       calls = calls;
     }
 
 abbrev one : HostList
 one =
     list_of (Write 3 ∷ Read 3 ∷ Send 1 77 ∷ []) 7
-    (host_step_call (own_with (replicate answerLength 9))
+    (host_step_call (own_with (replicate answer_length 9))
     ∷ host_run_call (own_with (replicate 3 9)) 9
     ∷ host_step_call no_plan_array
-    ∷ host_run_call (own_with (replicate answerLength 9)) 5
+    ∷ host_run_call (own_with (replicate answer_length 9)) 5
     ∷ host_log_call own_log 1
     ∷ [])
 
 abbrev other : HostList
-other = list_of (Compute 9 ∷ Send 1 77 ∷ []) 8 (host_run_call (own_with (replicate answerLength 0)) 5 ∷ [])
+other = list_of (Compute 9 ∷ Send 1 77 ∷ []) 8 (host_run_call (own_with (replicate answer_length 0)) 5 ∷ [])
 
 -- every definition that they compute with, named once
 computing : ℕ
@@ -193,7 +193,7 @@ seen = host_isolation.isolated 1 one other one_is other_is comparable
 pub shown :
     (host_point_of one ≡ 6)
     × (host_point_of other ≡ 5)
-    × (shown_after one 1 (replicate answerLength 0)
+    × (shown_after one 1 (replicate answer_length 0)
     ≡ record {
       number = 0;
       answer = 0 ∷ 0 ∷ 80 ∷ 16 ∷ [];

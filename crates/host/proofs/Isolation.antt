@@ -24,7 +24,7 @@ use Rattle.isolation.specs.Statement.{SameL1, SameSeen, SameSets, StartedOnTime}
 use Rattle.isolation.proofs.Isolation.{isolation}
 use Rattle.isolation.proofs.OneRun.{on_time_lem, own_accepted, own_refused}
 use Rattle.isolation.proofs.OneRun.Leaves.{list_valid}
-use Rattle.pirkvezo.specs.Answers.{all_fit, answerLength, verdictNumber, wrongLength}
+use Rattle.pirkvezo.specs.Answers.{all_fit, answer_length, verdict_number, wrong_length}
 use Rattle.pirkvezo.specs.Numbers.{plan_of, positions_offset, state_of}
 use Rattle.pirkvezo.proofs.Runs.{run_at}
 use Rattle.host.specs.Calls.{AllOwnArrays, Arrays, HostCall, HostList, IsHostList, answer_handed, arrays_left}
@@ -55,7 +55,7 @@ module _ (list : HostList) (is : IsHostList list) where
       ap (λ (arrays : Arrays). length arrays.log) (host_leaves list is)
       ∙ log_length_lem (plan_of list.plan) list.scripts list.log (host_point_of list) host_valid
 
-  fits : (answer : List ℕ) → length answer ≡ answerLength → all_fit list.plan held.state answer ≡ true
+  fits : (answer : List ℕ) → length answer ≡ answer_length → all_fit list.plan held.state answer ≡ true
   fits answer = all_fit_lem list.plan held.state answer (plan_long list is) (state_long list is)
 
   host_on_time : HostWindowsOnTime list
@@ -70,14 +70,14 @@ module _ (list : HostList) (is : IsHostList list) where
   admits :
       (call : HostCall)
       → HostAdmissible list call
-      → (length (answer_handed call) ≡ answerLength) × Admissible (plan_of list.plan) list.scripts (as_call call)
+      → (length (answer_handed call) ≡ answer_length) × Admissible (plan_of list.plan) list.scripts (as_call call)
   admits (host_step_call arrays) admissible = admissible
   admits (host_run_call arrays limit) admissible = admissible
   admits (host_log_call arrays domain) admissible = admissible
 
   admitted :
       (call : HostCall)
-      → length (answer_handed call) ≡ answerLength
+      → length (answer_handed call) ≡ answer_length
       → Admissible (plan_of list.plan) list.scripts (as_call call)
       → HostAdmissible list call
   admitted (host_step_call arrays) long admissible = (long, admissible)
@@ -88,41 +88,41 @@ module _ (list : HostList) (is : IsHostList list) where
   returned_is :
       (call : HostCall)
       → AllOwnArrays call
-      → length (answer_handed call) ≡ answerLength
-      → returned call ≡ verdictNumber (verdict_after (engine_list list) (as_call call))
+      → length (answer_handed call) ≡ answer_length
+      → returned call ≡ verdict_number (verdict_after (engine_list list) (as_call call))
   returned_is call owned long =
       (mirrors list.plan list.scripts held call owned).returns (fits (answer_handed call) long)
-      ∙ ap (λ (world : World). verdictNumber (verdict_of (plan_of list.plan) list.scripts (as_call call) world))
+      ∙ ap (λ (world : World). verdict_number (verdict_of (plan_of list.plan) list.scripts (as_call call) world))
       (sym (engine_leaves list is))
 
   host_accepted : (call : HostCall) → AllOwnArrays call → HostAdmissible list call → returned call ≡ 0
   host_accepted call owned admissible =
       let admit = admits call admissible in
       returned_is call owned admit.0
-      ∙ ap verdictNumber (own_accepted (engine_list list) (engine_is list is) (as_call call) (as_own call) admit.1)
+      ∙ ap verdict_number (own_accepted (engine_list list) (engine_is list is) (as_call call) (as_own call) admit.1)
 
   -- the number of a refusal, where the answer's length is right and where it is not
   refused_number :
       (call : HostCall)
-      → length (answer_handed call) ≡ answerLength
+      → length (answer_handed call) ≡ answer_length
       → (refused_code (as_call call)).number ≡ refusal_number call
   refused_number (host_step_call arrays) long = refl
   refused_number (host_run_call arrays limit) long = refl
-  refused_number (host_log_call arrays domain) long = rw (eq-eqb (length arrays.answer) answerLength long) refl
+  refused_number (host_log_call arrays domain) long = rw (eq-eqb (length arrays.answer) answer_length long) refl
 
   unfit_number :
       (call : HostCall)
-      → (length (answer_handed call) ≡ answerLength → ⊥)
-      → verdictNumber wrongLength ≡ refusal_number call
+      → (length (answer_handed call) ≡ answer_length → ⊥)
+      → verdict_number wrong_length ≡ refusal_number call
   unfit_number (host_step_call arrays) differs = refl
   unfit_number (host_run_call arrays limit) differs = refl
-  unfit_number (host_log_call arrays domain) differs = rw (ne_eqb (length arrays.answer) answerLength differs) refl
+  unfit_number (host_log_call arrays domain) differs = rw (ne_eqb (length arrays.answer) answer_length differs) refl
 
   host_refused :
       (call : HostCall) → AllOwnArrays call → (HostAdmissible list call → ⊥) → returned call ≡ refusal_number call
-  host_refused call owned inadmissible = go (ℕ_discrete (length (answer_handed call)) answerLength)
+  host_refused call owned inadmissible = go (ℕ_discrete (length (answer_handed call)) answer_length)
     where
-      go : Dec (length (answer_handed call) ≡ answerLength) → returned call ≡ refusal_number call
+      go : Dec (length (answer_handed call) ≡ answer_length) → returned call ≡ refusal_number call
       go (yes long) =
           returned_is call owned long
           ∙ ap (λ (code : Code). code.number)
@@ -138,7 +138,7 @@ module _ (list : HostList) (is : IsHostList list) where
 
   shown_after_lem :
       (domain : ℕ) (answer : List ℕ)
-      → length answer ≡ answerLength
+      → length answer ≡ answer_length
       → shown_after list domain answer
       ≡ shown_from (status_on list.plan held domain) (plan_of list.plan) (length list.log)
       (bytes_on list.plan held domain) domain
@@ -219,8 +219,8 @@ module _ (Named : ℕ → Type 0) (is_named : (domain : ℕ) → Dec (Named doma
       let number : LogShown → ℕ = λ shown. shown.number in
       let verdicts = status ∙ sym status' in
       record {
-        queried = λ answer long. ap number (shown_after_lem one is observer answer long) ∙ ap verdictNumber status;
-        queried' = λ answer long. ap number (shown_after_lem other is' observer answer long) ∙ ap verdictNumber status';
+        queried = λ answer long. ap number (shown_after_lem one is observer answer long) ∙ ap verdict_number status;
+        queried' = λ answer long. ap number (shown_after_lem other is' observer answer long) ∙ ap verdict_number status';
         log =
             λ answer answer' long long'.
             shown_after_lem one is observer answer long

@@ -13,13 +13,13 @@ use Rattle.refusal.specs.declared.Verdict.TheVariants.{Accepted}
 use Rattle.latest.specs.Answer.{LatestOutcome, latest_from, latest_of, latest_verdict}
 use Rattle.latest.specs.Bounds.{Fitting}
 use Rattle.latest.specs.Latest.{latest_ticks}
-use Rattle.latest.proofs.Answers.{accepted, accepted-told, told_is}
+use Rattle.latest.proofs.Answers.{accepted, accepted_told, told_is}
 use Rattle.lateness.specs.Lateness.{lateness_of}
 use Rattle.lateness.specs.Theorems.{IsLatest, IsScript}
 use Rattle.lateness.proofs.Latest.{latest_finish}
 use Rattle.lateness.proofs.NoneLater.{late_anywhere}
 use Rattle.isolation.proofs.OneRun.Leaves.{leaves, list_valid}
-use Rattle.pirkvezo.specs.Answers.{answerLength, answer_of, planFits, thirdOf, verdictNumber, wrongLength}
+use Rattle.pirkvezo.specs.Answers.{answer_length, answer_of, plan_fits, third_of, verdict_number, wrong_length}
 use Rattle.pirkvezo.specs.Finishing.{LatestCall, host_latest, host_latest_with, latest_done}
 use Rattle.pirkvezo.specs.Numbers.{plan_length, plan_of}
 use Rattle.pirkvezo.proofs.Calls.{read_lengths}
@@ -37,17 +37,17 @@ module _ (plan : List ℕ) (domain : ℕ) (script answer : List ℕ) where
   abbrev found : LatestOutcome
   found = latest_of (plan_of plan) domain script
 
-  fit_call : planFits plan answer ≡ true → call ≡ latest_done found answer
+  fit_call : plan_fits plan answer ≡ true → call ≡ latest_done found answer
   unfolding host_latest
   fit_call fit = rw (fit, host_latest) refl
 
   -- a call that returned 0 was handed arrays of the right lengths, and tells what was found
   module _ (none : call.number ≡ 0) where
-    did : (planFits plan answer ≡ true) × (call ≡ latest_done found answer)
+    did : (plan_fits plan answer ≡ true) × (call ≡ latest_done found answer)
     unfolding host_latest
     did =
-        fitting (λ (c : LatestCall). c.number) (planFits plan answer)
-        (host_latest_with (verdictNumber wrongLength) script (answer_of wrongLength 0 0 answer))
+        fitting (λ (c : LatestCall). c.number) (plan_fits plan answer)
+        (host_latest_with (verdict_number wrong_length) script (answer_of wrong_length 0 0 answer))
         (latest_done found answer) refl (ap is_refusal none)
 
     found_accepted : found.verdict ≡ Accepted
@@ -56,7 +56,7 @@ module _ (plan : List ℕ) (domain : ℕ) (script answer : List ℕ) where
         not_refused found.verdict (ap is_refusal (sym (ap (λ (c : LatestCall). c.number) did.1) ∙ none))
 
     pub verdict_accepted : latest_verdict (plan_of plan) domain script ≡ Accepted
-    verdict_accepted = accepted-told (plan_of plan) domain script found_accepted
+    verdict_accepted = accepted_told (plan_of plan) domain script found_accepted
 
     script_is : call.script ≡ found.script
     unfolding latest_done
@@ -65,7 +65,7 @@ module _ (plan : List ℕ) (domain : ℕ) (script answer : List ℕ) where
     pub ticks_are : ticks_told call ≡ found.ticks
     unfolding latest_done
     ticks_are =
-        ap (λ (c : LatestCall). thirdOf c.answer) did.1
+        ap (λ (c : LatestCall). third_of c.answer) did.1
         ∙ third_is found.verdict found.ticks 0 answer (read_lengths plan answer did.0).1
 
     told : IsLatest (plan_of plan) domain call.script (ticks_told call)
@@ -74,11 +74,11 @@ module _ (plan : List ℕ) (domain : ℕ) (script answer : List ℕ) where
     left : IsScript call.script
     left = rw script_is (latest_finish (plan_of plan) domain script found_accepted).is_script
 
-  answered : length plan ≡ plan_length → length answer ≡ answerLength → length script ≡ most_ops → Fitting (plan_of plan) domain → call.number ≡ 0
+  answered : length plan ≡ plan_length → length answer ≡ answer_length → length script ≡ most_ops → Fitting (plan_of plan) domain → call.number ≡ 0
   unfolding latest_of latest_done
   answered planned four one fits =
-      ap (λ (c : LatestCall). c.number) (fit_call (rw (eq-eqb (length plan) plan_length planned, eq-eqb (length answer) answerLength four) refl))
-      ∙ ap (λ (verdict : Verdict). verdictNumber (latest_from verdict (plan_of plan) domain script).verdict)
+      ap (λ (c : LatestCall). c.number) (fit_call (rw (eq-eqb (length plan) plan_length planned, eq-eqb (length answer) answer_length four) refl))
+      ∙ ap (λ (verdict : Verdict). verdict_number (latest_from verdict (plan_of plan) domain script).verdict)
       (accepted (plan_of plan) domain script one fits)
 
 -- what a list leaves is a world of its run

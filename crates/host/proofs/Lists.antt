@@ -14,7 +14,7 @@ use Rattle.isolation.specs.Calls.{AllOwn, Call, CallList, IsList, Proper, after_
 use Rattle.isolation.specs.Calls.{point_of, start_world, steps_asked, steps_counted, steps_of_calls}
 use Rattle.isolation.specs.Points.{world_after}
 use Rattle.isolation.proofs.OneRun.{leaves}
-use Rattle.pirkvezo.specs.Answers.{all_fit, answer_of, verdictNumber, wrongLength}
+use Rattle.pirkvezo.specs.Answers.{all_fit, answer_of, verdict_number, wrong_length}
 use Rattle.pirkvezo.specs.Numbers.{numbers_from, plan_length, plan_of, state_length, state_numbers, state_of}
 use Rattle.pirkvezo.specs.Starting.{FreshCall, fresh_done, host_fresh_start, host_fresh_with}
 use Rattle.pirkvezo.proofs.Calls.{lengths}
@@ -156,9 +156,9 @@ module _ (list : HostList) (is : IsHostList list) where
       × (fresh_return list ≡ fresh_done fresh list.start_answer)
   unfolding host_fresh_start
   start_fits =
-      let answer = answer_of wrongLength 0 0 list.start_answer in
+      let answer = answer_of wrong_length 0 0 list.start_answer in
       fitting (λ (call : FreshCall). call.number) (all_fit list.plan list.old_state list.start_answer)
-      (host_fresh_with (verdictNumber wrongLength) list.old_state list.old_cache list.old_boxes answer)
+      (host_fresh_with (verdict_number wrong_length) list.old_state list.old_cache list.old_boxes answer)
       (fresh_done fresh list.start_answer) refl (ap is_refusal is.started)
 
   pub plan_long : length list.plan ≡ plan_length

@@ -10,7 +10,7 @@ use Rattle.plan.specs.declared.Plan.{Plan}
 use Rattle.refusal.specs.declared.Verdict.{Verdict}
 use Rattle.refusal.specs.Code.{code_of}
 use Rattle.engine.specs.LogQuery.{log_query_of, log_status_of}
-use Rattle.pirkvezo.specs.Answers.{all_fit, answerLength, answerNumbers, answer_of, verdictNumber}
+use Rattle.pirkvezo.specs.Answers.{all_fit, answer_length, answer_numbers, answer_of, verdict_number}
 use Rattle.pirkvezo.specs.LogQuery.{host_log_with, log_answer_of, log_done, log_offset}
 use Rattle.pirkvezo.specs.Numbers.{plan_of, state_of}
 use Rattle.pirkvezo.proofs.Calls.{lengths}
@@ -23,8 +23,8 @@ use Rattle.host.proofs.Calls.{query_is}
 abbrev pub shown_from : Verdict → Plan → ℕ → List ℕ → ℕ → LogShown
 shown_from verdict plan log_length bytes domain =
     record {
-      number = verdictNumber verdict;
-      answer = answerNumbers (code_of verdict) (log_offset verdict plan log_length domain) (length bytes);
+      number = verdict_number verdict;
+      answer = answer_numbers (code_of verdict) (log_offset verdict plan log_length domain) (length bytes);
       bytes = bytes;
     }
 
@@ -45,7 +45,7 @@ module _ (plan : List ℕ) (held : Arrays) (domain : ℕ) (answer : List ℕ)
       ≡ host_log_with shown.number shown.answer
   unfolding log_done log_answer_of answer_of
   written =
-      rw (eq-eqb (length answer) answerLength (lengths plan held.state answer fit).answer_is) refl
+      rw (eq-eqb (length answer) answer_length (lengths plan held.state answer fit).answer_is) refl
 
   pub shown_is : log_shown plan held.state held.log domain answer ≡ shown
   unfolding log_shown log_answer_of

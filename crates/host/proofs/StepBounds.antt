@@ -20,7 +20,7 @@ use Rattle.machine.specs.Fresh.{fresh_world}
 use Rattle.engine.specs.Theorems.{steps_in_window}
 use Rattle.bound.specs.declared.BoundAnswer.{BoundAnswer}
 use Rattle.bound.specs.Bound.{bound_answer_of, step_bound}
-use Rattle.bound.proofs.Answers.{accepted as bound-accepted, wrong-length}
+use Rattle.bound.proofs.Answers.{accepted as bound-accepted, wrong_length_lem}
 use Rattle.refusal.specs.declared.Verdict.{Verdict}
 use Rattle.engine.specs.declared.Ending.TheVariants.{Ended}
 use Rattle.engine.specs.Running.{ending_number, run_call_of, step_call_of}
@@ -29,7 +29,7 @@ use Rattle.isolation.specs.StepBounds.{ListBounded, answered_by, answered_togeth
 use Rattle.isolation.proofs.OneRun.Calls.{own_things}
 use Rattle.isolation.proofs.OneRun.Leaves.{list_valid}
 use Rattle.isolation.proofs.OneRun.StepBounds.{lists_bounded}
-use Rattle.pirkvezo.specs.Answers.{answerLength, answer_of, fourthOf, planFits, thirdOf, verdictNumber, wrongLength}
+use Rattle.pirkvezo.specs.Answers.{answer_length, answer_of, fourth_of, plan_fits, third_of, verdict_number, wrong_length}
 use Rattle.pirkvezo.specs.Bounding.{BoundCall, bound_done, host_bound, host_bound_with}
 use Rattle.pirkvezo.specs.Numbers.{plan_length, plan_of, state_length, state_of}
 use Rattle.pirkvezo.specs.Running.{RunCall, host_run, host_step, run_done}
@@ -44,13 +44,13 @@ use Rattle.host.proofs.Calls.{all_fit_lem, fitting, refused_keeps}
 use Rattle.host.proofs.Lists.{as_calls, engine_is, engine_leaves, engine_point, engine_list, next_long, plan_long, start_long, start_meant, state_long}
 
 -- an answer array of four numbers is given its four
-pub third_is : (verdict : Verdict) (third fourth : ℕ) (answer : List ℕ) → length answer ≡ answerLength → thirdOf (answer_of verdict third fourth answer) ≡ third
+pub third_is : (verdict : Verdict) (third fourth : ℕ) (answer : List ℕ) → length answer ≡ answer_length → third_of (answer_of verdict third fourth answer) ≡ third
 unfolding answer_of
-third_is verdict third fourth answer four = rw (eq-eqb (length answer) answerLength four) refl
+third_is verdict third fourth answer four = rw (eq-eqb (length answer) answer_length four) refl
 
-fourth_is : (verdict : Verdict) (third fourth : ℕ) (answer : List ℕ) → length answer ≡ answerLength → fourthOf (answer_of verdict third fourth answer) ≡ fourth
+fourth_is : (verdict : Verdict) (third fourth : ℕ) (answer : List ℕ) → length answer ≡ answer_length → fourth_of (answer_of verdict third fourth answer) ≡ fourth
 unfolding answer_of
-fourth_is verdict third fourth answer four = rw (eq-eqb (length answer) answerLength four) refl
+fourth_is verdict third fourth answer four = rw (eq-eqb (length answer) answer_length four) refl
 
 -- ---- one call
 
@@ -64,14 +64,14 @@ module _ (plan scripts : List ℕ) where
 
   -- a run that does what the engine's does answers its steps
   run_answers : (limit : ℕ) (held : Arrays) (did : RunCall) (answer : List ℕ)
-      → length answer ≡ answerLength
+      → length answer ≡ answer_length
       → did ≡ run_done (run_call_of (plan_of plan) scripts (meant held) limit) answer
       → is_refusal did.number ≡ false
       → steps_told did ≡ (run_call_of (plan_of plan) scripts (meant held) limit).steps
   unfolding run_done
   run_answers limit held did answer four is accepted =
       let ran = run_call_of (plan_of plan) scripts (meant held) limit in
-      rw accepted (ap (λ (call : RunCall). thirdOf call.answer) is ∙ third_is ran.verdict ran.steps (ending_number ran.ending) answer four)
+      rw accepted (ap (λ (call : RunCall). third_of call.answer) is ∙ third_is ran.verdict ran.steps (ending_number ran.ending) answer four)
 
   -- one on the list's own arrays answers what the engine's answers
   own_run_answers : (answer : List ℕ) (limit : ℕ) (held : Arrays)
@@ -165,23 +165,23 @@ module _ (list : HostList) (is : IsHostList list) where
     abbrev done : BoundCall
     done = bound_done (bound_answer_of plan list.scripts) answer
 
-    fit_call : planFits list.plan answer ≡ true → bound_return list answer ≡ done
+    fit_call : plan_fits list.plan answer ≡ true → bound_return list answer ≡ done
     unfolding host_bound
     fit_call fit = rw (fit, host_bound) refl
 
-    asked : length answer ≡ answerLength → length list.scripts ≡ scripts_length → (bound_return list answer).number ≡ 0
+    asked : length answer ≡ answer_length → length list.scripts ≡ scripts_length → (bound_return list answer).number ≡ 0
     unfolding bound_done
     asked four store =
-        let fit : planFits list.plan answer ≡ true = rw (eq-eqb _ plan_length (plan_long list is), eq-eqb _ answerLength four) refl in
+        let fit : plan_fits list.plan answer ≡ true = rw (eq-eqb _ plan_length (plan_long list is), eq-eqb _ answer_length four) refl in
         ap (λ (call : BoundCall). call.number) (fit_call fit)
-        ∙ ap (λ (found : BoundAnswer). verdictNumber found.verdict) (sym (bound-accepted plan list.scripts store valid))
+        ∙ ap (λ (found : BoundAnswer). verdict_number found.verdict) (sym (bound-accepted plan list.scripts store valid))
 
     -- a call that returns 0 was handed arrays of the right lengths
-    fits : (bound_return list answer).number ≡ 0 → planFits list.plan answer ≡ true
+    fits : (bound_return list answer).number ≡ 0 → plan_fits list.plan answer ≡ true
     unfolding host_bound
     fits none =
-        (fitting (λ (call : BoundCall). call.number) (planFits list.plan answer)
-        (host_bound_with (verdictNumber wrongLength) (answer_of wrongLength 0 0 answer)) done refl (ap is_refusal none)).0
+        (fitting (λ (call : BoundCall). call.number) (plan_fits list.plan answer)
+        (host_bound_with (verdict_number wrong_length) (answer_of wrong_length 0 0 answer)) done refl (ap is_refusal none)).0
 
     store_fits : (bound_return list answer).number ≡ 0 → length list.scripts ≡ scripts_length
     unfolding bound_done
@@ -191,7 +191,7 @@ module _ (list : HostList) (is : IsHostList list) where
         go (yes same) = same
         go (no differs) =
             let number : ◌≡◌ {A = ℕ} 11 0 =
-            ap (λ (found : BoundAnswer). verdictNumber found.verdict) (wrong-length plan list.scripts differs)
+            ap (λ (found : BoundAnswer). verdict_number found.verdict) (wrong_length_lem plan list.scripts differs)
             ∙ sym (ap (λ (call : BoundCall). call.number) (fit_call (fits none))) ∙ none in
             absurd (omega arith)
 
@@ -200,7 +200,7 @@ module _ (list : HostList) (is : IsHostList list) where
     told none =
         let four = (read_lengths list.plan answer (fits none)).1 in
         let found = bound_answer_of plan list.scripts in
-        ap (λ (call : BoundCall). thirdOf call.answer) (fit_call (fits none))
+        ap (λ (call : BoundCall). third_of call.answer) (fit_call (fits none))
         ∙ third_is found.verdict found.steps 0 answer four
         ∙ ap (λ (answer-found : BoundAnswer). answer-found.steps) (sym (bound-accepted plan list.scripts (store_fits none) valid))
 
@@ -219,26 +219,26 @@ module _ (list : HostList) (is : IsHostList list) where
 
     own_ends : (bound_return list answer).number ≡ 0
         → (lent : List ℕ) (limit : ℕ)
-        → length lent ≡ answerLength
+        → length lent ≡ answer_length
         → bound_told list answer ≤ host_answered_by list + limit
-        → fourthOf (run_return list.plan list.scripts (own_run_arrays lent) limit (arrays_left list)).answer ≡ 1
+        → fourth_of (run_return list.plan list.scripts (own_run_arrays lent) limit (arrays_left list)).answer ≡ 1
     unfolding run_return run_done
     own_ends none lent limit four enough =
         let held = arrays_left list in
         let ran = run_call_of plan list.scripts (meant held) limit in
         let fit = all_fit_lem list.plan held.state lent (plan_long list is) (state_long list is) four in
-        ap (λ (call : RunCall). fourthOf call.answer) (did_is list.plan list.scripts held limit lent fit)
+        ap (λ (call : RunCall). fourth_of call.answer) (did_is list.plan list.scripts held limit lent fit)
         ∙ fourth_is ran.verdict ran.steps (ending_number ran.ending) lent four
         ∙ ap ending_number (engine_ends none limit enough)
 
     ends : (bound_return list answer).number ≡ 0
         → (arrays : RunArrays) (limit : ℕ)
         → OwnRunArrays arrays
-        → length arrays.answer ≡ answerLength
+        → length arrays.answer ≡ answer_length
         → bound_told list answer ≤ host_answered_by list + limit
-        → fourthOf (run_return list.plan list.scripts arrays limit (arrays_left list)).answer ≡ 1
+        → fourth_of (run_return list.plan list.scripts arrays limit (arrays_left list)).answer ≡ 1
     ends none arrays limit owned four enough =
-        subst (λ (a : RunArrays). fourthOf (run_return list.plan list.scripts a limit (arrays_left list)).answer ≡ 1)
+        subst (λ (a : RunArrays). fourth_of (run_return list.plan list.scripts a limit (arrays_left list)).answer ≡ 1)
         (sym (all_own_arrays arrays owned)) (own_ends none arrays.answer limit four enough)
 
 pub host_lists_bounded : HostListsBounded

@@ -15,7 +15,7 @@ use Rattle.engine.specs.Checks.{fresh_verdict}
 use Rattle.engine.specs.FreshStart.{fresh_from, fresh_start_of}
 use Rattle.isolation.specs.Calls.{is_refused}
 use Rattle.isolation.proofs.OneRun.Verdicts.{refused_number}
-use Rattle.pirkvezo.specs.Answers.{all_fit, answer_of, planFits, verdictNumber, wrongLength}
+use Rattle.pirkvezo.specs.Answers.{all_fit, answer_of, plan_fits, verdict_number, wrong_length}
 use Rattle.pirkvezo.specs.Numbers.{numbers_from, plan_length, plan_numbers, plan_of, state_of}
 use Rattle.pirkvezo.specs.Reading.{ReadCall, host_read, read_done, host_read_with}
 use Rattle.pirkvezo.specs.Starting.{fresh_done, host_fresh_start}
@@ -37,9 +37,9 @@ module _ (arrays : ReadArrays) (none : (read_return arrays).number ≡ 0) where
   read_is : read_return arrays ≡ read_done (reading_of arrays) arrays.answer
   unfolding host_read
   read_is =
-      let answer = answer_of wrongLength 0 0 arrays.answer in
-      (fitting (λ (call : ReadCall). call.number) (planFits arrays.plan arrays.answer)
-      (host_read_with (verdictNumber wrongLength) arrays.scripts arrays.plan answer)
+      let answer = answer_of wrong_length 0 0 arrays.answer in
+      (fitting (λ (call : ReadCall). call.number) (plan_fits arrays.plan arrays.answer)
+      (host_read_with (verdict_number wrong_length) arrays.scripts arrays.plan answer)
       (read_done (reading_of arrays) arrays.answer) refl (ap is_refusal none)).1
 
   pub text_accepted : (reading_of arrays).verdict ≡ Accepted
@@ -90,7 +90,7 @@ module _ (arrays : ReadArrays) (list : HostList) (is : IsTextList arrays list) w
   started =
       rw (fresh_fits, host_fresh_start)
       (ap
-      (λ v. verdictNumber (fresh_from v (state_of list.old_state) list.old_cache list.old_boxes).verdict)
+      (λ v. verdict_number (fresh_from v (state_of list.old_state) list.old_cache list.old_boxes).verdict)
       fresh_accepted)
 
   pub text_list : IsHostList list

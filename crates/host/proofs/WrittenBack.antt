@@ -16,7 +16,7 @@ use Rattle.roundtrip.specs.Theorems.{rewritten}
 use Rattle.shortest.proofs.Shortest.{none_shorter}
 use Rattle.roundtrip.proofs.Writable.{read_shaped, wrote as wrote-facts}
 use Rattle.roundtrip.proofs.WrittenBack.{one_text, reads_back, rest_kept, written_back_lem}
-use Rattle.pirkvezo.specs.Answers.{answerLength, answer_of, planFits, thirdOf, verdictNumber, wrongLength}
+use Rattle.pirkvezo.specs.Answers.{answer_length, answer_of, plan_fits, third_of, verdict_number, wrong_length}
 use Rattle.pirkvezo.specs.Numbers.{numbers_from, plan_length, plan_numbers, plan_of}
 use Rattle.pirkvezo.specs.Reading.{host_read, read_done}
 use Rattle.pirkvezo.specs.Writing.{WriteCall, host_write, host_write_with, write_done}
@@ -29,14 +29,14 @@ use Rattle.host.proofs.StepBounds.{third_is}
 use Rattle.host.proofs.Texts.{not_refused, plan_left, reading_of, scripts_left_lem, text_accepted}
 
 -- the plan's and the answer's lengths are right
-fits : (plan answer : List ℕ) → length plan ≡ plan_length → length answer ≡ answerLength → planFits plan answer ≡ true
-fits plan answer long four = both_pass _ _ (eq-eqb (length plan) plan_length long) (eq-eqb (length answer) answerLength four)
+fits : (plan answer : List ℕ) → length plan ≡ plan_length → length answer ≡ answer_length → plan_fits plan answer ≡ true
+fits plan answer long four = both_pass _ _ (eq-eqb (length plan) plan_length long) (eq-eqb (length answer) answer_length four)
 
 numbers_long : (plan : Plan) → length (plan_numbers plan) ≡ plan_length
 unfolding plan_numbers numbers_from
 numbers_long plan = refl
 
-module _ (arrays : ReadArrays) (out answer : List ℕ) (none : (read_return arrays).number ≡ 0) (four : length answer ≡ answerLength) where
+module _ (arrays : ReadArrays) (out answer : List ℕ) (none : (read_return arrays).number ≡ 0) (four : length answer ≡ answer_length) where
   abbrev plan : Plan
   plan = (reading_of arrays).plan
 
@@ -56,7 +56,7 @@ module _ (arrays : ReadArrays) (out answer : List ℕ) (none : (read_return arra
 
   bytes_are : bytes_told arrays out answer ≡ wrote.bytes
   unfolding write_done
-  bytes_are = ap (λ (call : WriteCall). thirdOf call.answer) call_is ∙ third_is wrote.verdict wrote.bytes 0 answer four
+  bytes_are = ap (λ (call : WriteCall). third_of call.answer) call_is ∙ third_is wrote.verdict wrote.bytes 0 answer four
 
   out_is : (write_return arrays out answer).out ≡ wrote.out
   unfolding write_done
@@ -71,14 +71,14 @@ module _ (arrays : ReadArrays) (out answer : List ℕ) (none : (read_return arra
   wrote_accepted returned = not_refused wrote.verdict (ap is_refusal (sym (ap (λ (call : WriteCall). call.number) call_is) ∙ returned))
 
 -- a call that returned 0 was handed an answer of four numbers
-answer_four : (arrays : ReadArrays) (out answer : List ℕ) → (write_return arrays out answer).number ≡ 0 → length answer ≡ answerLength
+answer_four : (arrays : ReadArrays) (out answer : List ℕ) → (write_return arrays out answer).number ≡ 0 → length answer ≡ answer_length
 unfolding host_write
 answer_four arrays out answer returned =
     let lent = (read_return arrays).plan in
     let store = (read_return arrays).scripts in
     let fit =
-    (fitting (λ (call : WriteCall). call.number) (planFits lent answer)
-    (host_write_with (verdictNumber wrongLength) out (answer_of wrongLength 0 0 answer))
+    (fitting (λ (call : WriteCall). call.number) (plan_fits lent answer)
+    (host_write_with (verdict_number wrong_length) out (answer_of wrong_length 0 0 answer))
     (write_done (write_of (plan_of lent) store out) answer) refl (ap is_refusal returned)).0 in
     (read_lengths lent answer fit).1
 
@@ -93,7 +93,7 @@ plans_written_back arrays out answer none four room =
     let done = wrote-facts plan scripts out verdict in
     let bytes = bytes_are arrays out answer none four in
     record {
-      written = ap (λ (call : WriteCall). call.number) (call_is arrays out answer none four) ∙ ap verdictNumber verdict;
+      written = ap (λ (call : WriteCall). call.number) (call_is arrays out answer none four) ∙ ap verdict_number verdict;
       short = omega (arith, bytes, done.bytes_are, none_shorter text arrays.scripts accepted);
       kept =
           ap₂ (λ (count : ℕ) (buffer : List ℕ). drop count buffer) bytes (out_is arrays out answer none four)
@@ -103,7 +103,7 @@ plans_written_back arrays out answer none four room =
           λ store numbers told long lent given.
           let read = reads_back plan scripts out store (read_shaped text arrays.scripts accepted) long verdict in
           rw (fits numbers told lent given, host_read, text_is arrays out answer none four, plan_left arrays none, scripts_left_lem arrays none)
-          (ap (λ (outcome : ReadOutcome). read_done outcome told) read ∙ rw (eq-eqb (length told) answerLength given) refl);
+          (ap (λ (outcome : ReadOutcome). read_done outcome told) read ∙ rw (eq-eqb (length told) answer_length given) refl);
     }
 
 pub same_texts : SameTexts
@@ -117,10 +117,10 @@ same_texts arrays arrays' out answer out' answer' none none' returned returned' 
       text_is arrays out answer none four ∙ equal.1 (plans, stores) ∙ sym (text_is arrays' out' answer' none' four'),
 )
   where
-    four : length answer ≡ answerLength
+    four : length answer ≡ answer_length
     four = answer_four arrays out answer returned
 
-    four' : length answer' ≡ answerLength
+    four' : length answer' ≡ answer_length
     four' = answer_four arrays' out' answer' returned'
 
     equal : (rewritten arrays.text arrays.scripts out ≡ rewritten arrays'.text arrays'.scripts out')

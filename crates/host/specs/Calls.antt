@@ -5,7 +5,7 @@ use Rattle.std.specs.Prelude.{ℕ, ◌+◌, Bool, true, cond, not, List, [], ◌
 use Rattle.cache.specs.Lines.{table_length}
 use Rattle.ops.specs.Ops.{boxes_length}
 use Rattle.isolation.specs.Calls.{Handed, IsOwn, handed, left_in}
-use Rattle.pirkvezo.specs.Answers.{answerLength}
+use Rattle.pirkvezo.specs.Answers.{answer_length}
 use Rattle.pirkvezo.specs.LogQuery.{LogCall, host_log}
 use Rattle.pirkvezo.specs.Numbers.{state_length}
 use Rattle.pirkvezo.specs.Reading.{ReadCall, host_read}
@@ -205,5 +205,5 @@ pub record IsTextList (arrays : ReadArrays) (list : HostList) : Type 0 where
   pub state_fits : length list.old_state ≡ state_length
   pub cache_fits : length list.old_cache ≡ table_length
   pub boxes_fit : length list.old_boxes ≡ boxes_length
-  pub answer_fits : length list.start_answer ≡ answerLength
+  pub answer_fits : length list.start_answer ≡ answer_length
   pub proper : ProperCalls list.plan list.scripts list.calls (start_arrays list)

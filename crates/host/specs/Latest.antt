@@ -8,14 +8,14 @@ use Rattle.machine.specs.View.{world_with}
 use Rattle.latest.specs.Bounds.{Fitting}
 use Rattle.lateness.specs.Lateness.{lateness_of}
 use Rattle.lateness.specs.Theorems.{IsLatest, IsScript}
-use Rattle.pirkvezo.specs.Answers.{answerLength, thirdOf}
+use Rattle.pirkvezo.specs.Answers.{answer_length, third_of}
 use Rattle.pirkvezo.specs.Finishing.{LatestCall, host_latest}
 use Rattle.pirkvezo.specs.Numbers.{plan_length, plan_of, state_of}
 use Rattle.host.specs.Calls.{HostList, IsHostList, arrays_left}
 
 -- the ticks that a call tells, its answer's third number
 abbrev pub ticks_told : LatestCall → ℕ
-ticks_told call = thirdOf call.answer
+ticks_told call = third_of call.answer
 
 -- the world that the arrays left by a host's calls stand for
 abbrev pub world_left : HostList → World
@@ -29,7 +29,7 @@ pub record HostLatest : Type 0 where
   pub answered :
       (plan : List ℕ) (domain : ℕ) (script answer : List ℕ)
       → length plan ≡ plan_length
-      → length answer ≡ answerLength
+      → length answer ≡ answer_length
       → length script ≡ most_ops
       → Fitting (plan_of plan) domain
       → (host_latest plan domain script answer).number ≡ 0

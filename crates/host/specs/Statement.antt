@@ -13,7 +13,7 @@ use Rattle.reader.specs.Read.{read_of}
 use Rattle.isolation.specs.Points.{FreshRun, InWindowOf, ops_of, windows_after, world_after}
 use Rattle.isolation.specs.Statement.{BoxesAgree, Correspond, Only, SameKernelSets, SameL1}
 use Rattle.isolation.specs.Statement.{SameSets, ScriptsAgree, StartedOnTime}
-use Rattle.pirkvezo.specs.Answers.{answerLength, fourthOf, thirdOf}
+use Rattle.pirkvezo.specs.Answers.{answer_length, fourth_of, third_of}
 use Rattle.pirkvezo.specs.LogQuery.{LogCall, host_log}
 use Rattle.pirkvezo.specs.Numbers.{state_clock_offset, completed_offset, plan_of}
 use Rattle.pirkvezo.specs.Numbers.{positions_offset, state_numbers}
@@ -40,18 +40,18 @@ arrays_of world =
 -- declared domain
 abbrev pub HostAdmissible : HostList → HostCall → Type 0
 HostAdmissible list (host_step_call arrays) =
-    (length arrays.answer ≡ answerLength) × (length list.scripts ≡ scripts_length)
+    (length arrays.answer ≡ answer_length) × (length list.scripts ≡ scripts_length)
 HostAdmissible list (host_run_call arrays limit) =
-    (length arrays.answer ≡ answerLength) × (length list.scripts ≡ scripts_length)
+    (length arrays.answer ≡ answer_length) × (length list.scripts ≡ scripts_length)
 HostAdmissible list (host_log_call arrays domain) =
-    (length arrays.answer ≡ answerLength) × (domain < (plan_of list.plan).domains)
+    (length arrays.answer ≡ answer_length) × (domain < (plan_of list.plan).domains)
 
 -- the number with which any other is refused: 4 where it is only that the domain is not declared,
 -- and else 11
 abbrev pub refusal_number : HostCall → ℕ
 refusal_number (host_step_call arrays) = 11
 refusal_number (host_run_call arrays limit) = 11
-refusal_number (host_log_call arrays domain) = cond (eqb (length arrays.answer) answerLength) 4 11
+refusal_number (host_log_call arrays domain) = cond (eqb (length arrays.answer) answer_length) 4 11
 
 -- ---- (A)
 
@@ -96,7 +96,7 @@ shown_by log query =
     record {
       number = query.number;
       answer = query.answer;
-      bytes = part (thirdOf query.answer) (fourthOf query.answer) log;
+      bytes = part (third_of query.answer) (fourth_of query.answer) log;
     }
 
 unfoldable pub log_shown : List ℕ → List ℕ → List ℕ → ℕ → List ℕ → LogShown
@@ -116,18 +116,18 @@ pub record HostSameSeen (observer : ℕ) (one other : HostList) : Type 0 where
   -- a query for its log, with any answer array of four numbers, returns 0 after both
   pub queried :
       (answer : List ℕ)
-      → length answer ≡ answerLength
+      → length answer ≡ answer_length
       → (shown_after one observer answer).number ≡ 0
   pub queried' :
       (answer : List ℕ)
-      → length answer ≡ answerLength
+      → length answer ≡ answer_length
       → (shown_after other observer answer).number ≡ 0
   -- it answers the same four numbers, and the bytes of the log array at that offset and of that
   -- length are equal
   pub log :
       (answer answer' : List ℕ)
-      → length answer ≡ answerLength
-      → length answer' ≡ answerLength
+      → length answer ≡ answer_length
+      → length answer' ≡ answer_length
       → shown_after one observer answer ≡ shown_after other observer answer'
   -- its script position
   pub position :

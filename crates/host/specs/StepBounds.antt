@@ -9,7 +9,7 @@ use Rattle.bound.specs.Bound.{step_bound}
 use Rattle.state.specs.World.{position_at}
 use Rattle.machine.specs.Fresh.{fresh_world}
 use Rattle.engine.specs.Theorems.{steps_in_window}
-use Rattle.pirkvezo.specs.Answers.{answerLength, fourthOf, thirdOf}
+use Rattle.pirkvezo.specs.Answers.{answer_length, fourth_of, third_of}
 use Rattle.pirkvezo.specs.Bounding.{BoundCall, host_bound}
 use Rattle.pirkvezo.specs.Numbers.{plan_of, state_of}
 use Rattle.pirkvezo.specs.Running.{RunCall}
@@ -20,7 +20,7 @@ use Rattle.host.specs.Calls.{host_step_call, is_refusal, run_return, start_array
 -- the steps that a step or a run answers: its answer's third number where it returns 0. A refused
 -- call counts none, whatever its answer array holds.
 abbrev pub steps_told : RunCall → ℕ
-steps_told call = cond (is_refusal call.number) 0 (thirdOf call.answer)
+steps_told call = cond (is_refusal call.number) 0 (third_of call.answer)
 
 module _ (plan scripts : List ℕ) where
   -- of any call: a log query's third number is no number of steps
@@ -48,7 +48,7 @@ bound_return list answer = host_bound list.plan list.scripts answer
 
 -- the bound that it tells
 abbrev pub bound_told : HostList → List ℕ → ℕ
-bound_told list answer = thirdOf (bound_return list answer).answer
+bound_told list answer = third_of (bound_return list answer).answer
 
 -- the steps of a list's run that fall into a window
 abbrev pub host_steps_in : HostList → ℕ → ℕ
@@ -66,7 +66,7 @@ pub record HostListBounded (list : HostList) : Type 0 where
   -- 2,048
   pub asked :
       (answer : List ℕ)
-      → length answer ≡ answerLength
+      → length answer ≡ answer_length
       → length list.scripts ≡ scripts_length
       → (bound_return list answer).number ≡ 0
   -- where it does, it tells the bound of the plan that the array stands for
@@ -86,9 +86,9 @@ pub record HostListBounded (list : HostList) : Type 0 where
       → (bound_return list answer).number ≡ 0
       → (arrays : RunArrays) (limit : ℕ)
       → OwnRunArrays arrays
-      → length arrays.answer ≡ answerLength
+      → length arrays.answer ≡ answer_length
       → bound_told list answer ≤ host_answered_by list + limit
-      → fourthOf (run_return list.plan list.scripts arrays limit (arrays_left list)).answer ≡ 1
+      → fourth_of (run_return list.plan list.scripts arrays limit (arrays_left list)).answer ≡ 1
   -- no window of the list's run takes more steps than its length and one
   pub each : (window : ℕ) → host_steps_in list window ≤ window_length (plan_of list.plan) window + 1
   -- and the steps of all windows are those that the list's calls answer

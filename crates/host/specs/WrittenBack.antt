@@ -2,7 +2,7 @@
 -- again. Assumes nothing.
 use Rattle.std.specs.Prelude.{ℕ, ◌≤◌, List, [], ◌∷◌, ◌↔◌, ◌≡◌, drop, length, take}
 use Rattle.script.specs.Limits.{scripts_length}
-use Rattle.pirkvezo.specs.Answers.{answerLength, thirdOf}
+use Rattle.pirkvezo.specs.Answers.{answer_length, third_of}
 use Rattle.pirkvezo.specs.Numbers.{plan_length}
 use Rattle.pirkvezo.specs.Reading.{host_read, host_read_with}
 use Rattle.pirkvezo.specs.Writing.{WriteCall, host_write}
@@ -14,7 +14,7 @@ write_return arrays out answer = host_write (read_return arrays).plan (read_retu
 
 -- the bytes that it tells, its answer's third number
 abbrev pub bytes_told : ReadArrays → List ℕ → List ℕ → ℕ
-bytes_told arrays out answer = thirdOf (write_return arrays out answer).answer
+bytes_told arrays out answer = third_of (write_return arrays out answer).answer
 
 -- and the buffer up to there
 abbrev pub text_written : ReadArrays → List ℕ → List ℕ → List ℕ
@@ -31,7 +31,7 @@ pub record PlanWrittenBack (arrays : ReadArrays) (out answer : List ℕ) : Type 
       (scripts plan told : List ℕ)
       → length scripts ≡ scripts_length
       → length plan ≡ plan_length
-      → length told ≡ answerLength
+      → length told ≡ answer_length
       → host_read (text_written arrays out answer) scripts plan told
       ≡ host_read_with 0 (read_return arrays).scripts (read_return arrays).plan (0 ∷ 0 ∷ 0 ∷ 0 ∷ [])
 
@@ -40,7 +40,7 @@ abbrev pub PlansWrittenBack : Type 0
 PlansWrittenBack =
     (arrays : ReadArrays) (out answer : List ℕ)
     → (read_return arrays).number ≡ 0
-    → length answer ≡ answerLength
+    → length answer ≡ answer_length
     → length arrays.text ≤ length out
     → PlanWrittenBack arrays out answer
 

@@ -41,7 +41,7 @@ use Rattle.latest.specs.Answer.{latest_verdict}
 use Rattle.latest.specs.Latest.{box_indices, latest_later, latest_ticks}
 use Rattle.latest.specs.Reach.{box_count, first_window, has_box, lowest_colour, lowest_recipient, lowest_sender, meets_kernel, own_indices, starts_run}
 use Rattle.latest.specs.Script.{first_message, last_op, late_number, late_script_of, latest_script}
-use Rattle.latest.proofs.Answers.{accepted_fits, accepted-told, told_is}
+use Rattle.latest.proofs.Answers.{accepted_fits, accepted_told, told_is}
 use Rattle.latest.proofs.Ranges.{domain_declared, first_window_lem}
 use Rattle.lateness.specs.Lateness.{Finishes, lateness_of}
 use Rattle.lateness.specs.Theorems.{EachFinishes, HasLateness, HoldsScript, IsLatest, LatestFinish, OneLatest, fresh_run}
@@ -249,7 +249,7 @@ is_latest plan domain j =
 
 pub latest_finish : LatestFinish
 latest_finish plan domain buffer tells =
-    let accepted = accepted-told plan domain buffer tells in
+    let accepted = accepted_told plan domain buffer tells in
     let is = told_is plan domain buffer accepted in
     record {
       is_latest = rw (is.0, is.1) (is_latest plan domain (judged plan domain buffer accepted));
@@ -280,7 +280,7 @@ wide_enough plan some =
 
 pub one_latest : OneLatest
 one_latest plan domain buffer script ticks tells other =
-    let accepted = accepted-told plan domain buffer tells in
+    let accepted = accepted_told plan domain buffer tells in
     let j = judged plan domain buffer accepted in
     let mine = is_latest plan domain j in
     let window = first_window plan domain in

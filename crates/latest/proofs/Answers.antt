@@ -25,21 +25,21 @@ use Rattle.latest.specs.Script.{late_numbers, late_script_of, latest_script}
 module _ (plan : Plan) (domain : ℕ) (script : List ℕ) where
   -- ---- the verdict
 
-  pub wrong-length : (length script ≡ most_ops → ⊥) → latest_verdict plan domain script ≡ Refused WrongLength
+  pub wrong_length_lem : (length script ≡ most_ops → ⊥) → latest_verdict plan domain script ≡ Refused WrongLength
   unfolding latest_verdict
-  wrong-length differs = rw (ne_eqb (length script) most_ops differs) refl
+  wrong_length_lem differs = rw (ne_eqb (length script) most_ops differs) refl
 
-  pub impossible-plan : length script ≡ most_ops → plan_valid plan ≡ false → latest_verdict plan domain script ≡ Refused ImpossiblePlan
+  pub impossible_plan : length script ≡ most_ops → plan_valid plan ≡ false → latest_verdict plan domain script ≡ Refused ImpossiblePlan
   unfolding latest_verdict
-  impossible-plan one impossible = rw (eq-eqb (length script) most_ops one, impossible) refl
+  impossible_plan one impossible = rw (eq-eqb (length script) most_ops one, impossible) refl
 
-  pub out-of-limits :
+  pub out_of_limits :
       length script ≡ most_ops
       → plan_valid plan ≡ true
       → domain_fits plan domain ≡ false
       → latest_verdict plan domain script ≡ Refused (LatestOutOfLimits domain)
   unfolding latest_verdict
-  out-of-limits one possible unfit = rw (eq-eqb (length script) most_ops one, possible, unfit) refl
+  out_of_limits one possible unfit = rw (eq-eqb (length script) most_ops one, possible, unfit) refl
 
   pub accepted : length script ≡ most_ops → Fitting plan domain → latest_verdict plan domain script ≡ Accepted
   unfolding latest_verdict
@@ -59,18 +59,18 @@ module _ (plan : Plan) (domain : ℕ) (script : List ℕ) where
   -- ---- the whole answer
 
   -- a refusal is told with 0 ticks, and the buffer is as it was
-  pub refused-is :
+  pub refused_is :
       (refusal : Refusal) (answer : LatestAnswer)
       → latest_verdict plan domain script ≡ Refused refusal
       → (answer.verdict ≡ Refused refusal) × (answer.ticks ≡ 0)
       → latest_with answer script ≡ latest_of plan domain script
   unfolding latest_of
-  refused-is refusal answer judged tells = rw (judged, tells.0, tells.1) refl
+  refused_is refusal answer judged tells = rw (judged, tells.0, tells.1) refl
 
   -- an answer's verdict is the verdict
-  pub accepted-told : (latest_of plan domain script).verdict ≡ Accepted → latest_verdict plan domain script ≡ Accepted
+  pub accepted_told : (latest_of plan domain script).verdict ≡ Accepted → latest_verdict plan domain script ≡ Accepted
   unfolding latest_of
-  accepted-told tells = go (latest_verdict plan domain script) tells
+  accepted_told tells = go (latest_verdict plan domain script) tells
     where
       go : (verdict : Verdict) → (latest_from verdict plan domain script).verdict ≡ Accepted → verdict ≡ Accepted
       go Accepted is = refl
@@ -82,7 +82,7 @@ module _ (plan : Plan) (domain : ℕ) (script : List ℕ) where
   unfolding latest_of
   told_is accepted = rw accepted (refl, refl)
 
-  pub accepted-is :
+  pub accepted_is :
       (ticks : ℕ) (parts : LateScript) (written : List ℕ)
       → length script ≡ most_ops
       → Fitting plan domain
@@ -91,17 +91,17 @@ module _ (plan : Plan) (domain : ℕ) (script : List ℕ) where
       → written ≡ late_numbers parts most_ops 0
       → latest_with (record { verdict = Accepted; ticks = ticks }) written ≡ latest_of plan domain script
   unfolding latest_of latest_script
-  accepted-is ticks parts written one fitting ticks_are parts_are writes =
+  accepted_is ticks parts written one fitting ticks_are parts_are writes =
       rw (accepted one fitting, ticks_are, writes, parts_are) refl
 
 -- one impossible plan is judged as another
-pub impossible-alike :
+pub impossible_alike :
     (domain : ℕ) (script : List ℕ) (one other : Plan)
     → plan_valid one ≡ false
     → plan_valid other ≡ false
     → latest_of one domain script ≡ latest_of other domain script
 unfolding latest_of latest_verdict
-impossible-alike domain script one other impossible impossible' = go (eqb (length script) most_ops)
+impossible_alike domain script one other impossible impossible' = go (eqb (length script) most_ops)
   where
     judged : Bool → Plan → Verdict
     judged fits plan =

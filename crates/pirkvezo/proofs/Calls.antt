@@ -16,7 +16,7 @@ use Rattle.machine.specs.View.{world_with}
 use Rattle.refusal.specs.declared.Verdict.{Verdict}
 use Rattle.reader.specs.Read.{read_of}
 use Rattle.engine.specs.declared.Ending.{Ending}
-use Rattle.engine.specs.Answers.{answered, freshWith as engineFresh}
+use Rattle.engine.specs.Answers.{answered, fresh_with as engine_fresh}
 use Rattle.engine.specs.FreshStart.{FreshOutcome, fresh_start_of}
 use Rattle.engine.specs.declared.LentLog.{LentLog}
 use Rattle.engine.specs.declared.LentLog.TheVariants.{Part, Whole}
@@ -24,7 +24,7 @@ use Rattle.engine.specs.LentLog.{lent_call_of}
 use Rattle.engine.specs.Running.{RunOutcome, ending_number, step_call_of}
 use Rattle.engine.proofs.Verdicts.{part_called, whole_called}
 use Rattle.pirkvezo.specs.declared.LogAnswer.{LogAnswer}
-use Rattle.pirkvezo.specs.Answers.{all_fit, answerLength, answer_of, planFits, verdictNumber, wrongLength}
+use Rattle.pirkvezo.specs.Answers.{all_fit, answer_length, answer_of, plan_fits, verdict_number, wrong_length}
 use Rattle.pirkvezo.specs.LogQuery.{log_answer_of, host_log, log_done, host_log_with}
 use Rattle.pirkvezo.specs.Numbers.{handed_plan, plan_length, plan_numbers, plan_of, state_length, state_numbers, state_of}
 use Rattle.pirkvezo.specs.Reading.{host_read, read_done, host_read_with}
@@ -35,12 +35,12 @@ use Rattle.pirkvezo.proofs.Judged.{fresh_alike, handed, query_alike}
 
 -- the number that is returned, and the answer that is written
 pub record Told (verdict : Verdict) (third fourth : ℕ) (answer : List ℕ) (number : ℕ) (written : List ℕ) : Type 0 where
-  pub number_is : number ≡ verdictNumber verdict
+  pub number_is : number ≡ verdict_number verdict
   pub answer_is : written ≡ answer_of verdict third fourth answer
 
 pub told :
     {verdict : Verdict} {third fourth : ℕ} {answer : List ℕ} {number : ℕ} {written : List ℕ}
-    → (number ≡ verdictNumber verdict) × (written ≡ answer_of verdict third fourth answer)
+    → (number ≡ verdict_number verdict) × (written ≡ answer_of verdict third fourth answer)
     → Told verdict third fourth answer number written
 told both = record { number_is = both.0; answer_is = both.1 }
 
@@ -49,7 +49,7 @@ told both = record { number_is = both.0; answer_is = both.1 }
 pub record Lengths (plan state answer : List ℕ) : Type 0 where
   pub plan_is : length plan ≡ plan_length
   pub state_is : length state ≡ state_length
-  pub answer_is : length answer ≡ answerLength
+  pub answer_is : length answer ≡ answer_length
 
 pub lengths : (plan state answer : List ℕ) → all_fit plan state answer ≡ true → Lengths plan state answer
 lengths plan state answer fit =
@@ -59,8 +59,8 @@ lengths plan state answer fit =
 
 pub read_lengths :
     (plan answer : List ℕ)
-    → planFits plan answer ≡ true
-    → (length plan ≡ plan_length) × (length answer ≡ answerLength)
+    → plan_fits plan answer ≡ true
+    → (length plan ≡ plan_length) × (length answer ≡ answer_length)
 read_lengths plan answer fit =
     let both = (and-eq-true_iff (eqb (length plan) plan_length) _).0 fit in
     (eqb-true _ _ both.0, eqb-true _ _ both.1)
@@ -69,15 +69,15 @@ read_lengths plan answer fit =
 
 module _ (text scripts plan answer : List ℕ) (number : ℕ) (written : List ℕ) where
   pub read_unfit :
-      planFits plan answer ≡ false
-      → Told wrongLength 0 0 answer number written
+      plan_fits plan answer ≡ false
+      → Told wrong_length 0 0 answer number written
       → host_read_with number scripts plan written ≡ host_read text scripts plan answer
   unfolding host_read
   read_unfit unfit tells = rw (unfit, host_read, tells.number_is, tells.answer_is) refl
 
   pub read_fit :
       (verdict : Verdict) (given : Plan) (filled stored : List ℕ)
-      → planFits plan answer ≡ true
+      → plan_fits plan answer ≡ true
       → (verdict ≡ (read_of text scripts).verdict) × (given ≡ (read_of text scripts).plan) × (filled ≡ (read_of text scripts).scripts)
       → stored ≡ plan_numbers given
       → Told verdict 0 0 answer number written
@@ -91,7 +91,7 @@ module _ (text scripts plan answer : List ℕ) (number : ℕ) (written : List �
 module _ (plan state cache boxes answer : List ℕ) (number : ℕ) (written : List ℕ) where
   pub fresh_unfit :
       all_fit plan state answer ≡ false
-      → Told wrongLength 0 0 answer number written
+      → Told wrong_length 0 0 answer number written
       → host_fresh_with number state cache boxes written ≡ host_fresh_start plan state cache boxes answer
   unfolding host_fresh_start
   fresh_unfit unfit tells = rw (unfit, host_fresh_start, tells.number_is, tells.answer_is) refl
@@ -101,13 +101,13 @@ module _ (plan state cache boxes answer : List ℕ) (number : ℕ) (written : Li
       → all_fit plan state answer ≡ true
       → lent ≡ handed_plan plan
       → before ≡ state_of state
-      → engineFresh verdict left emptied cleared ≡ fresh_start_of lent before cache boxes
+      → engine_fresh verdict left emptied cleared ≡ fresh_start_of lent before cache boxes
       → stored ≡ state_numbers left
       → Told verdict 0 0 answer number written
       → host_fresh_with number stored emptied cleared written ≡ host_fresh_start plan state cache boxes answer
   unfolding host_fresh_start fresh_done
   fresh_fit lent before left verdict stored emptied cleared fit planned stated did stores tells =
-      let done : engineFresh verdict left emptied cleared ≡ fresh_start_of (plan_of plan) (state_of state) cache boxes =
+      let done : engine_fresh verdict left emptied cleared ≡ fresh_start_of (plan_of plan) (state_of state) cache boxes =
       did
       ∙ ap (λ (p : Plan). fresh_start_of p before cache boxes) planned
       ∙ ap (λ (s : State). fresh_start_of (handed_plan plan) s cache boxes) stated
@@ -119,7 +119,7 @@ module _ (plan state cache boxes answer : List ℕ) (number : ℕ) (written : Li
 module _ (run : Plan → World → RunOutcome) (plan state cache boxes log answer : List ℕ) (number : ℕ) (written : List ℕ) where
   pub run_unfit :
       all_fit plan state answer ≡ false
-      → Told wrongLength 0 0 answer number written
+      → Told wrong_length 0 0 answer number written
       → host_run_with number state cache boxes log written ≡ host_run_by run plan state cache boxes log answer
   unfolding host_run_by
   run_unfit unfit tells = rw (unfit, host_run_by, tells.number_is, tells.answer_is) refl
@@ -174,7 +174,7 @@ module _ (plan scripts state cache boxes log : List ℕ) where
 module _ (plan state log : List ℕ) (domain : ℕ) (answer : List ℕ) (number : ℕ) (written : List ℕ) where
   pub log_unfit :
       all_fit plan state answer ≡ false
-      → Told wrongLength 0 0 answer number written
+      → Told wrong_length 0 0 answer number written
       → host_log_with number written ≡ host_log plan state log domain answer
   unfolding host_log
   log_unfit unfit tells = rw (unfit, host_log, tells.number_is, tells.answer_is) refl

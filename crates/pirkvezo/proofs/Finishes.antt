@@ -8,8 +8,8 @@ use Rattle.refusal.specs.declared.Verdict.{Verdict}
 use Rattle.refusal.specs.declared.Verdict.TheVariants.{Accepted, Refused}
 use Rattle.latest.specs.declared.LatestAnswer.{LatestAnswer}
 use Rattle.latest.specs.Answer.{LatestOutcome, latest_from, latest_of, latest_verdict, latest_with}
-use Rattle.latest.proofs.Answers.{impossible-alike}
-use Rattle.pirkvezo.specs.Answers.{answer_of, planFits, wrongLength}
+use Rattle.latest.proofs.Answers.{impossible_alike}
+use Rattle.pirkvezo.specs.Answers.{answer_of, plan_fits, wrong_length}
 use Rattle.pirkvezo.specs.Finishing.{LatestCall, host_latest, host_latest_with, latest_done}
 use Rattle.pirkvezo.specs.Numbers.{handed_plan, plan_of}
 use Rattle.pirkvezo.specs.Theorems.{RefusedLatestKeeps}
@@ -18,15 +18,15 @@ use Rattle.pirkvezo.proofs.Judged.{handed}
 
 module _ (plan : List ℕ) (domain : ℕ) (script answer : List ℕ) (number : ℕ) (told : List ℕ) where
   pub latest_unfit :
-      planFits plan answer ≡ false
-      → Told wrongLength 0 0 answer number told
+      plan_fits plan answer ≡ false
+      → Told wrong_length 0 0 answer number told
       → host_latest_with number script told ≡ host_latest plan domain script answer
   unfolding host_latest
   latest_unfit unfit tells = rw (unfit, host_latest, tells.number_is, tells.answer_is) refl
 
   pub latest_fit :
       (lent : Plan) (found : LatestAnswer) (after : List ℕ)
-      → planFits plan answer ≡ true
+      → plan_fits plan answer ≡ true
       → lent ≡ handed_plan plan
       → latest_with found after ≡ latest_of lent domain script
       → Told found.verdict found.ticks 0 answer number told
@@ -36,7 +36,7 @@ module _ (plan : List ℕ) (domain : ℕ) (script answer : List ℕ) (number : �
       let done : latest_with found after ≡ latest_of (plan_of plan) domain script =
       did
       ∙ ap (λ (p : Plan). latest_of p domain script) planned
-      ∙ handed (λ p. latest_of p domain script) (impossible-alike domain script) plan in
+      ∙ handed (λ p. latest_of p domain script) (impossible_alike domain script) plan in
       rw (fit, host_latest, tells.number_is, tells.answer_is) (ap (λ (found : LatestOutcome). latest_done found answer) done)
 
 -- ---- a refused asking
@@ -51,11 +51,11 @@ latest_judged plan domain script answer (Refused refusal) refused = refl
 
 pub latest_kept : RefusedLatestKeeps
 unfolding host_latest latest_of
-latest_kept plan domain script answer refused = go (planFits plan answer) refl
+latest_kept plan domain script answer refused = go (plan_fits plan answer) refl
   where
-    go : (fit : Bool) → planFits plan answer ≡ fit → (host_latest plan domain script answer).script ≡ script
+    go : (fit : Bool) → plan_fits plan answer ≡ fit → (host_latest plan domain script answer).script ≡ script
     go false e =
-        let unfit : host_latest plan domain script answer ≡ host_latest_with 11 script (answer_of wrongLength 0 0 answer) = rw (e, host_latest) refl in
+        let unfit : host_latest plan domain script answer ≡ host_latest_with 11 script (answer_of wrong_length 0 0 answer) = rw (e, host_latest) refl in
         ap (λ (call : LatestCall). call.script) unfit
     go true e =
         let verdict = latest_verdict (plan_of plan) domain script in

@@ -18,7 +18,7 @@ use Rattle.frame.proofs.Taken.{limits_valid, valid_limits}
 use Rattle.plan.specs.Limits.{most_domains, most_windows}
 use Rattle.refusal.specs.declared.Refusal.TheVariants.{FrameOutOfLimits}
 use Rattle.refusal.specs.declared.Verdict.TheVariants.{Accepted, Refused}
-use Rattle.pirkvezo.specs.Answers.{answerLength, answer_of, wrongLength}
+use Rattle.pirkvezo.specs.Answers.{answer_length, answer_of, wrong_length}
 use Rattle.pirkvezo.specs.Framing.{FrameCall, frame_done, frame_fits, host_frame, host_frame_with}
 use Rattle.pirkvezo.specs.Numbers.{numbers_from}
 use Rattle.pirkvezo.specs.Theorems.{FrameAcceptedExactly, FrameKeepsPromises, RefusedFrameLeaves}
@@ -29,7 +29,7 @@ use Rattle.pirkvezo.proofs.Whole.{run_all}
 pub record FrameLengths (weights frame answer : List ℕ) : Type 0 where
   pub weights_are : length weights ≡ most_domains
   pub frame_is : length frame ≡ most_windows
-  pub answer_is : length answer ≡ answerLength
+  pub answer_is : length answer ≡ answer_length
 
 pub frame_lengths :
     (weights frame answer : List ℕ)
@@ -43,7 +43,7 @@ frame_lengths weights frame answer fit =
 module _ (count : ℕ) (weights frame answer : List ℕ) (number : ℕ) (written : List ℕ) where
   pub frame_unfit :
       frame_fits weights frame answer ≡ false
-      → Told wrongLength 0 0 answer number written
+      → Told wrong_length 0 0 answer number written
       → host_frame_with number frame written ≡ host_frame count weights frame answer
   unfolding host_frame
   frame_unfit unfit tells = rw (unfit, host_frame, tells.number_is, tells.answer_is) refl
@@ -71,7 +71,7 @@ module _ (count : ℕ) (weights frame answer : List ℕ) (number : ℕ) (written
 
 module _ (count : ℕ) (weights frame answer : List ℕ) where
   unfit_call : frame_fits weights frame answer ≡ false
-      → host_frame count weights frame answer ≡ host_frame_with 11 frame (answer_of wrongLength 0 0 answer)
+      → host_frame count weights frame answer ≡ host_frame_with 11 frame (answer_of wrong_length 0 0 answer)
   unfolding host_frame
   unfit_call unfit = rw (unfit, host_frame)
 

@@ -14,7 +14,7 @@ use Rattle.engine.specs.Checks.{fresh_verdict, kept_verdict, run_verdict}
 use Rattle.engine.specs.FreshStart.{fresh_from, fresh_start_of}
 use Rattle.engine.specs.Keeping.{kept_call_of}
 use Rattle.engine.specs.Running.{RunOutcome, outcome_from, ran_from, run_call_of}
-use Rattle.pirkvezo.specs.Answers.{all_fit, answer_of, verdictNumber, wrongLength}
+use Rattle.pirkvezo.specs.Answers.{all_fit, answer_of, verdict_number, wrong_length}
 use Rattle.pirkvezo.specs.Numbers.{plan_of, state_length, state_numbers, state_of}
 use Rattle.pirkvezo.specs.Running.{RunCall, host_run, host_run_by, host_run_with, run_done}
 use Rattle.pirkvezo.specs.Keeping.{host_run_kept}
@@ -43,7 +43,7 @@ fresh_kept plan state cache boxes answer refused = go (all_fit plan state answer
         → all_fit plan state answer ≡ b
         → FreshKept state cache boxes (host_fresh_start plan state cache boxes answer)
     go false e =
-        let unfit : host_fresh_start plan state cache boxes answer ≡ host_fresh_with (verdictNumber wrongLength) state cache boxes (answer_of wrongLength 0 0 answer) =
+        let unfit : host_fresh_start plan state cache boxes answer ≡ host_fresh_with (verdict_number wrong_length) state cache boxes (answer_of wrong_length 0 0 answer) =
         rw (e, host_fresh_start) refl in
         rw unfit (record { state_is = refl; cache_is = refl; boxes_are = refl })
     go true e =
@@ -59,10 +59,10 @@ fresh_kept plan state cache boxes answer refused = go (all_fit plan state answer
 -- where it refuses, it leaves the world that it was handed
 abbrev Keeps : (Plan → World → RunOutcome) → Type 0
 Keeps run =
-    (plan : Plan) (world : World) → (verdictNumber (run plan world).verdict ≡ 0 → ⊥) → (run plan world).world ≡ world
+    (plan : Plan) (world : World) → (verdict_number (run plan world).verdict ≡ 0 → ⊥) → (run plan world).world ≡ world
 
 outcome_keeps : (verdict : Verdict) (plan : Plan) (ran : RunEffect) (world : World)
-    → (verdictNumber (outcome_from verdict plan ran world).verdict ≡ 0 → ⊥)
+    → (verdict_number (outcome_from verdict plan ran world).verdict ≡ 0 → ⊥)
     → (outcome_from verdict plan ran world).world ≡ world
 unfolding ran_from
 outcome_keeps Accepted plan ran world refused = absurd (refused refl)
@@ -81,7 +81,7 @@ module _ (run : Plan → World → RunOutcome) (keeps : Keeps run) (plan state c
           → RunKept state cache boxes log (host_run_by run plan state cache boxes log answer)
       go false e =
           let unfit : host_run_by run plan state cache boxes log answer
-          ≡ host_run_with (verdictNumber wrongLength) state cache boxes log (answer_of wrongLength 0 0 answer) =
+          ≡ host_run_with (verdict_number wrong_length) state cache boxes log (answer_of wrong_length 0 0 answer) =
           rw (e, host_run_by) refl in
           rw unfit (record { state_is = refl; cache_is = refl; boxes_are = refl; log_is = refl })
       go true e =

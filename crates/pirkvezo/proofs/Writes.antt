@@ -9,8 +9,8 @@ use Rattle.refusal.specs.declared.Verdict.{Verdict}
 use Rattle.refusal.specs.declared.Verdict.TheVariants.{Accepted, Refused}
 use Rattle.writer.specs.Canonical.{canonical_text}
 use Rattle.writer.specs.Write.{WriteOutcome, write_from, write_of, write_verdict, write_with}
-use Rattle.writer.proofs.Answers.{impossible-alike}
-use Rattle.pirkvezo.specs.Answers.{answer_of, planFits, wrongLength}
+use Rattle.writer.proofs.Answers.{impossible_alike}
+use Rattle.pirkvezo.specs.Answers.{answer_of, plan_fits, wrong_length}
 use Rattle.pirkvezo.specs.Numbers.{handed_plan, plan_of}
 use Rattle.pirkvezo.specs.Theorems.{RefusedWriteKeeps}
 use Rattle.pirkvezo.specs.Writing.{WriteCall, host_write, host_write_with, write_done}
@@ -18,13 +18,13 @@ use Rattle.pirkvezo.proofs.Calls.{Told}
 use Rattle.pirkvezo.proofs.Judged.{handed}
 
 module _ (plan scripts out answer : List ℕ) (number : ℕ) (told : List ℕ) where
-  pub write_unfit : planFits plan answer ≡ false → Told wrongLength 0 0 answer number told → host_write_with number out told ≡ host_write plan scripts out answer
+  pub write_unfit : plan_fits plan answer ≡ false → Told wrong_length 0 0 answer number told → host_write_with number out told ≡ host_write plan scripts out answer
   unfolding host_write
   write_unfit unfit tells = rw (unfit, host_write, tells.number_is, tells.answer_is) refl
 
   pub write_fit :
       (lent : Plan) (verdict : Verdict) (bytes : ℕ) (after : List ℕ)
-      → planFits plan answer ≡ true
+      → plan_fits plan answer ≡ true
       → lent ≡ handed_plan plan
       → write_with verdict bytes after ≡ write_of lent scripts out
       → Told verdict bytes 0 answer number told
@@ -34,7 +34,7 @@ module _ (plan scripts out answer : List ℕ) (number : ℕ) (told : List ℕ) w
       let done : write_with verdict bytes after ≡ write_of (plan_of plan) scripts out =
       did
       ∙ ap (λ (p : Plan). write_of p scripts out) planned
-      ∙ handed (λ p. write_of p scripts out) (impossible-alike scripts out) plan in
+      ∙ handed (λ p. write_of p scripts out) (impossible_alike scripts out) plan in
       rw (fit, host_write, tells.number_is, tells.answer_is) (ap (λ (written : WriteOutcome). write_done written answer) done)
 
 -- ---- a refused writing
@@ -49,12 +49,12 @@ write_judged text out answer (Refused refusal) refused = refl
 
 pub write_kept : RefusedWriteKeeps
 unfolding host_write write_of
-write_kept plan scripts out answer refused = go (planFits plan answer) refl
+write_kept plan scripts out answer refused = go (plan_fits plan answer) refl
   where
-    go : (fit : Bool) → planFits plan answer ≡ fit → (host_write plan scripts out answer).out ≡ out
+    go : (fit : Bool) → plan_fits plan answer ≡ fit → (host_write plan scripts out answer).out ≡ out
     go false e = ap (λ (call : WriteCall). call.out) (unfit e)
       where
-        unfit : planFits plan answer ≡ false → host_write plan scripts out answer ≡ host_write_with 11 out (answer_of wrongLength 0 0 answer)
+        unfit : plan_fits plan answer ≡ false → host_write plan scripts out answer ≡ host_write_with 11 out (answer_of wrong_length 0 0 answer)
         unfit e = rw (e, host_write) refl
     go true e =
         let verdict = write_verdict (plan_of plan) scripts (length out) in

@@ -3,7 +3,7 @@
 use Rattle.std.specs.Prelude.{ℕ, true, false, List}
 use Rattle.bound.specs.declared.BoundAnswer.{BoundAnswer}
 use Rattle.bound.specs.Bound.{bound_answer_of}
-use Rattle.pirkvezo.specs.Answers.{answer_of, planFits, verdictNumber, wrongLength}
+use Rattle.pirkvezo.specs.Answers.{answer_of, plan_fits, verdict_number, wrong_length}
 use Rattle.pirkvezo.specs.Numbers.{plan_of}
 
 -- the number returned, and the answer after the call
@@ -18,13 +18,13 @@ host_bound_with number answer = record { number = number; answer = answer }
 -- the answer's third number is the bound, 0 beside a refusal, and its fourth is 0
 unfoldable pub bound_done : BoundAnswer → List ℕ → BoundCall
 bound_done found answer =
-    host_bound_with (verdictNumber found.verdict) (answer_of found.verdict found.steps 0 answer)
+    host_bound_with (verdict_number found.verdict) (answer_of found.verdict found.steps 0 answer)
 
 -- the call: the plan's and the answer's lengths first, then what is answered for the plan that the
 -- numbers stand for
 unfoldable pub host_bound : List ℕ → List ℕ → List ℕ → BoundCall
 host_bound plan scripts answer =
-    elim (planFits plan answer) [
-      | false ↦ host_bound_with (verdictNumber wrongLength) (answer_of wrongLength 0 0 answer)
+    elim (plan_fits plan answer) [
+      | false ↦ host_bound_with (verdict_number wrong_length) (answer_of wrong_length 0 0 answer)
       | true ↦ bound_done (bound_answer_of (plan_of plan) scripts) answer
     ]

@@ -4,7 +4,7 @@ use Rattle.std.specs.Prelude.{ℕ, Bool, true, false, ◌&&◌, List, eqb, lengt
 use Rattle.frame.specs.declared.FrameAnswer.{FrameAnswer}
 use Rattle.frame.specs.Frame.{frame_answer_of}
 use Rattle.plan.specs.Limits.{most_domains, most_windows}
-use Rattle.pirkvezo.specs.Answers.{answerLength, answer_of, verdictNumber, wrongLength}
+use Rattle.pirkvezo.specs.Answers.{answer_length, answer_of, verdict_number, wrong_length}
 
 -- the number returned, and the buffers after the call
 pub record FrameCall : Type 0 where
@@ -20,18 +20,18 @@ host_frame_with number frame answer = record { number = number; frame = frame; a
 abbrev pub frame_fits : List ℕ → List ℕ → List ℕ → Bool
 frame_fits weights frame answer =
     eqb (length weights) most_domains
-    && (eqb (length frame) most_windows && eqb (length answer) answerLength)
+    && (eqb (length frame) most_windows && eqb (length answer) answer_length)
 
 -- what the maker answers: its frame, which is zeros beside 15, is written whole. The answer's third
 -- and fourth number are 0.
 unfoldable pub frame_done : FrameAnswer → List ℕ → FrameCall
 frame_done made answer =
-    host_frame_with (verdictNumber made.verdict) made.frame (answer_of made.verdict 0 0 answer)
+    host_frame_with (verdict_number made.verdict) made.frame (answer_of made.verdict 0 0 answer)
 
 -- the call: a wrong length leaves the frame as it was lent, as in every call; then the maker's answer
 unfoldable pub host_frame : ℕ → List ℕ → List ℕ → List ℕ → FrameCall
 host_frame count weights frame answer =
     elim (frame_fits weights frame answer) [
-      | false ↦ host_frame_with (verdictNumber wrongLength) frame (answer_of wrongLength 0 0 answer)
+      | false ↦ host_frame_with (verdict_number wrong_length) frame (answer_of wrong_length 0 0 answer)
       | true ↦ frame_done (frame_answer_of count weights) answer
     ]

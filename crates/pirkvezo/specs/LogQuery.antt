@@ -8,7 +8,7 @@ use Rattle.refusal.specs.declared.Verdict.{Verdict}
 use Rattle.refusal.specs.declared.Verdict.TheVariants.{Accepted, Refused}
 use Rattle.engine.specs.LogQuery.{log_query_of, log_status_of}
 use Rattle.pirkvezo.specs.declared.LogAnswer.{LogAnswer}
-use Rattle.pirkvezo.specs.Answers.{all_fit, answer_of, verdictNumber, wrongLength}
+use Rattle.pirkvezo.specs.Answers.{all_fit, answer_of, verdict_number, wrong_length}
 use Rattle.pirkvezo.specs.Numbers.{plan_of, state_of}
 
 -- the number returned, and the answer after the call
@@ -37,13 +37,13 @@ log_answer_of plan state log domain =
 -- these two are an answer's third and fourth number
 unfoldable pub log_done : LogAnswer → List ℕ → LogCall
 log_done query answer =
-    host_log_with (verdictNumber query.verdict)
+    host_log_with (verdict_number query.verdict)
     (answer_of query.verdict query.offset query.length answer)
 
 -- the call: lengths first, then what the entry point does
 unfoldable pub host_log : List ℕ → List ℕ → List ℕ → ℕ → List ℕ → LogCall
 host_log plan state log domain answer =
     elim (all_fit plan state answer) [
-      | false ↦ host_log_with (verdictNumber wrongLength) (answer_of wrongLength 0 0 answer)
+      | false ↦ host_log_with (verdict_number wrong_length) (answer_of wrong_length 0 0 answer)
       | true ↦ log_done (log_answer_of (plan_of plan) (state_of state) log domain) answer
     ]

@@ -5,7 +5,7 @@ use Rattle.plan.specs.declared.Plan.{Plan}
 use Rattle.state.specs.World.{World}
 use Rattle.engine.specs.Running.{RunOutcome, ending_number, run_call_of, step_call_of}
 use Rattle.machine.specs.View.{world_with}
-use Rattle.pirkvezo.specs.Answers.{all_fit, answer_of, verdictNumber, wrongLength}
+use Rattle.pirkvezo.specs.Answers.{all_fit, answer_of, verdict_number, wrong_length}
 use Rattle.pirkvezo.specs.Numbers.{plan_of, state_numbers, state_of}
 
 -- the number returned, and the buffers after the call
@@ -32,7 +32,7 @@ host_run_with number state cache boxes log answer =
 -- an answer's third and fourth number: the steps done, and 1 for ended, 0 for stopped
 unfoldable pub run_done : RunOutcome → List ℕ → RunCall
 run_done run answer =
-    host_run_with (verdictNumber run.verdict) (state_numbers run.world.state)
+    host_run_with (verdict_number run.verdict) (state_numbers run.world.state)
     run.world.cache run.world.boxes run.world.log
     (answer_of run.verdict run.steps (ending_number run.ending) answer)
 
@@ -41,8 +41,8 @@ unfoldable pub host_run_by :
     (Plan → World → RunOutcome) → List ℕ → List ℕ → List ℕ → List ℕ → List ℕ → List ℕ → RunCall
 host_run_by run plan state cache boxes log answer =
     elim (all_fit plan state answer) [
-      | false ↦ host_run_with (verdictNumber wrongLength) state cache boxes log
-          (answer_of wrongLength 0 0 answer)
+      | false ↦ host_run_with (verdict_number wrong_length) state cache boxes log
+          (answer_of wrong_length 0 0 answer)
       | true ↦ run_done (run (plan_of plan) (world_with (state_of state) cache boxes log)) answer
     ]
 

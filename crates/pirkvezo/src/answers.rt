@@ -1,7 +1,7 @@
 // The four numbers of an answer.
 ghost use Rattle.std.specs.Prelude.{◌≡◌};
 ghost use Rattle.engine.specs.Running.{ending_number};
-ghost use Rattle.pirkvezo.specs.Answers.{answer_of, verdictNumber, wrongLength};
+ghost use Rattle.pirkvezo.specs.Answers.{answer_of, verdict_number, wrong_length};
 
 use crate::offsets::ANSWER_LENGTH;
 use engine::Ending;
@@ -9,7 +9,7 @@ use refusal::{Refusal, Verdict, code_of};
 
 // Writes an answer and returns its first number. An answer of another length stays as it is.
 pub fn put_answer(answer: &mut [u64], verdict: Verdict, third: u64, fourth: u64) -> u32
-    ensures { (result ≡ verdictNumber verdict)
+    ensures { (result ≡ verdict_number verdict)
         × (answer.new ≡ answer_of verdict third fourth answer.old) }
 {
     let code = code_of(verdict);
@@ -24,8 +24,8 @@ pub fn put_answer(answer: &mut [u64], verdict: Verdict, third: u64, fourth: u64)
 
 // 11: a lent array of another length.
 pub fn refuse_length(answer: &mut [u64]) -> u32
-    ensures { (result ≡ verdictNumber wrongLength)
-        × (answer.new ≡ answer_of wrongLength 0 0 answer.old) }
+    ensures { (result ≡ verdict_number wrong_length)
+        × (answer.new ≡ answer_of wrong_length 0 0 answer.old) }
 {
     put_answer(answer, Verdict::Refused(Refusal::WrongLength), 0, 0)
 }

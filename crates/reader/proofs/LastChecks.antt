@@ -145,9 +145,9 @@ pub record Passes (draft : Draft) : Type 0 where
   pub coloured : draft.plan.domains ≤ first_colourless draft.plan draft.plan.domains 0
   pub ticks : ticks_total draft.plan ≤ most_run_ticks
 
-pub passes : (textLength : ℕ) (draft : Draft) → final_verdict textLength draft ≡ Accepted → Passes draft
+pub passes : (text_length : ℕ) (draft : Draft) → final_verdict text_length draft ≡ Accepted → Passes draft
 unfolding final_verdict shares_verdict
-passes textLength draft accepted =
+passes text_length draft accepted =
     let first = when_passed _ _ _ accepted in
     let second = both_passed _ _ first.1 in
     let rest = both_passed _ _ second.1 in

@@ -23,10 +23,10 @@ use Rattle.reader.specs.declared.Draft.{Draft}
 use Rattle.reader.specs.Final.{final_verdict, first_colourless, may_verdict, shares_verdict, undeclared_mentions}
 use Rattle.reader.specs.Theorems.{OverFifteen, SixteenTold}
 
-told : (textLength : ℕ) (draft : Draft) → OverFifteen draft
-    → final_verdict textLength draft ≡ Refused (ColoursOverFifteen (colours_total draft.plan))
+told : (text_length : ℕ) (draft : Draft) → OverFifteen draft
+    → final_verdict text_length draft ≡ Refused (ColoursOverFifteen (colours_total draft.plan))
 unfolding final_verdict shares_verdict
-told textLength draft here =
+told text_length draft here =
     rw (
       here.nothing_lacking,
       here.all_declared,
@@ -62,14 +62,14 @@ module _ (colours : ℕ) where
       let here = when_here sixteen _ (ColoursOverFifteen (colours_total plan)) _ after before.1 in
       (ltb-false _ _ before.0, ltb-true _ _ here.0, sym (same_companion (ColoursOverFifteen (colours_total plan)) sixteen here.1))
 
-  only : (textLength : ℕ) (draft : Draft) → final_verdict textLength draft ≡ Refused sixteen
+  only : (text_length : ℕ) (draft : Draft) → final_verdict text_length draft ≡ Refused sixteen
       → OverFifteen draft × (colours ≡ colours_total draft.plan)
   unfolding final_verdict
-  only textLength draft e =
+  only text_length draft e =
       let plan = draft.plan in
       let mentions = undeclared_mentions draft.named plan.domains in
       let after = not_last (ltb most_run_ticks (ticks_total plan)) RunTooLong (λ n. omega arith) in
-      let first = when_behind sixteen _ _ _ (other_number (RepeatedOrMissing textLength) (λ n. omega arith)) e in
+      let first = when_behind sixteen _ _ _ (other_number (RepeatedOrMissing text_length) (λ n. omega arith)) e in
       let second = then_behind sixteen (may_verdict mentions) _ (not_may mentions) first.1 in
       let here = of_shares plan (then_here sixteen _ _ after second.1) in (
         record {
@@ -82,12 +82,12 @@ module _ (colours : ℕ) where
       )
 
 pub sixteen_told : SixteenTold
-sixteen_told textLength draft =
+sixteen_told text_length draft =
     record {
-      told = told textLength draft;
-      only = λ colours. only colours textLength draft;
+      told = told text_length draft;
+      only = λ colours. only colours text_length draft;
       at_most =
           λ colours few e.
-          let here = only colours textLength draft e in
+          let here = only colours text_length draft e in
           omega (arith, here.1, totals_bounded draft.plan few here.0.shares);
     }

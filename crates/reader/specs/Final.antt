@@ -68,9 +68,9 @@ shares_verdict plan =
 
 -- the checks after the last line, in their order: 5, 4, then 7, 16 and 6, then 9
 unfoldable pub final_verdict : ℕ → Draft → Verdict
-final_verdict textLength draft =
+final_verdict text_length draft =
     let plan = draft.plan in
-    when (lacking plan) (RepeatedOrMissing textLength)
+    when (lacking plan) (RepeatedOrMissing text_length)
     (and_then (may_verdict (undeclared_mentions draft.named plan.domains))
     (and_then (shares_verdict plan)
     (when (ltb most_run_ticks (ticks_total plan)) RunTooLong Accepted)))

@@ -17,19 +17,19 @@ pub record OverFifteen (draft : Draft) : Type 0 where
 
 -- then a text whose lines were all taken is refused with 16 and the colours' total, whatever else is
 -- wrong with it; and it is refused with 16 only then, never with more than 19 beside it
-pub record SixteenExactly (textLength : ℕ) (draft : Draft) : Type 0 where
+pub record SixteenExactly (text_length : ℕ) (draft : Draft) : Type 0 where
   pub told :
       OverFifteen draft
-      → final_verdict textLength draft ≡ Refused (ColoursOverFifteen (colours_total draft.plan))
+      → final_verdict text_length draft ≡ Refused (ColoursOverFifteen (colours_total draft.plan))
   pub only :
       (colours : ℕ)
-      → final_verdict textLength draft ≡ Refused (ColoursOverFifteen colours)
+      → final_verdict text_length draft ≡ Refused (ColoursOverFifteen colours)
       → OverFifteen draft × (colours ≡ colours_total draft.plan)
   pub at_most :
       (colours : ℕ)
       → draft.plan.domains ≤ most_domains
-      → final_verdict textLength draft ≡ Refused (ColoursOverFifteen colours)
+      → final_verdict text_length draft ≡ Refused (ColoursOverFifteen colours)
       → colours ≤ most_colours_total
 
 abbrev pub SixteenTold : Type 0
-SixteenTold = (textLength : ℕ) (draft : Draft) → SixteenExactly textLength draft
+SixteenTold = (text_length : ℕ) (draft : Draft) → SixteenExactly text_length draft

@@ -118,12 +118,12 @@ none_lacking plan valid =
     )
 
 pub accepted :
-    (plan : Plan) (counts named : List ℕ) (textLength : ℕ)
+    (plan : Plan) (counts named : List ℕ) (text_length : ℕ)
     → plan_valid plan ≡ true
     → Quiet plan.domains named
-    → final_verdict textLength (draft_with (unmasked plan) counts named) ≡ Accepted
+    → final_verdict text_length (draft_with (unmasked plan) counts named) ≡ Accepted
 unfolding final_verdict shares_verdict shares_total first_colour ticks_total
-accepted plan counts named textLength valid quiet =
+accepted plan counts named text_length valid quiet =
     let sound = parts plan valid in
     rw (
       none_lacking plan valid,

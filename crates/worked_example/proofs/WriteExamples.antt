@@ -27,7 +27,7 @@ use Rattle.writer.specs.Canonical.{canonical_lines, canonical_text, followed, it
 use Rattle.writer.specs.Lines.{domain_line, op_line, op_text, pad_line, recipients_of, rising_from, run_line, spaced, window_line}
 use Rattle.writer.specs.Scripts.{op_or_zero, ops_alone, written_ops}
 use Rattle.writer.specs.Write.{write_with}
-use Rattle.writer.proofs.Answers.{accepted, impossible-plan, not-alone, too_short, wrong-length}
+use Rattle.writer.proofs.Answers.{accepted, impossible_plan, not_alone, too_short, wrong_length_lem}
 use Rattle.roundtrip.proofs.Writable.{Fine, read_fine}
 use Rattle.worked_example.specs.Example.{example_plan, text_of}
 use Rattle.worked_example.specs.WorkedExample.{example_read}
@@ -92,7 +92,7 @@ others domain position number out below within fails =
     let part = all_below_fails (op_or_zero plan.domains scripts domain) most_ops position within fails in
     let store = length-set example_read.scripts (most_ops * domain + position) number ∙ fine.store in
     let alone = all_below_fails (λ (other : ℕ). all_below (op_or_zero plan.domains scripts other) most_ops) most_domains domain below (sym part) in
-    sym (not-alone plan scripts out store fine.valid (sym alone))
+    sym (not_alone plan scripts out store fine.valid (sym alone))
 
 no_plan_impossible : plan_valid no_plan ≡ false
 unfolding plan_valid counts_valid no_plan
@@ -114,6 +114,6 @@ write_examples =
       behind_end = others 1 3 (stored_of (Compute 1)) (room 300) (omega arith) (omega arith) refl;
       at_end = others 1 2 7 (room 300) (omega arith) (omega arith) refl;
       undeclared = others 2 0 (stored_of (Compute 1)) [] (omega arith) (omega arith) refl;
-      impossible = sym (impossible-plan no_plan example_read.scripts [] fine.store no_plan_impossible);
-      short_store = sym (wrong-length no_plan (take 2_047 example_read.scripts) [] one_less);
+      impossible = sym (impossible_plan no_plan example_read.scripts [] fine.store no_plan_impossible);
+      short_store = sym (wrong_length_lem no_plan (take 2_047 example_read.scripts) [] one_less);
     }

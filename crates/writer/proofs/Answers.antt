@@ -22,25 +22,25 @@ use Rattle.writer.specs.Scripts.{ops_alone}
 use Rattle.writer.specs.Write.{writable, write_of, write_verdict, write_with}
 
 -- a text that was stored at a buffer's start is what stands first in it
-first-bytes : (buffer text : List ℕ) → length text ≤ length buffer → take (length text) (sets buffer 0 text) ≡ text
-first-bytes buffer text room =
+first_bytes : (buffer text : List ℕ) → length text ≤ length buffer → take (length text) (sets buffer 0 text) ≡ text
+first_bytes buffer text room =
     let whole = rw (zero-add (length text)) at (sets-eq text buffer 0 (omega arith)) in
     ap (take (length text)) whole ∙ take-append_seam text (drop (length text) buffer)
 
 module _ (plan : Plan) (scripts out : List ℕ) where
-  pub wrong-length : (length scripts ≡ scripts_length → ⊥) → write_with (Refused WrongLength) 0 out ≡ write_of plan scripts out
+  pub wrong_length_lem : (length scripts ≡ scripts_length → ⊥) → write_with (Refused WrongLength) 0 out ≡ write_of plan scripts out
   unfolding write_of write_verdict
-  wrong-length differs = rw (ne_eqb (length scripts) scripts_length differs) refl
+  wrong_length_lem differs = rw (ne_eqb (length scripts) scripts_length differs) refl
 
   module _ (store : length scripts ≡ scripts_length) where
-    pub impossible-plan : plan_valid plan ≡ false → write_with (Refused ImpossiblePlan) 0 out ≡ write_of plan scripts out
+    pub impossible_plan : plan_valid plan ≡ false → write_with (Refused ImpossiblePlan) 0 out ≡ write_of plan scripts out
     unfolding write_of write_verdict writable
-    impossible-plan impossible = rw (eq-eqb (length scripts) scripts_length store, impossible) refl
+    impossible_plan impossible = rw (eq-eqb (length scripts) scripts_length store, impossible) refl
 
     module _ (possible : plan_valid plan ≡ true) where
-      pub not-alone : ops_alone plan scripts ≡ false → write_with (Refused ImpossiblePlan) 0 out ≡ write_of plan scripts out
+      pub not_alone : ops_alone plan scripts ≡ false → write_with (Refused ImpossiblePlan) 0 out ≡ write_of plan scripts out
       unfolding write_of write_verdict writable
-      not-alone others = rw (eq-eqb (length scripts) scripts_length store, possible, others) refl
+      not_alone others = rw (eq-eqb (length scripts) scripts_length store, possible, others) refl
 
       module _ (alone : ops_alone plan scripts ≡ true) where
         pub too_long : most_text_bytes < length (canonical_text plan scripts) → write_with (Refused ImpossiblePlan) 0 out ≡ write_of plan scripts out
@@ -94,20 +94,20 @@ module _ (plan : Plan) (scripts out : List ℕ) where
           handed buffer wrote size room =
               let text = canonical_text plan scripts in
               let needed = (wrote_first buffer text wrote).0 in
-              rw (wrote.1, needed, first-bytes buffer text (omega (arith, fits, size))) (accepted (omega (arith, needed, room)))
+              rw (wrote.1, needed, first_bytes buffer text (omega (arith, fits, size))) (accepted (omega (arith, needed, room)))
 
 -- one impossible plan is judged as another
-pub impossible-alike :
+pub impossible_alike :
     (scripts out : List ℕ) (one other : Plan)
     → plan_valid one ≡ false
     → plan_valid other ≡ false
     → write_of one scripts out ≡ write_of other scripts out
-impossible-alike scripts out one other impossible impossible' = go (eqb (length scripts) scripts_length) refl
+impossible_alike scripts out one other impossible impossible' = go (eqb (length scripts) scripts_length) refl
   where
     go : (fits : Bool) → eqb (length scripts) scripts_length ≡ fits → write_of one scripts out ≡ write_of other scripts out
     go false test =
         let differs = eqb-false (length scripts) scripts_length test in
-        sym (wrong-length one scripts out differs) ∙ wrong-length other scripts out differs
+        sym (wrong_length_lem one scripts out differs) ∙ wrong_length_lem other scripts out differs
     go true test =
         let store = eqb-true (length scripts) scripts_length test in
-        sym (impossible-plan one scripts out store impossible) ∙ impossible-plan other scripts out store impossible'
+        sym (impossible_plan one scripts out store impossible) ∙ impossible_plan other scripts out store impossible'

@@ -7,7 +7,7 @@ use Prim.Native.Nat.{ℕ}
 use Rattle.plan.specs.declared.Plan.{Plan}
 use Rattle.latest.specs.Answer.{domain_fits}
 use Rattle.latest.specs.Bounds.{Fitting}
-use Rattle.latest.proofs.Answers.{accepted-is, impossible-plan, out-of-limits, refused-is, wrong-length}
+use Rattle.latest.proofs.Answers.{accepted_is, impossible_plan, out_of_limits, refused_is, wrong_length_lem}
 use Rattle.latest.proofs.Ranges.{parts_bounded}
 use Rattle.latest.proofs.latest.Goals as goal
 
@@ -20,12 +20,12 @@ fitting_by :
 fitting_by plan domain possible fits = (possible, fits)
 
 pub returns-then-script-ne-MOST_OPS : goal.returns-then-script-ne-MOST_OPS
-returns-then-script-ne-MOST_OPS c = refused-is _ _ _ _ _ (wrong-length _ _ _ c.if-script-ne-MOST_OPS.true) c.refuse.ensures
+returns-then-script-ne-MOST_OPS c = refused_is _ _ _ _ _ (wrong_length_lem _ _ _ c.if-script-ne-MOST_OPS.true) c.refuse.ensures
 
 pub returns-then-not-is_valid : goal.returns-then-not-is_valid
 returns-then-not-is_valid c =
-    refused-is _ _ _ _ _
-    (impossible-plan _ _ _ c.if-script-ne-MOST_OPS.false
+    refused_is _ _ _ _ _
+    (impossible_plan _ _ _ c.if-script-ne-MOST_OPS.false
     (sym c.is_valid.ensures ∙ c.if-not-is_valid.true))
     c.refuse-then-not-is_valid.ensures
 
@@ -34,8 +34,8 @@ domain_fits-requires c = (counts _ (sym c.is_valid.ensures ∙ c.if-not-is_valid
 
 pub returns-then-not-domain_fits : goal.returns-then-not-domain_fits
 returns-then-not-domain_fits c =
-    refused-is _ _ _ _ _
-    (out-of-limits _ _ _ c.if-script-ne-MOST_OPS.false (sym c.is_valid.ensures ∙ c.if-not-is_valid.false)
+    refused_is _ _ _ _ _
+    (out_of_limits _ _ _ c.if-script-ne-MOST_OPS.false (sym c.is_valid.ensures ∙ c.if-not-is_valid.false)
     (sym c.domain_fits.ensures ∙ c.if-not-domain_fits.true))
     c.refuse-then-not-domain_fits.ensures
 
@@ -45,7 +45,7 @@ write_script-requires c =
 
 pub returns : goal.returns
 returns c =
-    accepted-is _ _ _ _ c.late_script_of-parts.result _ c.if-script-ne-MOST_OPS.false (fitting_by _ _ (sym c.is_valid.ensures ∙ c.if-not-is_valid.false) (sym c.domain_fits.ensures ∙ c.if-not-domain_fits.false))
+    accepted_is _ _ _ _ c.late_script_of-parts.result _ c.if-script-ne-MOST_OPS.false (fitting_by _ _ (sym c.is_valid.ensures ∙ c.if-not-is_valid.false) (sym c.domain_fits.ensures ∙ c.if-not-domain_fits.false))
     c.latest_ticks-ticks.ensures
     c.late_script_of-parts.ensures
     c.write_script.ensures

@@ -9,21 +9,21 @@ use Rattle.refusal.specs.declared.Refusal.TheVariants.{BufferTooShort}
 use Rattle.refusal.specs.declared.Verdict.TheVariants.{Refused}
 use Rattle.writer.specs.Canonical.{canonical_text}
 use Rattle.writer.specs.Write.{write_with}
-use Rattle.writer.proofs.Answers.{handed, impossible-plan, not-alone, too_long, too_short, wrong-length}
+use Rattle.writer.proofs.Answers.{handed, impossible_plan, not_alone, too_long, too_short, wrong_length_lem}
 use Rattle.writer.proofs.write_plan.Goals as goal
 
 -- the text, and that the number answered for it is its length
 pub returns-then-scripts-ne-SCRIPTS_LENGTH : goal.returns-then-scripts-ne-SCRIPTS_LENGTH
 returns-then-scripts-ne-SCRIPTS_LENGTH c =
     let args = c.args in
-    rw (c.refused_writing.ensures.0, c.refused_writing.ensures.1) (wrong-length args.plan args.scripts.now args.out.now c.if-scripts-ne-SCRIPTS_LENGTH.true)
+    rw (c.refused_writing.ensures.0, c.refused_writing.ensures.1) (wrong_length_lem args.plan args.scripts.now args.out.now c.if-scripts-ne-SCRIPTS_LENGTH.true)
 
 pub returns-then-not-is_valid : goal.returns-then-not-is_valid
 returns-then-not-is_valid c =
     let args = c.args in
     let impossible = sym c.is_valid.ensures ∙ c.if-not-is_valid.true in
     rw (c.refused_writing-then-not-is_valid.ensures.0, c.refused_writing-then-not-is_valid.ensures.1)
-    (impossible-plan args.plan args.scripts.now args.out.now c.if-scripts-ne-SCRIPTS_LENGTH.false impossible)
+    (impossible_plan args.plan args.scripts.now args.out.now c.if-scripts-ne-SCRIPTS_LENGTH.false impossible)
 
 pub returns-then-not-ops_alone : goal.returns-then-not-ops_alone
 returns-then-not-ops_alone c =
@@ -31,7 +31,7 @@ returns-then-not-ops_alone c =
     let possible = sym c.is_valid.ensures ∙ c.if-not-is_valid.false in
     let others = sym c.ops_alone.ensures ∙ c.if-not-ops_alone.true in
     rw (c.refused_writing-then-not-ops_alone.ensures.0, c.refused_writing-then-not-ops_alone.ensures.1)
-    (not-alone args.plan args.scripts.now args.out.now c.if-scripts-ne-SCRIPTS_LENGTH.false possible others)
+    (not_alone args.plan args.scripts.now args.out.now c.if-scripts-ne-SCRIPTS_LENGTH.false possible others)
 
 pub returns-then-needed-gt-MOST_TEXT_BYTES : goal.returns-then-needed-gt-MOST_TEXT_BYTES
 returns-then-needed-gt-MOST_TEXT_BYTES c =

@@ -16,8 +16,8 @@ use Rattle.frame.proofs.Taken.{taken}
 use Rattle.frame.proofs.quotas.windows_of.Goals as goal
 
 -- the windows of a domain, from the quotas' parts and the leftover windows
-abbrev ruleOf : List ℕ → List ℕ → ℕ → ℕ → ℕ
-ruleOf wholes remainders left domain =
+abbrev rule_of : List ℕ → List ℕ → ℕ → ℕ → ℕ
+rule_of wholes remainders left domain =
     entry_of wholes domain + cond (ltb (ahead_of (entry_of remainders) domain) left) 1 0
 
 pub leftover_of-left-requires : goal.leftover_of-left-requires

@@ -11,15 +11,15 @@ use Rattle.frame.specs.Quotas.{entry_of, ahead_of}
 use Rattle.frame.proofs.quotas.windows_of.Given as goal
 
 -- the windows of a domain, from the quotas' parts and the leftover windows
-abbrev ruleOf : List ℕ → List ℕ → ℕ → ℕ → ℕ
-ruleOf wholes remainders left domain =
+abbrev rule_of : List ℕ → List ℕ → ℕ → ℕ → ℕ
+rule_of wholes remainders left domain =
     entry_of wholes domain + cond (ltb (ahead_of (entry_of remainders) domain) left) 1 0
 
 abbrev pub invariant-loop-domain : goal.invariant-loop-domain
 invariant-loop-domain l =
     (l.domain ≤ most_domains)
     × (length l.windows ≡ most_domains)
-    × ((index : ℕ) → index < most_domains → get_or l.windows index 0 ≡ cond (ltb index l.domain) (ruleOf l.wholes l.remainders l.left index) 0)
+    × ((index : ℕ) → index < most_domains → get_or l.windows index 0 ≡ cond (ltb index l.domain) (rule_of l.wholes l.remainders l.left index) 0)
 
 abbrev pub decreases-loop-domain : goal.decreases-loop-domain
 decreases-loop-domain l = most_domains - l.domain

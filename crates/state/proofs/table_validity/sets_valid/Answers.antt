@@ -9,8 +9,8 @@ use Rattle.plan.specs.Sums.{all_below}
 use Rattle.state.proofs.table_validity.sets_valid.Goals as goal
 
 -- as many sets as the code looks at together
-abbrev setsPerBlock : ℕ
-setsPerBlock = 8
+abbrev sets_per_block : ℕ
+sets_per_block = 8
 
 pub loop-first-init : goal.loop-first-init
 unfolding all_below
@@ -23,13 +23,13 @@ pub returns-then-not-block_valid : goal.returns-then-not-block_valid
 returns-then-not-block_valid c =
     let fails = sym c.block_valid.ensures ∙ c.if-not-block_valid.true in
     let first = c.loop-first.first in
-    all_below_block_fails _ set_count first setsPerBlock (omega arith) fails
+    all_below_block_fails _ set_count first sets_per_block (omega arith) fails
 
 pub loop-first-preserved : goal.loop-first-preserved
 loop-first-preserved c =
     let loop = c.loop-first in
     let passes = sym c.block_valid.ensures ∙ c.if-not-block_valid.false in
-    (omega arith, omega arith, all_below_block _ loop.first setsPerBlock loop.invariant.2 passes)
+    (omega arith, omega arith, all_below_block _ loop.first sets_per_block loop.invariant.2 passes)
 
 pub returns : goal.returns
 returns c =

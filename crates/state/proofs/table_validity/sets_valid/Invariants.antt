@@ -9,12 +9,12 @@ use Rattle.state.specs.TableValidity.{set_valid}
 use Rattle.state.proofs.table_validity.sets_valid.Given as goal
 
 -- as many sets as the code looks at together
-abbrev setsPerBlock : ℕ
-setsPerBlock = 8
+abbrev sets_per_block : ℕ
+sets_per_block = 8
 
 abbrev pub invariant-loop-first : goal.invariant-loop-first
 invariant-loop-first l =
-    (l.first ≤ set_count) × (l.first % setsPerBlock ≡ 0) × (all_below (set_valid l.cache) l.first ≡ true)
+    (l.first ≤ set_count) × (l.first % sets_per_block ≡ 0) × (all_below (set_valid l.cache) l.first ≡ true)
 
 abbrev pub decreases-loop-first : goal.decreases-loop-first
 decreases-loop-first l = set_count - l.first

@@ -14,13 +14,13 @@ use Rattle.script.specs.Limits.{most_ops}
 use Rattle.writer.proofs.store.rest_empty.Goals as goal
 
 -- an op of the first ones stands at a position, or 0
-abbrev opOrNone : List ℕ → ℕ → ℕ → ℕ → Bool
-opOrNone scripts domain ops position = ltb position ops || eqb (get_or scripts (most_ops * domain + position) 0) 0
+abbrev op_or_none : List ℕ → ℕ → ℕ → ℕ → Bool
+op_or_none scripts domain ops position = ltb position ops || eqb (get_or scripts (most_ops * domain + position) 0) 0
 
 pub loop-position-init : goal.loop-position-init
 loop-position-init c =
     let args = c.args in
-    let test = opOrNone args.scripts.now args.domain args.ops in
+    let test = op_or_none args.scripts.now args.domain args.ops in
     (omega arith, c.requires.2, below_all test args.ops (λ position below. rw (lt-ltb position args.ops below) refl))
 
 pub returns-then-scripts-domain-ne0 : goal.returns-then-scripts-domain-ne0
@@ -28,7 +28,7 @@ returns-then-scripts-domain-ne0 c =
     let at4 = c in
     let loop = c.loop-position in
     let args = at4.args in
-    let test = opOrNone args.scripts.now args.domain args.ops in
+    let test = op_or_none args.scripts.now args.domain args.ops in
     all_below_fails test most_ops loop.position c.loop-position-test.true
     (rw (le-ltb loop.position args.ops loop.invariant.0, ne_eqb _ 0 c.if-scripts-domain-ne0.true) refl)
 
@@ -37,7 +37,7 @@ loop-position-preserved c =
     let at4 = c in
     let loop = c.loop-position in
     let args = at4.args in
-    let test = opOrNone args.scripts.now args.domain args.ops in
+    let test = op_or_none args.scripts.now args.domain args.ops in
     let here : test loop.position ≡ true = rw (le-ltb loop.position args.ops loop.invariant.0, eq-eqb _ 0 c.if-scripts-domain-ne0.false) refl in (
       omega (arith, loop.invariant.0),
       omega (arith, c.loop-position-test.true),
@@ -49,7 +49,7 @@ returns c =
     let loop = c.loop-position in
     let args = c.args in
     let ended : loop.position ≡ most_ops = omega (arith, loop.invariant.1, c.loop-position-test.false) in
-    sym loop.invariant.2 ∙ ap (all_below (opOrNone args.scripts.now args.domain args.ops)) ended
+    sym loop.invariant.2 ∙ ap (all_below (op_or_none args.scripts.now args.domain args.ops)) ended
 
 pub overflow_mul-domain : goal.overflow_mul-domain
 overflow_mul-domain c = omega (arith, c.requires.1)
