@@ -12,14 +12,14 @@ use refusal::Refusal;
 use script::Op;
 
 // A domain's share and its recipients, bit b for domain b. Its number is the next one.
-#[derive(Drop)]
+#[derive(Clone, Copy)]
 pub struct DomainLine {
     pub share: u32,
     pub rights: u32,
 }
 
 // A window's domain and its ticks.
-#[derive(Drop)]
+#[derive(Clone, Copy)]
 pub struct WindowLine {
     pub owner: u32,
     pub length: u32,

@@ -17,7 +17,7 @@ use script::limits::SCRIPTS_LENGTH;
 use walk::{hand_over, walk};
 
 // What the lines read so far have given, beside the script store.
-#[derive(Drop)]
+#[derive(Clone, Copy)]
 pub struct Draft {
     // masks stay 0 until the whole text is read; a pad or a run of 0 stands for none yet
     pub plan: Plan,
