@@ -1,7 +1,7 @@
 -- Where a window of a run starts, L1 and the kernel's sets hold what was left there by the switch in front, or by the
 -- fresh start. Assumes nothing.
 use Prim.Native.Nat.{zero, suc}
-use mathlib.Core.Path.{◌≡◌, sym, subst}
+use mathlib.Core.Path.{sym, subst}
 use Rattle.machine.specs.Steps.{run_by}
 use Rattle.machine.specs.WindowStart.{HoldsStart}
 use Rattle.machine.proofs.Switched.{fresh_holds, switch_holds}

@@ -1,6 +1,6 @@
 -- A run in which a domain's script is the one that is handed back: the start of the domain's first window, and each op of the script from
 -- there on. Assumes nothing.
-use Prim.Native.Nat.{ℕ, suc, ◌+◌, ◌-◌, ◌≤◌, ◌<◌}
+use Prim.Native.Nat.{ℕ, suc, ◌+◌, ◌≤◌, ◌<◌}
 use mathlib.Core.Bool.{true}
 use mathlib.Core.List.{List}
 use mathlib.Core.Path.{◌≡◌, sym, ap, subst, ◌∙◌}
@@ -12,7 +12,7 @@ use Rattle.plan.specs.Colours.{holding_of}
 use Rattle.plan.specs.Limits.{most_domains}
 use Rattle.plan.specs.Validity.{plan_valid}
 use Rattle.plan.specs.Windows.{window_length, window_owner, windows_total}
-use Rattle.plan.proofs.ValidPlans.{counts, declared}
+use Rattle.plan.proofs.ValidPlans.{counts}
 use Rattle.script.specs.declared.Op.{Op}
 use Rattle.script.specs.Limits.{OpWithinLimits, most_ops}
 use Rattle.script.specs.Stored.{stored_of}

@@ -2,7 +2,7 @@
 -- the first message the kernel's sets stay so; from then on, and in every other window from its start on, they hold the entry
 -- line and, where the domain has a box, lines of boxes. Dirty in L1 are only lines at the domain's own indices and, where it has
 -- a box, at the index of the boxes' lines. Assumes nothing.
-use Prim.Native.Nat.{ℕ, ◌+◌, ◌-◌, ◌≤◌, ◌<◌}
+use Prim.Native.Nat.{ℕ, ◌+◌, ◌≤◌, ◌<◌}
 use mathlib.Core.Bool.{Bool, true, false, false≢true, ◌&&◌, ◌||◌}
 use mathlib.Core.List.{List}
 use mathlib.Core.Path.{◌≡◌, sym, subst, ◌∙◌}

@@ -5,7 +5,7 @@ use native.Mathlib.Omega.{arith}
 use mathlib.Core.Bool.{true}
 use mathlib.Core.List.{List, ◌∷◌, ◌++◌, append_assoc}
 use mathlib.Core.Path.{◌≡◌, refl, subst}
-use lib.ListN.{get_or, length, replicate}
+use lib.ListN.{get_or, replicate}
 use borrow.Author.Tests.{lt-leb}
 use Rattle.forms.specs.declared.Form.TheVariants.{Pad, Run, Domain, Window}
 use Rattle.lists.specs.Ascii.{bytes_of}
