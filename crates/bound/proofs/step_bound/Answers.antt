@@ -14,14 +14,14 @@ pub returns-then-not-is_valid : goal.returns-then-not-is_valid
 returns-then-not-is_valid c = impossible_plan _ _ c.if-scripts-ne-SCRIPTS_LENGTH.false (sym c.is_valid.ensures ∙ c.if-not-is_valid.true)
 
 pub windows_total-switches-requires : goal.windows_total-switches-requires
-windows_total-switches-requires c = let count = counts _ (let it : plan_valid c.args.plan ≡ true = sym c.is_valid.ensures ∙ c.if-not-is_valid.false in it) in (count.run_most, count.windows_most)
+windows_total-switches-requires c = let count = counts _ (sym c.is_valid.ensures ∙ c.if-not-is_valid.false) in (count.run_most, count.windows_most)
 
 pub overflow_add-result : goal.overflow_add-result
 overflow_add-result c =
-    let most = parts_most _ _ _ _ (let it : plan_valid c.args.plan ≡ true = sym c.is_valid.ensures ∙ c.if-not-is_valid.false in it) c.ops_stored-ops.ensures c.windows_total-switches.ensures in
+    let most = parts_most _ _ _ _ (sym c.is_valid.ensures ∙ c.if-not-is_valid.false) c.ops_stored-ops.ensures c.windows_total-switches.ensures in
     omega arith
 
 pub returns : goal.returns
 returns c =
-    parts_answered _ _ _ _ (let it : plan_valid c.args.plan ≡ true = sym c.is_valid.ensures ∙ c.if-not-is_valid.false in it) c.ops_stored-ops.ensures c.windows_total-switches.ensures
+    parts_answered _ _ _ _ (sym c.is_valid.ensures ∙ c.if-not-is_valid.false) c.ops_stored-ops.ensures c.windows_total-switches.ensures
     c.if-scripts-ne-SCRIPTS_LENGTH.false
