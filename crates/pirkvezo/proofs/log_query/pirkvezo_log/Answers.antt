@@ -1,0 +1,29 @@
+-- `pirkvezo::log_query::pirkvezo_log` meets its contract. Assumes nothing.
+use Rattle.pirkvezo.proofs.Calls.{lengths, log_fit, log_unfit, told}
+use Rattle.pirkvezo.proofs.log_query.pirkvezo_log.Goals as goal
+
+pub returns-then-not-plan-state : goal.returns-then-not-plan-state
+returns-then-not-plan-state c =
+    let start = c.args in
+    log_unfit start.plan.now start.state.now start.log.now start.domain start.answer.now _ _ c.if-not-plan-state.true
+    (told c.refuse_length.ensures)
+
+pub load_plan-lent-requires : goal.load_plan-lent-requires
+load_plan-lent-requires c =
+    let start = c.args in
+    (lengths start.plan.now start.state.now start.answer.now c.if-not-plan-state.false).plan_is
+
+pub load_state-held-requires : goal.load_state-held-requires
+load_state-held-requires c =
+    let start = c.args in
+    (lengths start.plan.now start.state.now start.answer.now c.if-not-plan-state.false).state_is
+
+pub returns : goal.returns
+returns c =
+    let start = c.args in
+    log_fit start.plan.now start.state.now start.log.now start.domain start.answer.now _ _ _ _ _
+    c.if-not-plan-state.false
+    c.load_plan-lent.ensures
+    c.load_state-held.ensures
+    c.query_log-asked.ensures
+    (told c.put_answer.ensures)

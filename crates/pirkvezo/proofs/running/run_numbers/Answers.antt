@@ -1,0 +1,42 @@
+-- `pirkvezo::running::run_numbers` meets its contract. Assumes nothing.
+use Rattle.engine.specs.LentLog.{lent_call_of}
+use Rattle.pirkvezo.proofs.Judged.{lent_alike}
+use Rattle.pirkvezo.proofs.Calls.{lengths, run_fit, run_unfit, told}
+use Rattle.pirkvezo.proofs.running.run_numbers.Goals as goal
+
+pub returns-then-not-plan-state : goal.returns-then-not-plan-state
+returns-then-not-plan-state c =
+    let start = c.args in
+    run_unfit (λ handed world. lent_call_of start.lent handed start.scripts.now world start.limit)
+    start.plan.now start.state.now start.cache.now start.boxes.now start.log.now
+    start.answer.now _ _ c.if-not-plan-state.true
+    (told c.refuse_length.ensures)
+
+pub load_plan-handed-requires : goal.load_plan-handed-requires
+load_plan-handed-requires c =
+    let start = c.args in
+    (lengths start.plan.now start.state.now start.answer.now c.if-not-plan-state.false).plan_is
+
+pub load_state-before-requires : goal.load_state-before-requires
+load_state-before-requires c =
+    let start = c.args in
+    (lengths start.plan.now start.state.now start.answer.now c.if-not-plan-state.false).state_is
+
+pub store_state-requires : goal.store_state-requires
+store_state-requires c =
+    let start = c.args in
+    (lengths start.plan.now start.state.now start.answer.now c.if-not-plan-state.false).state_is
+
+pub returns : goal.returns
+returns c =
+    let start = c.args in
+    run_fit (λ handed world. lent_call_of start.lent handed start.scripts.now world start.limit)
+    start.plan.now start.state.now start.cache.now start.boxes.now start.log.now
+    start.answer.now _ _ (λ world. lent_alike start.lent start.scripts.now world start.limit) _ _ _ _ _ _ _ _ _ _ _
+    c.if-not-plan-state.false
+    c.load_plan-handed.ensures
+    c.load_state-before.ensures
+    c.run_lent-progress.ensures
+    c.ending_number-ended.ensures
+    c.store_state.ensures
+    (told c.put_answer.ensures)
