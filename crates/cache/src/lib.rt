@@ -68,6 +68,7 @@ fn use_line(table: &mut [u16], line: u16) -> bool
 }
 
 // What is put out where another line takes the place of an L1 number: its line, if dirty.
+#[tactic(auto, using(crate::proofs::Outcome::clean_back, crate::proofs::Outcome::dirty_back))]
 fn put_out(held: u16) -> WriteBack
     ensures { result ≡ write_back_of held }
 {
