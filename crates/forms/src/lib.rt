@@ -26,14 +26,14 @@ pub struct WindowLine {
 }
 
 // An op and the domain whose script it goes to.
-#[derive(Drop)]
+#[derive(Clone, Copy)]
 pub struct OpLine {
     pub domain: u32,
     pub op: Op,
 }
 
 // What a line says.
-#[derive(Drop)]
+#[derive(Clone, Copy)]
 pub enum Form {
     Blank,
     Pad(u32),

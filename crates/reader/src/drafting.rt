@@ -56,23 +56,6 @@ pub fn form_verdict(form: Form, bracket: usize, pad: u32, run: u32, windows: u32
     }
 }
 
-// What a form adds to a plan, as a form of its own: an op and a refusal add nothing there.
-pub fn addition(form: &Form) -> Form
-    ensures same { (plan : Plan) → plan_with_form plan result ≡ plan_with_form plan form.now }
-    ensures domain { (line : DomainLine) → result ≡ Domain line → form.now ≡ Domain line }
-    ensures window { (line : WindowLine) → result ≡ Window line → form.now ≡ Window line }
-{
-    match *form {
-        Form::Blank => Form::Blank,
-        Form::Pad(ticks) => Form::Pad(ticks),
-        Form::Run(times) => Form::Run(times),
-        Form::Domain(line) => Form::Domain(line),
-        Form::Window(line) => Form::Window(line),
-        Form::Op(_) => Form::Blank,
-        Form::Refused(_) => Form::Blank,
-    }
-}
-
 // A plan with what a form adds to it: a pad, a run, or a domain or a window at the next index.
 pub fn plan_with_form(mut plan: Plan, form: Form) -> Plan
     requires { ((line : DomainLine) → form ≡ Domain line → plan.domains < most_domains)

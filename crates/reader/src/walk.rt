@@ -8,7 +8,7 @@ ghost use Rattle.reader.specs.Draft.{no_draft, outcome_of};
 ghost use Rattle.reader.specs.DraftParts.{TakenOp, draft_with, outcome_with};
 ghost use Rattle.reader.specs.Read.{walk_from};
 
-use crate::drafting::{addition, form_verdict, no_draft, plan_with_form, take_op};
+use crate::drafting::{form_verdict, no_draft, plan_with_form, take_op};
 use crate::{Draft, DraftResult};
 use line::{Head, OpLineParse, head_at, line_of, op_line};
 use plan::Plan;
@@ -94,12 +94,11 @@ pub fn walk(text: &[u8], store: &mut [u32; SCRIPTS_LENGTH]) -> DraftResult
         };
         let line = line_of(text, declared, named, plain);
         let form = line.form;
-        let added = addition(&form);
         let verdict = form_verdict(form, line.bracket, plan.pad, plan.run, plan.windows);
         if let Verdict::Refused(_) = verdict {
             return draft_result(verdict, plan, counts, named);
         }
-        plan = plan_with_form(plan, added);
+        plan = plan_with_form(plan, form);
         named = line.named;
         at = line.end + 1;
     }

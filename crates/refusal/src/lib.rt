@@ -6,7 +6,7 @@ ghost use Rattle.refusal.specs.Code.{code_of, code_with, refusal_code};
 
 // The rows of document 01's table of refusals, and those that document 02 adds (15 by E1, 16 by E2,
 // 17 by E4, 18 by E6), one case each. What a case holds is its companion.
-#[derive(Drop)]
+#[derive(Clone, Copy)]
 pub enum Refusal {
     TextTooLong,
     BrokenShape(usize),

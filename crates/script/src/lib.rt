@@ -13,7 +13,7 @@ use limits::{LAST_DOMAIN, LEAST_TICKS, MOST_OPS, MOST_TICKS};
 
 // An operation with its numbers: the line of a read or a write; the recipient and the word of a send;
 // the sender of a receive; the ticks of a compute.
-#[derive(Drop)]
+#[derive(Clone, Copy)]
 pub enum Op {
     Read(u16),
     Write(u16),

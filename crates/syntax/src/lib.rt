@@ -32,7 +32,7 @@ pub enum NumberParse {
 
 // A word was due: the offset of its first byte and the offset past its last, or the refusal.
 #[derive(Drop)]
-enum WordParse {
+pub enum WordParse {
     Word { start: usize, end: usize },
     Refused(Refusal),
 }

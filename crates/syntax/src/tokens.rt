@@ -67,7 +67,7 @@ pub fn pass_line_end(text: &[u8], at: usize) -> TokenParse
 }
 
 // A word was due.
-pub(crate) fn word_at(text: &[u8], at: usize) -> WordParse
+pub fn word_at(text: &[u8], at: usize) -> WordParse
     ensures { result ≡ word_at text.now at }
 {
     let next = lookahead_at(text, at);

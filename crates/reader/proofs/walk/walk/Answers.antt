@@ -63,13 +63,12 @@ returns-in-Refused-verdict c =
 pub plan_with_form-plan-requires : goal.plan_with_form-plan-requires
 plan_with_form-plan-requires c =
     let left = c.loop-at.invariant in
-    let below = c.loop-at-test.true in
-    let adds = c.addition-added.ensures in (
-      λ line is. other_domain left below c.head_at-head.ensures c.in-Plain.is
-          c.line_of-line.ensures line (adds.domain line is),
-      λ line is. other_window left below c.head_at-head.ensures c.in-Plain.is
+    let below = c.loop-at-test.true in (
+      other_domain left below c.head_at-head.ensures c.in-Plain.is
+          c.line_of-line.ensures,
+      other_window left below c.head_at-head.ensures c.in-Plain.is
           c.line_of-line.ensures c.form_verdict-verdict.ensures
-          c.in_default.is line (adds.window line is),
+          c.in_default.is,
     )
 
 pub overflow_add-at-in-loop-at : goal.overflow_add-at-in-loop-at
@@ -96,7 +95,7 @@ loop-at-smaller c =
 pub loop-at-preserved : goal.loop-at-preserved
 loop-at-preserved c =
     let left = c.loop-at.invariant in
-    rw (c.plan_with_form-plan.ensures, c.addition-added.ensures.same c.loop-at.plan)
+    rw c.plan_with_form-plan.ensures
     (other_next left c.loop-at-test.true c.head_at-head.ensures
     c.in-Plain.is c.line_of-line.ensures c.form_verdict-verdict.ensures
     c.in_default.is)
