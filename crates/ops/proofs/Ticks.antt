@@ -117,5 +117,6 @@ dearest_send =
 
 -- both of the send's accesses miss and replace a dirty line
 pub dearest_ticks : dearest_send.ticks ≡ dearest_op
-unfolding compute_of effect_by touch_by owns_line message_by access_of seek_of write_back_at write_back_of written_back lookup_at lookup_of lookup_l1 lookup_l2 has move_to_front without part splice has_bit
+unfolding compute_of effect_by touch_by owns_line message_by access_of seek_of write_back_at write_back_of written_back
+    lookup_at lookup_of lookup_l1 lookup_l2 has move_to_front without part splice has_bit
 dearest_ticks = refl

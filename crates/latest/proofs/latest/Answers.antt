@@ -40,12 +40,18 @@ returns-then-not-domain_fits c =
     c.refuse-then-not-domain_fits.ensures
 
 pub write_script-requires : goal.write_script-requires
-write_script-requires c =
-    (rw c.late_script_of-parts.ensures (parts_bounded _ _ (fitting_by _ _ (sym c.is_valid.ensures ∙ c.if-not-is_valid.false) (sym c.domain_fits.ensures ∙ c.if-not-domain_fits.false))), c.if-script-ne-MOST_OPS.false)
+write_script-requires c = (
+  rw c.late_script_of-parts.ensures (parts_bounded _ _ (fitting_by _ _
+      (sym c.is_valid.ensures ∙ c.if-not-is_valid.false) (sym c.domain_fits.ensures
+      ∙ c.if-not-domain_fits.false))),
+  c.if-script-ne-MOST_OPS.false,
+)
 
 pub returns : goal.returns
 returns c =
-    accepted_is _ _ _ _ c.late_script_of-parts.result _ c.if-script-ne-MOST_OPS.false (fitting_by _ _ (sym c.is_valid.ensures ∙ c.if-not-is_valid.false) (sym c.domain_fits.ensures ∙ c.if-not-domain_fits.false))
+    accepted_is _ _ _ _ c.late_script_of-parts.result _ c.if-script-ne-MOST_OPS.false (fitting_by _ _
+    (sym c.is_valid.ensures ∙ c.if-not-is_valid.false) (sym c.domain_fits.ensures
+    ∙ c.if-not-domain_fits.false))
     c.latest_ticks-ticks.ensures
     c.late_script_of-parts.ensures
     c.write_script.ensures

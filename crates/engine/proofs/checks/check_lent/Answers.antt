@@ -10,7 +10,12 @@ use Rattle.engine.proofs.checks.check_lent.Goals as goal
 
 pub returns-then-not-scripts-cache : goal.returns-then-not-scripts-cache
 unfolding lent_verdict
-returns-then-not-scripts-cache c = rw ((let it : let args = c.args in (eqb (length args.scripts.now) scripts_length && tables_fit args.cache.now args.boxes.now) ≡ false = c.if-not-scripts-cache.true in it), lent_verdict) refl
+returns-then-not-scripts-cache c =
+    rw (
+      (let it : let args = c.args in (eqb
+          (length args.scripts.now) scripts_length && tables_fit args.cache.now args.boxes.now) ≡ false = c.if-not-scripts-cache.true in it),
+      lent_verdict,
+    ) refl
 
 pub returns-then-not-is_valid : goal.returns-then-not-is_valid
 unfolding lent_verdict
@@ -25,7 +30,8 @@ returns-then-not-is_valid c =
 pub tables_valid-requires : goal.tables_valid-requires
 tables_valid-requires c =
     let args = c.args in
-    let long = fit_lengths args.scripts.now args.cache.now args.boxes.now (let it : let args = c.args in (eqb (length args.scripts.now) scripts_length && tables_fit args.cache.now args.boxes.now) ≡ true = c.if-not-scripts-cache.false in it) in
+    let long = fit_lengths args.scripts.now args.cache.now args.boxes.now (let it : let args = c.args in (eqb
+    (length args.scripts.now) scripts_length && tables_fit args.cache.now args.boxes.now) ≡ true = c.if-not-scripts-cache.false in it) in
     (sym c.is_valid.ensures ∙ c.if-not-is_valid.false, long.0, long.1)
 
 pub returns-then-not-tables_valid : goal.returns-then-not-tables_valid

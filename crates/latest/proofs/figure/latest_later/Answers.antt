@@ -11,7 +11,16 @@ pub box_lines-lines-requires : goal.box_lines-lines-requires
 box_lines-lines-requires c = domain_below _ _ c.requires
 
 pub late_by-requires : goal.late_by-requires
-late_by-requires c = (omega arith, omega (arith, (let it : c.box_lines-lines.result ≤ ways_per_set = omega (arith, c.box_lines-lines.ensures) in it)), (let it : c.own_indices-own.result + c.box_indices-added.result ≤ l1_length = rw (c.own_indices-own.ensures, c.box_indices-added.ensures) (dirty_most _ _) in it))
+late_by-requires c = (
+  omega arith,
+  omega (
+    arith,
+    (let it : c.box_lines-lines.result ≤ ways_per_set = omega
+        (arith, c.box_lines-lines.ensures) in it),
+  ),
+  (let it : c.own_indices-own.result + c.box_indices-added.result ≤ l1_length = rw
+      (c.own_indices-own.ensures, c.box_indices-added.ensures) (dirty_most _ _) in it),
+)
 
 pub returns : goal.returns
 unfolding latest_later

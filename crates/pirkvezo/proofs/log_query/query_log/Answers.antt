@@ -14,7 +14,8 @@ use Rattle.pirkvezo.proofs.log_query.query_log.Goals as goal
 pub part_records-quota-requires : goal.part_records-quota-requires
 unfolding log_status_of
 part_records-quota-requires c =
-    let count = counts _ (log_accepted _ _ _ _ (sym (let it : Accepted ≡ log_verdict c.args.plan c.args.state c.args.log.now c.args.domain = sym c.in-Accepted.is ∙ c.log_refusal-verdict.ensures in it))).possible in
+    let count = counts _ (log_accepted _ _ _ _ (sym
+    (let it : Accepted ≡ log_verdict c.args.plan c.args.state c.args.log.now c.args.domain = sym c.in-Accepted.is ∙ c.log_refusal-verdict.ensures in it))).possible in
     (count.domains_least, count.domains_most)
 
 pub overflow_mul-result : goal.overflow_mul-result

@@ -13,7 +13,11 @@ unfolding numbers_from
 loop-domain-init c = (omega arith, refl)
 
 pub bounds-numbers-domain : goal.bounds-numbers-domain
-bounds-numbers-domain c = omega (arith, (let it : length c.loop-domain.numbers ≡ length c.args.numbers.now = stored_length _ c.args.numbers.now c.args.masks.now masks_offset c.loop-domain.domain c.loop-domain.invariant.1 in it))
+bounds-numbers-domain c =
+    omega (
+      arith,
+      (let it : length c.loop-domain.numbers ≡ length c.args.numbers.now = stored_length _ c.args.numbers.now c.args.masks.now masks_offset c.loop-domain.domain c.loop-domain.invariant.1 in it),
+    )
 
 pub loop-domain-preserved : goal.loop-domain-preserved
 loop-domain-preserved c = (omega arith, rw (c.loop-domain.invariant.1, c.widened.ensures) (stored_more _ _ _ _))

@@ -13,7 +13,11 @@ unfolding numbers_from
 loop-i-init c = (omega arith, refl)
 
 pub bounds-numbers-first : goal.bounds-numbers-first
-bounds-numbers-first c = omega (arith, (let it : length c.loop-i.numbers ≡ length c.args.numbers.now = stored_length _ c.args.numbers.now c.args.counts.now c.args.first c.loop-i.i c.loop-i.invariant.1 in it))
+bounds-numbers-first c =
+    omega (
+      arith,
+      (let it : length c.loop-i.numbers ≡ length c.args.numbers.now = stored_length _ c.args.numbers.now c.args.counts.now c.args.first c.loop-i.i c.loop-i.invariant.1 in it),
+    )
 
 pub loop-i-preserved : goal.loop-i-preserved
 loop-i-preserved c = (omega arith, rw c.loop-i.invariant.1 (stored_more _ _ _ _))

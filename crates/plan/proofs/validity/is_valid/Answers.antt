@@ -20,13 +20,25 @@ domains_valid-requires c = (counts_of _ (let it : counts_valid c.args.plan ≡ t
 
 pub returns-then-not-domains_valid : goal.returns-then-not-domains_valid
 unfolding plan_valid
-returns-then-not-domains_valid c = rw ((let it : counts_valid c.args.plan ≡ true = sym c.counts_valid.ensures ∙ c.if-not-counts_valid.false in it), sym c.domains_valid.ensures ∙ c.if-not-domains_valid.true) refl
+returns-then-not-domains_valid c =
+    rw (
+      (let it : counts_valid c.args.plan ≡ true = sym c.counts_valid.ensures
+          ∙ c.if-not-counts_valid.false in it),
+      sym c.domains_valid.ensures ∙ c.if-not-domains_valid.true,
+    ) refl
 
 pub returns-then-shares_total-gt-MOST_SHARES : goal.returns-then-shares_total-gt-MOST_SHARES
 unfolding plan_valid
 returns-then-shares_total-gt-MOST_SHARES c =
     let over = lt-leb _ _ (rw c.shares_total.ensures at c.if-shares_total-gt-MOST_SHARES.true) in
-    rw ((let it : counts_valid c.args.plan ≡ true = sym c.counts_valid.ensures ∙ c.if-not-counts_valid.false in it), (let it : all_below (domain_valid c.args.plan) most_domains ≡ true = sym c.domains_valid.ensures ∙ c.if-not-domains_valid.false in it), over) refl
+    rw (
+      (let it : counts_valid c.args.plan ≡ true = sym c.counts_valid.ensures
+          ∙ c.if-not-counts_valid.false in it),
+      (let it : all_below
+          (domain_valid c.args.plan) most_domains ≡ true = sym c.domains_valid.ensures
+          ∙ c.if-not-domains_valid.false in it),
+      over,
+    ) refl
 
 pub returns-then-colours_total-gt-DOMAIN_COLOURS : goal.returns-then-colours_total-gt-DOMAIN_COLOURS
 unfolding plan_valid
@@ -67,8 +79,14 @@ returns-then-not-windows_valid c =
 
 pub ticks_total-requires : goal.ticks_total-requires
 ticks_total-requires c =
-    let count = counts_of _ (let it : counts_valid c.args.plan ≡ true = sym c.counts_valid.ensures ∙ c.if-not-counts_valid.false in it) in
-    (count.run_most, count.windows_most, count.pad_most, lengths_most _ (let it : all_below (window_valid c.args.plan) most_windows ≡ true = sym c.windows_valid.ensures ∙ c.if-not-windows_valid.false in it))
+    let count = counts_of _ (let it : counts_valid c.args.plan ≡ true = sym c.counts_valid.ensures ∙ c.if-not-counts_valid.false in it) in (
+      count.run_most,
+      count.windows_most,
+      count.pad_most,
+      lengths_most _ (let it : all_below
+          (window_valid c.args.plan) most_windows ≡ true = sym c.windows_valid.ensures
+          ∙ c.if-not-windows_valid.false in it),
+    )
 
 pub returns : goal.returns
 unfolding plan_valid
@@ -85,10 +103,36 @@ returns c =
     refl
 
 pub shares_total-requires : goal.shares_total-requires
-shares_total-requires c = (let it : SharesBounded c.args.plan = ((counts_of _ (let it : counts_valid c.args.plan ≡ true = sym c.counts_valid.ensures ∙ c.if-not-counts_valid.false in it)).domains_most, shares_most _ (let it : all_below (domain_valid c.args.plan) most_domains ≡ true = sym c.domains_valid.ensures ∙ c.if-not-domains_valid.false in it)) in it)
+shares_total-requires c =
+    (let it : SharesBounded c.args.plan = (
+      (counts_of _
+          (let it : counts_valid c.args.plan ≡ true = sym c.counts_valid.ensures
+          ∙ c.if-not-counts_valid.false in it)).domains_most,
+      shares_most _ (let it : all_below
+          (domain_valid c.args.plan) most_domains ≡ true = sym c.domains_valid.ensures
+          ∙ c.if-not-domains_valid.false in it),
+    ) in it)
 
 pub colours_total-requires : goal.colours_total-requires
-colours_total-requires c = (let it : SharesBounded c.args.plan = ((counts_of _ (let it : counts_valid c.args.plan ≡ true = sym c.counts_valid.ensures ∙ c.if-not-counts_valid.false in it)).domains_most, shares_most _ (let it : all_below (domain_valid c.args.plan) most_domains ≡ true = sym c.domains_valid.ensures ∙ c.if-not-domains_valid.false in it)) in it)
+colours_total-requires c =
+    (let it : SharesBounded c.args.plan = (
+      (counts_of _
+          (let it : counts_valid c.args.plan ≡ true = sym c.counts_valid.ensures
+          ∙ c.if-not-counts_valid.false in it)).domains_most,
+      shares_most _ (let it : all_below
+          (domain_valid c.args.plan) most_domains ≡ true = sym c.domains_valid.ensures
+          ∙ c.if-not-domains_valid.false in it),
+    ) in it)
 
 pub masks_valid-requires : goal.masks_valid-requires
-masks_valid-requires c = ((let it : SharesBounded c.args.plan = ((counts_of _ (let it : counts_valid c.args.plan ≡ true = sym c.counts_valid.ensures ∙ c.if-not-counts_valid.false in it)).domains_most, shares_most _ (let it : all_below (domain_valid c.args.plan) most_domains ≡ true = sym c.domains_valid.ensures ∙ c.if-not-domains_valid.false in it)) in it), (let it : colours_total c.args.plan ≤ domain_colours = rw c.colours_total.ensures at c.if-colours_total-gt-DOMAIN_COLOURS.false in it))
+masks_valid-requires c = (
+  (let it : SharesBounded c.args.plan = (
+    (counts_of _
+        (let it : counts_valid c.args.plan ≡ true = sym c.counts_valid.ensures
+        ∙ c.if-not-counts_valid.false in it)).domains_most,
+    shares_most _ (let it : all_below
+        (domain_valid c.args.plan) most_domains ≡ true = sym c.domains_valid.ensures
+        ∙ c.if-not-domains_valid.false in it),
+  ) in it),
+  (let it : colours_total c.args.plan ≤ domain_colours = rw c.colours_total.ensures at c.if-colours_total-gt-DOMAIN_COLOURS.false in it),
+)
