@@ -18,7 +18,8 @@ fn step_value(
     boxes: &mut [u32],
     log: &mut [u8],
 ) -> Progress
-    ensures { run_with result cache.new boxes.new log.new
+    ensures { run_with result
+        cache.new boxes.new log.new
         ≡ step_call_of plan scripts.now
         (world_with state cache.old boxes.old log.old) }
 {
