@@ -104,8 +104,8 @@ def _seconds():
 
 def _prove():
     total, done = len(crates()), 0
-    _say(f"pirkvezo: proving and building the library, {total} crates. The first time takes about "
-         "five minutes; later only what changed.")
+    _say(f"pirkvezo: proving and building the library, {total} crates. The first time takes some "
+         "ten minutes; later only what changed.")
     with _seconds(), open(FOLDER / "build.log", "w") as kept, subprocess.Popen(
             [str(ROOT / "tools" / "staticlib")], cwd=ROOT, stdin=subprocess.DEVNULL,
             stdout=subprocess.PIPE, stderr=subprocess.STDOUT, text=True, errors="replace") as rt:
