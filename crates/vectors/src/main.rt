@@ -3,7 +3,7 @@
 // is printed, so the functions here carry what their safety needs, and no more.
 #![tactic(auto)]
 
-ghost use Rattle.std.specs.Prelude.{◌≡◌, ◌+◌, ◌^◌, ◌<◌, ◌≤◌, min, length};
+ghost use Rattle.std.specs.Prelude.{◌≡◌, ◌+◌, ◌^◌, ◌<◌, ◌≤◌, min, length, IfOk};
 
 use cache::flush::{flush_kernel, flush_l1};
 use cache::limits::TABLE_LENGTH;
@@ -31,10 +31,7 @@ use pirkvezo::states::{load_state, store_state};
 use pirkvezo::writing::pirkvezo_write_plan;
 use plan::limits::DOMAIN_ENTRIES;
 use std::io;
-use std::io::Read;
-
-// The most bytes of the input that are read.
-const INPUT_ROOM: u64 = 131_072;
+use std::io::{ErrorKind, Read};
 
 // Each table is one number longer than it has to be, so that a wrong length can be lent too.
 const TEXT_ROOM: usize = 32_769;
@@ -904,9 +901,29 @@ fn obey_all(rt: &impl Print, input: &[u8], first: Example) -> io::Result<()> {
     Ok(())
 }
 
+// Reads until the buffer is full or the input ends, and answers how many bytes there are. A read
+// that a signal interrupts is made again.
+fn read_full<R: Read>(reader: &mut R, buffer: &mut [u8]) -> io::Result<usize>
+    ensures { IfOk result (λ count. count ≤ length buffer.new) }
+{
+    let mut count: usize = 0;
+    for _ in 0..u64::MAX {
+        match reader.read(&mut buffer[count..]) {
+            Ok(0) => break,
+            Ok(more) => count += more,
+            Err(error) => {
+                if error.kind() != ErrorKind::Interrupted {
+                    return Err(error);
+                }
+            }
+        }
+    }
+    Ok(count)
+}
+
 fn main(rt: HostRuntime) -> io::Result<()> {
-    let mut input = Vec::new(rt.alloc());
-    rt.stdin().take(INPUT_ROOM).read_to_end(&mut input)?;
+    let mut input = [0u8; 131_072];
+    let length = read_full(&mut rt.stdin(), &mut input)?;
     let example = Example {
         text: [0u8; TEXT_ROOM],
         text_length: 0,
@@ -923,5 +940,5 @@ fn main(rt: HostRuntime) -> io::Result<()> {
         frame: [238u32; FRAME_ROOM],
         frame_length: FRAME_ROOM - 1,
     };
-    obey_all(&rt, &input, example)
+    obey_all(&rt, &input[..length], example)
 }
