@@ -1,4 +1,5 @@
 -- A plan and scripts with the largest bound: 32 windows 1,000 times, and 256 ops of every domain. Assumes nothing.
+use Rattle.std.specs.Prelude.{Some}
 use Prim.Native.Nat.{ℕ, ◌+◌, ◌*◌, ◌<◌}
 use mathlib.Core.Bool.{true}
 use mathlib.Core.List.{List, [], ◌∷◌, ◌++◌}
@@ -14,7 +15,6 @@ use Rattle.plan.specs.Validity.{counts_valid, declared_valid, domain_valid, mask
 use Rattle.plan.specs.Windows.{ticks_total, windows_total}
 use Rattle.plan.proofs.Sums.{sum_same}
 use Rattle.script.specs.declared.Op.TheVariants.{Compute}
-use Rattle.script.specs.declared.ScriptItem.TheVariants.{Op as Fetch}
 use Rattle.script.specs.Fetch.{decode_of, fetch_of, op_of}
 use Rattle.script.specs.Limits.{most_ops, scripts_length}
 use Rattle.script.specs.ScriptEnd.{stored_ops}
@@ -53,7 +53,7 @@ unfolding
     counts_valid declared_valid domain_valid mask_valid plan_valid undeclared_valid window_valid ticks_total
 longest_valid = refl
 
-op_there : (domain position : ℕ) → domain < most_domains → position < most_ops → fetch_of full domain position ≡ Fetch (Compute 1)
+op_there : (domain position : ℕ) → domain < most_domains → position < most_ops → fetch_of full domain position ≡ Some (Compute 1)
 unfolding fetch_of decode_of op_of stored_of
 op_there domain position declared below =
     rw (lt-ltb position most_ops below, get_or-replicate scripts_length (most_ops * domain + position) (stored_of (Compute 1)) 0 (omega arith)) refl

@@ -1,7 +1,7 @@
 -- Document 02, E3: how many steps a run from a fresh start can take at most, and what is answered to
 -- one who asks (`step_bound`). A step is an op or a switch, and each kind has its own part of the
 -- bound. Assumes nothing.
-use Rattle.std.specs.Prelude.{ℕ, ◌+◌, List, eqb, length}
+use Rattle.std.specs.Prelude.{ℕ, ◌+◌, List, eqb, length, Ok, Err}
 use Rattle.plan.specs.declared.Plan.{Plan}
 use Rattle.plan.specs.Limits.{most_domains}
 use Rattle.plan.specs.Sums.{sum_to}
@@ -11,9 +11,8 @@ use Rattle.script.specs.Limits.{scripts_length}
 use Rattle.script.specs.ScriptEnd.{stored_ops}
 use Rattle.refusal.specs.Checks.{unless}
 use Rattle.refusal.specs.declared.Refusal.TheVariants.{ImpossiblePlan, WrongLength}
-use Rattle.refusal.specs.declared.Verdict.{Verdict}
-use Rattle.refusal.specs.declared.Verdict.TheVariants.{Accepted, Refused}
 use Rattle.bound.specs.declared.BoundAnswer.{BoundAnswer}
+use Rattle.refusal.specs.Verdict.{Verdict}
 
 -- the ops: those stored in all scripts, of undeclared domains too
 unfoldable pub ops_stored : List ℕ → ℕ
@@ -27,7 +26,7 @@ step_bound plan scripts = ops_stored scripts + windows_total plan
 unfoldable pub bound_verdict : Plan → List ℕ → Verdict
 bound_verdict plan scripts =
     unless (eqb (length scripts) scripts_length) WrongLength
-    (unless (plan_valid plan) ImpossiblePlan Accepted)
+    (unless (plan_valid plan) ImpossiblePlan (Ok tt))
 
 -- a verdict and a number of steps as one
 abbrev pub bound_answer_with : Verdict → ℕ → BoundAnswer
@@ -35,8 +34,8 @@ bound_answer_with verdict steps = record { verdict = verdict; steps = steps }
 
 -- the bound where nothing is refused, and 0 beside a refusal
 abbrev pub bound_from : Verdict → Plan → List ℕ → BoundAnswer
-bound_from Accepted plan scripts = bound_answer_with Accepted (step_bound plan scripts)
-bound_from (Refused refusal) plan scripts = bound_answer_with (Refused refusal) 0
+bound_from (Ok tt) plan scripts = bound_answer_with (Ok tt) (step_bound plan scripts)
+bound_from (Err refusal) plan scripts = bound_answer_with (Err refusal) 0
 
 -- the answer, for every input
 unfoldable pub bound_answer_of : Plan → List ℕ → BoundAnswer

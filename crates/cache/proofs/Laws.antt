@@ -1,5 +1,6 @@
 -- Laws of an access and of the flushes that other crates cite: lengths are kept, and a hit in L1 leaves L2 alone.
 -- Assumes nothing.
+use Rattle.std.specs.Prelude.{Option}
 use Prim.Native.Nat.{ℕ, ◌+◌, ◌≤◌}
 use mathlib.Core.Path.{◌≡◌, refl, sym, ◌∙◌}
 use mathlib.Core.Bool.{Bool, true, false, cond}
@@ -13,7 +14,6 @@ use Rattle.cache.specs.declared.AccessKind.TheVariants.{Hit1, Hit2, Miss}
 use Rattle.cache.specs.Lines.{clean_entry, l1_index, l1_length, kernel_entries, kernel_index, set_of, set_index}
 use Rattle.cache.specs.Lines.{table_length, ways_per_set}
 use Rattle.cache.specs.Sets.{has}
-use Rattle.cache.specs.declared.WriteBack.{WriteBack}
 use Rattle.cache.specs.Access.{access_of, lookup_at, lookup_l1, lookup_l2, seek_of, write_back_at, written_back}
 use Rattle.cache.specs.Flush.{kernel_flushed, l1_flushed}
 use Rattle.cache.proofs.Outcome.{look_held, look_lacked}
@@ -40,7 +40,7 @@ module _ (writes : Bool) (line : ℕ) (table : List ℕ) where
       lookup_length (in_l1 line table) refl ∙ part_length (set_index (set_of line)) ways_per_set table (omega arith)
 
   -- a line sought keeps the table's length, whatever was put out
-  pub seek_length : (back : WriteBack) → length (seek_of writes line back table).table ≡ length table
+  pub seek_length : (back : Option ℕ) → length (seek_of writes line back table).table ≡ length table
   unfolding seek_of
   seek_length back =
       let look = lookup_at writes line table in

@@ -1,5 +1,6 @@
 -- An access of a line whose L1 index and whose set are empty: it misses, puts nothing out, and leaves the line in those
 -- two places alone, from where it can be emptied again. On the old board it is the same. Assumes nothing.
+use Rattle.std.specs.Prelude.{None}
 use Prim.Native.Nat.{ℕ, suc, zero, ◌+◌, ◌-◌, ◌≤◌, ◌<◌}
 use mathlib.Core.Bool.{Bool, true, false, cond}
 use mathlib.Core.List.{List, [], ◌∷◌}
@@ -12,7 +13,6 @@ use lib.Seq.{ext_get_or, get_or-set_other, get_or-set_same}
 use borrow.Author.Tests.{ltb-false, ltb-true, ne_eqb}
 use Rattle.lists.specs.Part.{splice}
 use Rattle.lists.proofs.Parts.{part_at, part_length, splice_after, splice_before, splice_length, splice_within}
-use Rattle.cache.specs.declared.WriteBack.TheVariants.{Nothing}
 use Rattle.cache.specs.Access.{AccessOutcome, Lookup, access_of, hit2_ticks, lookup_at, lookup_l2, miss_ticks, old_access_of, seek_of, write_back_at}
 use Rattle.cache.specs.Access.{write_back_of, written_back}
 use Rattle.cache.specs.Flush.{line_emptied}
@@ -47,12 +47,12 @@ module _ (writes : Bool) (line : ℕ) (table : List ℕ) (free : get_or table (l
   lacks =
       rw (free, ne_eqb 0 (clean_entry line) (λ same. omega arith), ne_eqb 0 (dirty_entry line) (λ same. omega arith)) refl
 
-  pub nothing_out : write_back_at line table ≡ Nothing
+  pub nothing_out : write_back_at line table ≡ None
   unfolding write_back_at write_back_of
   nothing_out = rw (lacks, free) refl
 
   -- so on either board the line is sought at once
-  pub sought_at_once : access_of writes line table ≡ seek_of writes line Nothing table
+  pub sought_at_once : access_of writes line table ≡ seek_of writes line None table
   unfolding access_of written_back
   sought_at_once = rw nothing_out refl
 

@@ -1,4 +1,5 @@
 -- What an access answers and leaves, from what its steps find. Assumes nothing.
+use Rattle.std.specs.Prelude.{Option, Some, None}
 use Prim.Native.Nat.{ℕ, ◌+◌, ◌*◌, ◌-◌, ◌%◌, ◌≤◌, ◌<◌}
 use mathlib.Core.Path.{◌≡◌, refl, ap, ◌∙◌}
 use mathlib.Core.Bool.{Bool, true, false, cond}
@@ -10,8 +11,6 @@ use Rattle.lists.specs.Part.{part, splice}
 use Rattle.lists.proofs.Parts.{splice_part}
 use Rattle.cache.specs.declared.AccessKind.{AccessKind}
 use Rattle.cache.specs.declared.AccessKind.TheVariants.{Hit1, Hit2, Miss}
-use Rattle.cache.specs.declared.WriteBack.{WriteBack}
-use Rattle.cache.specs.declared.WriteBack.TheVariants.{Line, Nothing}
 use Rattle.cache.specs.Lines.{clean_entry, dirty_entry, dirty_mark, entry_for, is_dirty, l1_index, set_index, set_of}
 use Rattle.cache.specs.Lines.{table_length, ways_per_set}
 use Rattle.cache.specs.Sets.{has, move_to_front}
@@ -48,34 +47,34 @@ unfolding part splice
 used_outcome line table width wide known ways knows moves = rw (knows, moves, wide) (refl, refl)
 
 -- what it answers of an L1 number that is replaced: its line, the mark taken off, where it is dirty
-pub clean_back : (held : ℕ) → held ≤ dirty_mark → Nothing ≡ write_back_of held
+pub clean_back : (held : ℕ) → held ≤ dirty_mark → None ≡ write_back_of held
 unfolding write_back_of
 clean_back held clean = rw (le-ltb dirty_mark held clean) refl
 
-pub dirty_back : (held : ℕ) → dirty_mark < held → held < 2 * dirty_mark → Line ((held - 1) % dirty_mark) ≡ write_back_of held
+pub dirty_back : (held : ℕ) → dirty_mark < held → held < 2 * dirty_mark → Some ((held - 1) % dirty_mark) ≡ write_back_of held
 unfolding write_back_of
 dirty_back held dirty fits =
     let same : (held - 1) % dirty_mark ≡ dirty_line held = omega arith in
     rw (lt-ltb dirty_mark held dirty, same) refl
 
 -- such a line has room for its mark
-pub back_small : (held : ℕ) → held < 2 * dirty_mark → (other : ℕ) → write_back_of held ≡ Line other → other < dirty_mark
+pub back_small : (held : ℕ) → held < 2 * dirty_mark → (other : ℕ) → write_back_of held ≡ Some other → other < dirty_mark
 unfolding write_back_of
 back_small held fits other is = go (is_dirty held) refl is
   where
-    go : (dirty : Bool) → is_dirty held ≡ dirty → cond dirty (Line (dirty_line held)) Nothing ≡ Line other → other < dirty_mark
+    go : (dirty : Bool) → is_dirty held ≡ dirty → cond dirty (Some (dirty_line held)) None ≡ Some other → other < dirty_mark
     go true test same = omega (arith, line_is (dirty_line held) other same, ltb-true dirty_mark held test)
     go false test same = absurd (nothing_is_none other same)
 
 -- a line that is sought leaves the table's length
-pub sought_length : (line : ℕ) (back : WriteBack) (table used : List ℕ) → used ≡ line_used line (written_back back table)
+pub sought_length : (line : ℕ) (back : Option ℕ) (table used : List ℕ) → used ≡ line_used line (written_back back table)
     → length used ≡ length table
 sought_length line back table used uses =
     ap length uses ∙ used_length line (written_back back table) ∙ written_length back table
 
 module _ (writes : Bool) (line : ℕ) (table : List ℕ) where
   -- what an access answers and leaves
-  abbrev pub Outcome : AccessKind → ℕ → WriteBack → List ℕ → Type 0
+  abbrev pub Outcome : AccessKind → ℕ → Option ℕ → List ℕ → Type 0
   Outcome found ticks back left =
       (found ≡ (access_of writes line table).found)
       × (ticks ≡ (access_of writes line table).ticks)
@@ -87,7 +86,7 @@ module _ (writes : Bool) (line : ℕ) (table : List ℕ) where
       (entry : ℕ)
       → in_l1 line table ≡ true
       → entry ≡ cond writes (dirty_entry line) (get_or table (l1_index line) 0)
-      → Outcome Hit1 hit1_ticks Nothing (set table (l1_index line) entry)
+      → Outcome Hit1 hit1_ticks None (set table (l1_index line) entry)
   unfolding access_of seek_of written_back lookup_l1
   held_outcome entry held is = rw (back_held line table held, look_held writes line table held, is, splice_part) (refl, refl, refl, refl)
 
@@ -97,7 +96,7 @@ module _ (writes : Bool) (line : ℕ) (table : List ℕ) where
     held = get_or table (l1_index line) 0
 
     pub lacked_outcome :
-        (known : Bool) (back : WriteBack) (used : List ℕ) (entry late : ℕ)
+        (known : Bool) (back : Option ℕ) (used : List ℕ) (entry late : ℕ)
         → back ≡ write_back_of held
         → known ≡ has (clean_entry line) (ways_of line (written_back back table))
         → used ≡ line_used line (written_back back table)

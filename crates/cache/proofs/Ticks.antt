@@ -1,4 +1,5 @@
 -- What an access and the two flushes of a switch can take at most, and that an access takes a tick at least. Assumes nothing.
+use Rattle.std.specs.Prelude.{Option}
 use Prim.Native.Nat.{ℕ, ◌+◌, ◌*◌, ◌≤◌}
 use mathlib.Core.Path.{◌≡◌, refl}
 use mathlib.Core.Bool.{Bool, true, false, cond}
@@ -12,7 +13,6 @@ use Rattle.cache.specs.Lines.{clean_entry, holds_line, l1_length, is_dirty, is_v
 use Rattle.cache.specs.Sets.{has}
 use Rattle.cache.specs.Access.{access_of, dirty_ticks, hit2_ticks, lookup_at, lookup_l1, lookup_l2, lookup_of, miss_ticks, seek_of}
 use Rattle.cache.specs.Access.{write_back_at, written_back}
-use Rattle.cache.specs.declared.WriteBack.{WriteBack}
 use Rattle.cache.specs.Flush.{count_where, dirty_lines, dirty_line_ticks, flush_ticks, kernel_flushed, kernel_flush_ticks}
 use Rattle.cache.specs.Flush.{l1_flush_ticks, valid_lines}
 
@@ -49,7 +49,7 @@ look_ticks writes line entry ways = go (holds_line entry line)
     go false = l2_ticks (has (clean_entry line) ways) (is_dirty entry) _ _ refl refl
 
 -- what a line sought takes at most, whatever was put out, and so what an access does
-pub seek_ticks : (writes : Bool) (line : ℕ) (back : WriteBack) (table : List ℕ) → (seek_of writes line back table).ticks ≤ most_access_ticks
+pub seek_ticks : (writes : Bool) (line : ℕ) (back : Option ℕ) (table : List ℕ) → (seek_of writes line back table).ticks ≤ most_access_ticks
 unfolding seek_of lookup_at
 seek_ticks writes line back table = look_ticks writes line _ _
 

@@ -1,5 +1,6 @@
 -- What an access puts out of L1, and the table once that line is written back: L1 and the length are kept, and a line
 -- that is its set's most recent already changes nothing. Assumes nothing.
+use Rattle.std.specs.Prelude.{Option, Some, None}
 use Prim.Native.Nat.{ℕ, ◌+◌, ◌<◌}
 use mathlib.Core.Path.{◌≡◌, refl, ap, ◌∙◌}
 use mathlib.Core.Bool.{Bool, true, false, cond}
@@ -8,8 +9,6 @@ use native.Mathlib.Omega.{arith}
 use lib.ListN.{get_or, length}
 use Rattle.lists.specs.Part.{part, splice}
 use Rattle.lists.proofs.Parts.{part_at, part_length, splice_before, splice_length, splice_part}
-use Rattle.cache.specs.declared.WriteBack.{WriteBack}
-use Rattle.cache.specs.declared.WriteBack.TheVariants.{Line, Nothing}
 use Rattle.cache.specs.Lines.{clean_entry, holds_line, is_dirty, l1_index, l1_length, set_index, set_of, table_length}
 use Rattle.cache.specs.Lines.{ways_per_set}
 use Rattle.cache.specs.Sets.{move_to_front}
@@ -29,7 +28,7 @@ ways_of line table = part (set_index (set_of line)) ways_per_set table
 
 module _ (line : ℕ) (table : List ℕ) where
   -- a line that L1 holds puts none out
-  pub back_held : in_l1 line table ≡ true → write_back_at line table ≡ Nothing
+  pub back_held : in_l1 line table ≡ true → write_back_at line table ≡ None
   unfolding write_back_at
   back_held held = rw held refl
 
@@ -43,23 +42,23 @@ pub back_alike : (line : ℕ) (one other : List ℕ) → get_or one (l1_index li
     → write_back_at line one ≡ write_back_at line other
 unfolding write_back_at
 back_alike line one other same =
-    ap (λ (entry : ℕ). cond (holds_line entry line) Nothing (write_back_of entry)) same
+    ap (λ (entry : ℕ). cond (holds_line entry line) None (write_back_of entry)) same
 
 -- nothing is no line, and a line is one line
-pub nothing_is_none : (line : ℕ) → Nothing ≡ Line line → ⊥
+pub nothing_is_none : (line : ℕ) → None ≡ Some line → ⊥
 nothing_is_none line same = let wrong : ◌≡◌ {A = ℕ} 0 1 = cc in omega arith
 
-pub line_is : (one other : ℕ) → Line one ≡ Line other → one ≡ other
+pub line_is : (one other : ℕ) → Some one ≡ Some other → one ≡ other
 line_is one other same = cc
 
 -- what is put out was dirty, at the index of the line asked for
-pub back_dirty : (line other : ℕ) (table : List ℕ) → write_back_at line table ≡ Line other
+pub back_dirty : (line other : ℕ) (table : List ℕ) → write_back_at line table ≡ Some other
     → (is_dirty (get_or table (l1_index line) 0) ≡ true) × (dirty_line (get_or table (l1_index line) 0) ≡ other)
 unfolding write_back_at write_back_of
 back_dirty line other table is = go (in_l1 line table) (is_dirty (get_or table (l1_index line) 0)) refl is
   where
     go : (held dirty : Bool) → is_dirty (get_or table (l1_index line) 0) ≡ dirty
-        → cond held Nothing (cond dirty (Line (dirty_line (get_or table (l1_index line) 0))) Nothing) ≡ Line other
+        → cond held None (cond dirty (Some (dirty_line (get_or table (l1_index line) 0))) None) ≡ Some other
         → (is_dirty (get_or table (l1_index line) 0) ≡ true) × (dirty_line (get_or table (l1_index line) 0) ≡ other)
     go true dirty test same = absurd (nothing_is_none other same)
     go false false test same = absurd (nothing_is_none other same)
@@ -79,22 +78,22 @@ used_length line table =
     splice_length (set_index (set_of line)) ways_per_set (move_to_front (clean_entry line) (ways_of line table)) table
     (moved_length (clean_entry line) (ways_of line table))
 
-pub written_length : (back : WriteBack) (table : List ℕ) → length (written_back back table) ≡ length table
+pub written_length : (back : Option ℕ) (table : List ℕ) → length (written_back back table) ≡ length table
 unfolding written_back
-written_length Nothing table = refl
-written_length (Line line) table = used_length line table
+written_length None table = refl
+written_length (Some line) table = used_length line table
 
 -- L1 is as it was
-pub written_l1 : (back : WriteBack) (table : List ℕ) → length table ≡ table_length → (index : ℕ) → index < l1_length
+pub written_l1 : (back : Option ℕ) (table : List ℕ) → length table ≡ table_length → (index : ℕ) → index < l1_length
     → get_or (written_back back table) index 0 ≡ get_or table index 0
 unfolding written_back
-written_l1 Nothing table whole index below = refl
-written_l1 (Line line) table whole index below =
+written_l1 None table whole index below = refl
+written_l1 (Some line) table whole index below =
     splice_before (set_index (set_of line)) ways_per_set (move_to_front (clean_entry line) (ways_of line table)) table (omega arith)
     index (omega arith)
 
 -- so an access finds at its line's index what stood there before
-pub written_entry : (back : WriteBack) (line : ℕ) (table : List ℕ) → length table ≡ table_length
+pub written_entry : (back : Option ℕ) (line : ℕ) (table : List ℕ) → length table ≡ table_length
     → get_or (written_back back table) (l1_index line) 0 ≡ get_or table (l1_index line) 0
 written_entry back line table whole = written_l1 back table whole (l1_index line) (omega arith)
 
@@ -102,7 +101,7 @@ written_entry back line table whole = written_l1 back table whole (l1_index line
 
 -- a line that is its set's most recent already
 pub written_front : (line : ℕ) (table : List ℕ) → get_or table (set_index (set_of line)) 0 ≡ clean_entry line
-    → written_back (Line line) table ≡ table
+    → written_back (Some line) table ≡ table
 unfolding written_back
 written_front line table front =
     let first = set_index (set_of line) in

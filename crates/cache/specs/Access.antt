@@ -1,10 +1,8 @@
 -- Document 01, "What an op costs", and document 02, E7: an *access*. Assumes nothing.
-use Rattle.std.specs.Prelude.{ℕ, ◌+◌, ◌-◌, Bool, cond, List, get_or, set}
+use Rattle.std.specs.Prelude.{ℕ, ◌+◌, ◌-◌, Bool, cond, List, get_or, set, Option, Some, None}
 use Rattle.lists.specs.Part.{part, splice}
 use Rattle.cache.specs.declared.AccessKind.{AccessKind}
 use Rattle.cache.specs.declared.AccessKind.TheVariants.{Hit1, Hit2, Miss}
-use Rattle.cache.specs.declared.WriteBack.{WriteBack}
-use Rattle.cache.specs.declared.WriteBack.TheVariants.{Line, Nothing}
 use Rattle.cache.specs.Lines.{clean_entry, dirty_entry, entry_for, holds_line, is_dirty, l1_index}
 use Rattle.cache.specs.Lines.{set_index, set_of, ways_per_set}
 use Rattle.cache.specs.Sets.{has, move_to_front}
@@ -76,14 +74,14 @@ abbrev pub dirty_line : ℕ → ℕ
 dirty_line entry = entry - dirty_entry 0
 
 -- what is written back where another line takes the place of an L1 number: its line, if dirty
-unfoldable pub write_back_of : ℕ → WriteBack
-write_back_of entry = cond (is_dirty entry) (Line (dirty_line entry)) Nothing
+unfoldable pub write_back_of : ℕ → Option ℕ
+write_back_of entry = cond (is_dirty entry) (Some (dirty_line entry)) None
 
 -- what an access of a line puts out: nothing where L1 holds the line, since then none is replaced
-unfoldable pub write_back_at : ℕ → List ℕ → WriteBack
+unfoldable pub write_back_at : ℕ → List ℕ → Option ℕ
 write_back_at line table =
     let entry = get_or table (l1_index line) 0 in
-    cond (holds_line entry line) Nothing (write_back_of entry)
+    cond (holds_line entry line) None (write_back_of entry)
 
 -- the table once a line was made the most recent of its set: it has moved to the front, or has come
 -- in there and the last way is dropped
@@ -93,9 +91,9 @@ line_used line table =
     splice (set_index (set_of line)) ways_per_set (move_to_front (clean_entry line) ways) table
 
 -- the table once what is put out is written back: a dirty line becomes the most recent of its set
-unfoldable pub written_back : WriteBack → List ℕ → List ℕ
-written_back Nothing table = table
-written_back (Line line) table = line_used line table
+unfoldable pub written_back : Option ℕ → List ℕ → List ℕ
+written_back None table = table
+written_back (Some line) table = line_used line table
 
 -- ---- an access
 
@@ -103,12 +101,12 @@ written_back (Line line) table = line_used line table
 pub record AccessOutcome : Type 0 where
   pub found : AccessKind
   pub ticks : ℕ
-  pub back : WriteBack
+  pub back : Option ℕ
   pub table : List ℕ
 
 -- a line sought in a table: the set and the L1 index as the lookup leaves them, every other number
 -- as it was. What was put out before is answered with it.
-unfoldable pub seek_of : Bool → ℕ → WriteBack → List ℕ → AccessOutcome
+unfoldable pub seek_of : Bool → ℕ → Option ℕ → List ℕ → AccessOutcome
 seek_of writes line back table =
     let look = lookup_at writes line table in
     record {

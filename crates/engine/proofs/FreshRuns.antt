@@ -1,4 +1,5 @@
 -- A run right after a fresh start: where it begins, that what it leaves is not refused again, and that it ends. Assumes nothing.
+use Rattle.std.specs.Prelude.{Ok, Err}
 use mathlib.Core.Path.{◌≡◌, refl, sym, ap, subst, ◌∙◌}
 use mathlib.Core.Bool.{true}
 use mathlib.Core.List.{List}
@@ -18,8 +19,6 @@ use Rattle.machine.specs.Steps.{run_by, steps}
 use Rattle.machine.specs.View.{world_with}
 use Rattle.reachable.proofs.Ending.{ends}
 use Rattle.reachable.proofs.Reached.{boxes_length_lem, cache_length, log_length_lem, state_is_valid, tables_are_valid}
-use Rattle.refusal.specs.declared.Verdict.{Verdict}
-use Rattle.refusal.specs.declared.Verdict.TheVariants.{Accepted, Refused}
 use Rattle.engine.specs.Answers.{fresh_with}
 use Rattle.engine.specs.declared.Ending.TheVariants.{Ended}
 use Rattle.engine.specs.Checks.{fresh_verdict, run_verdict}
@@ -27,6 +26,7 @@ use Rattle.machine.specs.Fresh.{fresh_world, reached_world}
 use Rattle.engine.specs.FreshStart.{FreshOutcome, fresh_from, fresh_start_of}
 use Rattle.engine.specs.Running.{ending_of, ran_from, run_call_of, run_from}
 use Rattle.engine.proofs.Passing.{run_passes}
+use Rattle.refusal.specs.Verdict.{Verdict}
 
 -- a fresh start under a possible plan, on tables of the right lengths, gives the world from which runs start
 pub started_fresh :
@@ -36,7 +36,7 @@ pub started_fresh :
     → world_with fresh cache boxes log ≡ fresh_world log
 unfolding fresh_start_of fresh_world fresh_verdict
 started_fresh plan old fresh verdict cache boxes log possible did =
-    let accepted : fresh_verdict plan empty_table empty_boxes ≡ Accepted = rw possible refl in
+    let accepted : fresh_verdict plan empty_table empty_boxes ≡ Ok tt = rw possible refl in
     let started = did ∙ ap (λ (v : Verdict). fresh_from v old empty_table empty_boxes) accepted in
     ap (λ (f : FreshOutcome). world_with f.state f.cache f.boxes log) started
 
@@ -54,14 +54,14 @@ run_left plan scripts log limit possible = go (run_verdict plan scripts (fresh_w
     reached count = record { possible = state_is_valid plan scripts log count possible; long = log_length_lem plan scripts log count possible }
 
     go : (verdict : Verdict) → Left plan log (run_from verdict plan scripts (fresh_world log) limit).world
-    go Accepted = reached limit
-    go (Refused refusal) = reached 0
+    go (Ok tt) = reached limit
+    go (Err refusal) = reached 0
 
 -- a run that goes on from any world which steps from a fresh start reach, beside a script store of the right length, is not refused
 pub reached_accepted : (plan : Plan) (scripts log : List ℕ) (count : ℕ)
     → plan_valid plan ≡ true
     → length scripts ≡ scripts_length
-    → run_verdict plan scripts (reached_world plan scripts log count) ≡ Accepted
+    → run_verdict plan scripts (reached_world plan scripts log count) ≡ Ok tt
 reached_accepted plan scripts log count possible store =
     run_passes plan scripts (reached_world plan scripts log count) store
     (cache_length plan scripts log count possible)
@@ -76,7 +76,7 @@ reached_accepted plan scripts log count possible store =
 pub fresh_run_accepted : (plan : Plan) (scripts log : List ℕ)
     → plan_valid plan ≡ true
     → length scripts ≡ scripts_length
-    → run_verdict plan scripts (fresh_world log) ≡ Accepted
+    → run_verdict plan scripts (fresh_world log) ≡ Ok tt
 unfolding run_by
 fresh_run_accepted plan scripts log possible store = reached_accepted plan scripts log 0 possible store
 

@@ -1,5 +1,6 @@
 -- Running with only one domain's log answers and leaves what running does, with that domain's part for the log. Assumes
 -- nothing.
+use Rattle.std.specs.Prelude.{Ok, Err}
 use Prim.Native.Nat.{ℕ, ◌*◌, ◌≤◌, ◌<◌}
 use mathlib.Core.List.{List}
 use mathlib.Core.Path.{◌≡◌, refl, ap, ◌∙◌}
@@ -15,11 +16,10 @@ use Rattle.state.specs.World.{World}
 use Rattle.machine.specs.Keeping.{kept_effect, kept_world}
 use Rattle.machine.specs.Steps.{RunEffect, run_of}
 use Rattle.machine.proofs.Keeping.{kept_runs_alike}
-use Rattle.refusal.specs.declared.Verdict.{Verdict}
-use Rattle.refusal.specs.declared.Verdict.TheVariants.{Accepted, Refused}
 use Rattle.engine.specs.Checks.{kept_verdict, run_verdict}
 use Rattle.engine.specs.Keeping.{KeptCallsAlike, kept_call_of, kept_outcome}
 use Rattle.engine.specs.Running.{outcome_from, ran_from, run_call_of}
+use Rattle.refusal.specs.Verdict.{Verdict}
 
 -- a declared domain's part is as long as its records
 pub whole_part_lem : (plan : Plan) (quota domain : ℕ) (log : List ℕ) → domain < plan.domains → quota ≡ part_records plan (length log)
@@ -48,8 +48,8 @@ module _ (plan : Plan) (scripts : List ℕ) (world : World) (limit domain quota 
       → outcome_from verdict plan (kept_effect quota domain (run_of plan scripts quota limit world)) (kept_world quota domain world)
       ≡ kept_outcome quota domain (outcome_from verdict plan (run_of plan scripts quota limit world) world)
   unfolding ran_from
-  by_verdict Accepted = refl
-  by_verdict (Refused refusal) = refl
+  by_verdict (Ok tt) = refl
+  by_verdict (Err refusal) = refl
 
   call_alike : kept_call_of plan scripts domain quota (kept_world quota domain world) limit
       ≡ kept_outcome quota domain (run_call_of plan scripts world limit)

@@ -1,4 +1,5 @@
 -- What passes the checks one by one is accepted. Assumes nothing.
+use Rattle.std.specs.Prelude.{Ok}
 use Prim.Native.Nat.{ℕ, ◌<◌}
 use mathlib.Core.Bool.{true}
 use mathlib.Core.List.{List}
@@ -15,7 +16,6 @@ use Rattle.state.specs.declared.State.{State}
 use Rattle.state.specs.TableValidity.{tables_valid}
 use Rattle.state.specs.StateValidity.{state_valid}
 use Rattle.state.specs.World.{World}
-use Rattle.refusal.specs.declared.Verdict.TheVariants.{Accepted}
 use Rattle.engine.specs.LogQuery.{log_status_of}
 use Rattle.engine.specs.Checks.{lent_verdict, log_verdict, run_verdict}
 
@@ -27,7 +27,7 @@ pub run_passes : (plan : Plan) (scripts : List ℕ) (world : World)
     → plan_valid plan ≡ true
     → tables_valid plan world.state world.cache world.boxes ≡ true
     → state_valid plan (part_records plan (length world.log)) world.state ≡ true
-    → run_verdict plan scripts world ≡ Accepted
+    → run_verdict plan scripts world ≡ Ok tt
 unfolding run_verdict lent_verdict
 run_passes plan scripts world store cache boxes possible sound passes =
     rw (
@@ -46,7 +46,7 @@ pub log_query_passes : (plan : Plan) (state : State) (log : List ℕ) (domain : 
     → plan_valid plan ≡ true
     → state_valid plan (part_records plan (length log)) state ≡ true
     → domain < plan.domains
-    → log_status_of plan state log domain ≡ Accepted
+    → log_status_of plan state log domain ≡ Ok tt
 unfolding log_status_of log_verdict
 log_query_passes plan state log domain possible passes declared =
     rw (possible, passes, lt-ltb domain plan.domains declared, log_verdict)

@@ -1,4 +1,5 @@
 -- What the entry point `run` answers is within the bounds. Assumes nothing.
+use Rattle.std.specs.Prelude.{Ok, Err}
 use Prim.Native.Nat.{ℕ, ◌+◌, ◌≤◌}
 use mathlib.Core.List.{List}
 use mathlib.Core.Path.{◌≡◌, refl, sym, ap, ◌∙◌}
@@ -15,13 +16,12 @@ use Rattle.machine.proofs.Schedule.{scheduled, valid_scheduled}
 use Rattle.reachable.specs.StepCounts.{ops_run}
 use Rattle.reachable.proofs.Ending.{ops_within, steps_are, steps_within}
 use Rattle.reachable.proofs.WindowSteps.{all_windows, window_steps_lem}
-use Rattle.refusal.specs.declared.Verdict.{Verdict}
-use Rattle.refusal.specs.declared.Verdict.TheVariants.{Accepted, Refused}
 use Rattle.engine.specs.Checks.{run_verdict}
 use Rattle.engine.specs.Running.{ran_from, run_call_of, run_from}
 use Rattle.engine.specs.Theorems.{FreshRunsBounded, WindowsBounded, run_from_fresh}
 use Rattle.engine.proofs.FreshRuns.{fresh_run_ends}
 use Rattle.engine.proofs.Verdicts.{run_accepted}
+use Rattle.refusal.specs.Verdict.{Verdict}
 
 -- ---- a run from a fresh start, refused or not
 
@@ -32,9 +32,9 @@ module _ (plan : Plan) (scripts log : List ℕ) (limit : ℕ) where
     where
       go : (verdict : Verdict) → run_verdict plan scripts (fresh_world log) ≡ verdict
           → (run_from verdict plan scripts (fresh_world log) limit).steps ≤ step_bound plan scripts
-      go Accepted passed =
+      go (Ok tt) passed =
           steps_within plan scripts (part_records plan (length log)) (run_accepted plan scripts (fresh_world log) passed).possible limit log
-      go (Refused refusal) told = omega arith
+      go (Err refusal) told = omega arith
 
   counted : (run_from_fresh plan scripts log limit).steps ≡ ops_run (run_from_fresh plan scripts log limit).world + (run_from_fresh plan scripts log limit).world.state.windows
   unfolding run_call_of ran_from fresh_world fresh_state sum_to
@@ -43,9 +43,9 @@ module _ (plan : Plan) (scripts log : List ℕ) (limit : ℕ) where
       go : (verdict : Verdict) → run_verdict plan scripts (fresh_world log) ≡ verdict
           → (run_from verdict plan scripts (fresh_world log) limit).steps
           ≡ ops_run (run_from verdict plan scripts (fresh_world log) limit).world + (run_from verdict plan scripts (fresh_world log) limit).world.state.windows
-      go Accepted passed =
+      go (Ok tt) passed =
           steps_are plan scripts (part_records plan (length log)) (run_accepted plan scripts (fresh_world log) passed).possible limit log
-      go (Refused refusal) told = refl
+      go (Err refusal) told = refl
 
   -- a refused run leaves the fresh world, in which nothing was run
   parts : (ops_run (run_from_fresh plan scripts log limit).world ≤ ops_stored scripts)
@@ -56,11 +56,11 @@ module _ (plan : Plan) (scripts log : List ℕ) (limit : ℕ) where
       go : (verdict : Verdict) → run_verdict plan scripts (fresh_world log) ≡ verdict
           → (ops_run (run_from verdict plan scripts (fresh_world log) limit).world ≤ ops_stored scripts)
           × ((run_from verdict plan scripts (fresh_world log) limit).world.state.windows ≤ windows_total plan)
-      go Accepted passed =
+      go (Ok tt) passed =
           let quota = part_records plan (length log) in
           let possible = (run_accepted plan scripts (fresh_world log) passed).possible in
           (ops_within plan scripts quota possible limit log, (scheduled plan scripts quota limit log possible).windows)
-      go (Refused refusal) told = (omega arith, omega arith)
+      go (Err refusal) told = (omega arith, omega arith)
 
 pub fresh_runs_bounded : FreshRunsBounded
 fresh_runs_bounded = record { within = within; ends = fresh_run_ends; counted = counted; parts = parts }

@@ -1,4 +1,5 @@
 -- What an accepted call is known to have been lent, and each verdict from the tests that give it. Assumes nothing.
+use Rattle.std.specs.Prelude.{Ok, Err}
 use mathlib.Core.Path.{◌≡◌, refl, sym, ap, ◌∙◌}
 use mathlib.Core.Bool.{Bool, true, false, and-eq-true_iff, ◌&&◌}
 use mathlib.Core.List.{List, []}
@@ -29,8 +30,6 @@ use Rattle.machine.specs.Steps.{run_keeping}
 use Rattle.machine.specs.View.{ran_with}
 use Rattle.refusal.specs.declared.Refusal.{Refusal}
 use Rattle.refusal.specs.declared.Refusal.TheVariants.{DamagedTable, ImpossiblePlan, ImpossibleState, WrongDomain, WrongLength}
-use Rattle.refusal.specs.declared.Verdict.{Verdict}
-use Rattle.refusal.specs.declared.Verdict.TheVariants.{Accepted, Refused}
 use Rattle.engine.specs.Answers.{answered, fresh_with}
 use Rattle.engine.specs.declared.Ending.{Ending}
 use Rattle.engine.specs.declared.Ending.TheVariants.{Stopped}
@@ -44,6 +43,7 @@ use Rattle.engine.specs.FreshStart.{fresh_from, fresh_start_of}
 use Rattle.engine.specs.Checks.{fresh_verdict, kept_verdict, lent_verdict, log_verdict, run_verdict, tables_fit}
 use Rattle.refusal.specs.Checks.{and_then, unless}
 use Rattle.refusal.proofs.Passed.{unless_passed}
+use Rattle.refusal.specs.Verdict.{Verdict}
 
 -- what a fresh start took
 pub record FreshAccepted (plan : Plan) (cache boxes : List ℕ) : Type 0 where
@@ -51,7 +51,7 @@ pub record FreshAccepted (plan : Plan) (cache boxes : List ℕ) : Type 0 where
   pub boxes_long : length boxes ≡ boxes_length
   pub possible : plan_valid plan ≡ true
 
-pub fresh_accepted : (plan : Plan) (cache boxes : List ℕ) → fresh_verdict plan cache boxes ≡ Accepted → FreshAccepted plan cache boxes
+pub fresh_accepted : (plan : Plan) (cache boxes : List ℕ) → fresh_verdict plan cache boxes ≡ Ok tt → FreshAccepted plan cache boxes
 unfolding fresh_verdict
 fresh_accepted plan cache boxes passed =
     let fits = unless_passed _ _ _ passed in
@@ -68,8 +68,8 @@ pub record LentAccepted (plan : Plan) (scripts : List ℕ) (state : State) (cach
 
 module _ (plan : Plan) (scripts : List ℕ) (state : State) (cache boxes : List ℕ) where
   -- where all checks pass, those of what is lent do, and those that follow
-  pub lent_accepted : (next : Verdict) → lent_verdict plan scripts state cache boxes next ≡ Accepted
-      → LentAccepted plan scripts state cache boxes × (next ≡ Accepted)
+  pub lent_accepted : (next : Verdict) → lent_verdict plan scripts state cache boxes next ≡ Ok tt
+      → LentAccepted plan scripts state cache boxes × (next ≡ Ok tt)
   unfolding lent_verdict
   lent_accepted next passed =
       let first = unless_passed (eqb (length scripts) scripts_length && tables_fit cache boxes) _ _ passed in
@@ -89,21 +89,21 @@ module _ (plan : Plan) (scripts : List ℕ) (state : State) (cache boxes : List 
 
   -- what is lent is refused before the checks that follow, or these decide
   pub lent_then : (next : Verdict) → lent_verdict plan scripts state cache boxes next
-      ≡ and_then (lent_verdict plan scripts state cache boxes Accepted) next
+      ≡ and_then (lent_verdict plan scripts state cache boxes (Ok tt)) next
   unfolding lent_verdict
   lent_then next =
       go (eqb (length scripts) scripts_length && tables_fit cache boxes) (plan_valid plan) (tables_valid plan state cache boxes)
     where
       go : (fit possible sound : Bool)
           → unless fit WrongLength (unless possible ImpossiblePlan (unless sound DamagedTable next))
-          ≡ and_then (unless fit WrongLength (unless possible ImpossiblePlan (unless sound DamagedTable Accepted))) next
+          ≡ and_then (unless fit WrongLength (unless possible ImpossiblePlan (unless sound DamagedTable (Ok tt)))) next
       go false possible sound = refl
       go true false sound = refl
       go true true false = refl
       go true true true = refl
 
   -- so with what was found of it
-  pub lent_next : (found next : Verdict) → found ≡ lent_verdict plan scripts state cache boxes Accepted
+  pub lent_next : (found next : Verdict) → found ≡ lent_verdict plan scripts state cache boxes (Ok tt)
       → and_then found next ≡ lent_verdict plan scripts state cache boxes next
   lent_next found next is = ap (λ (first : Verdict). and_then first next) is ∙ sym (lent_then next)
 
@@ -116,7 +116,7 @@ pub record RunAccepted (plan : Plan) (scripts : List ℕ) (world : World) : Type
   pub sound : tables_valid plan world.state world.cache world.boxes ≡ true
   pub state_is : state_valid plan (part_records plan (length world.log)) world.state ≡ true
 
-pub run_accepted : (plan : Plan) (scripts : List ℕ) (world : World) → run_verdict plan scripts world ≡ Accepted → RunAccepted plan scripts world
+pub run_accepted : (plan : Plan) (scripts : List ℕ) (world : World) → run_verdict plan scripts world ≡ Ok tt → RunAccepted plan scripts world
 unfolding run_verdict
 run_accepted plan scripts world passed =
     let all = lent_accepted plan scripts world.state world.cache world.boxes _ passed in
@@ -137,7 +137,7 @@ pub record KeptAccepted (plan : Plan) (scripts : List ℕ) (domain quota : ℕ) 
   pub declared : domain < plan.domains
 
 pub kept_accepted : (plan : Plan) (scripts : List ℕ) (domain quota : ℕ) (world : World)
-    → kept_verdict plan scripts domain quota world ≡ Accepted → KeptAccepted plan scripts domain quota world
+    → kept_verdict plan scripts domain quota world ≡ Ok tt → KeptAccepted plan scripts domain quota world
 unfolding kept_verdict
 kept_accepted plan scripts domain quota world passed =
     let first = unless_passed (eqb (length world.log) (record_size * quota)) _ _ passed in
@@ -173,10 +173,10 @@ divided bytes records = go (eqb bytes (record_size * records)) refl
 -- the checks of a run after its log's length, by the log that it is lent
 pub lent_log_next : (lent : LentLog) (plan : Plan) (scripts : List ℕ) (world : World) (found : Verdict) (counted declared : Bool)
     → log_fits lent (length world.log) ≡ true
-    → found ≡ lent_verdict plan scripts world.state world.cache world.boxes Accepted
+    → found ≡ lent_verdict plan scripts world.state world.cache world.boxes (Ok tt)
     → counted ≡ state_valid plan (quota_of lent plan (length world.log)) world.state
     → declared ≡ domain_fits lent plan.domains
-    → and_then found (unless counted ImpossibleState (unless declared (WrongDomain 0) Accepted))
+    → and_then found (unless counted ImpossibleState (unless declared (WrongDomain 0) (Ok tt)))
     ≡ lent_log_verdict lent plan scripts world
 unfolding lent_log_verdict
 lent_log_next lent plan scripts world found counted declared fits is counts names =
@@ -189,7 +189,7 @@ pub record CallAccepted (lent : LentLog) (plan : Plan) (scripts : List ℕ) (wor
   pub state_is : state_valid plan (quota_of lent plan (length world.log)) world.state ≡ true
 
 pub call_accepted : (lent : LentLog) (plan : Plan) (scripts : List ℕ) (world : World)
-    → lent_log_verdict lent plan scripts world ≡ Accepted → CallAccepted lent plan scripts world
+    → lent_log_verdict lent plan scripts world ≡ Ok tt → CallAccepted lent plan scripts world
 unfolding lent_log_verdict
 call_accepted lent plan scripts world passed =
     let first = unless_passed (log_fits lent (length world.log)) _ _ passed in
@@ -225,7 +225,7 @@ pub record LogAccepted (plan : Plan) (state : State) (log : List ℕ) (domain : 
   pub declared : domain < plan.domains
 
 pub log_accepted :
-    (plan : Plan) (state : State) (log : List ℕ) (domain : ℕ) → log_verdict plan state log domain ≡ Accepted → LogAccepted plan state log domain
+    (plan : Plan) (state : State) (log : List ℕ) (domain : ℕ) → log_verdict plan state log domain ≡ Ok tt → LogAccepted plan state log domain
 unfolding log_verdict
 log_accepted plan state log domain passed =
     let first = unless_passed (plan_valid plan) _ _ passed in
@@ -244,16 +244,16 @@ module _ (plan : Plan) (scripts : List ℕ) (world : World) where
   abbrev pub all_fit : Bool
   all_fit = eqb (length scripts) scripts_length && tables_fit world.cache world.boxes
 
-  pub run_wrong_length : all_fit ≡ false → Refused WrongLength ≡ run_verdict plan scripts world
+  pub run_wrong_length : all_fit ≡ false → Err WrongLength ≡ run_verdict plan scripts world
   unfolding run_verdict lent_verdict
   run_wrong_length unfit = rw (unfit, lent_verdict) refl
 
-  pub run_impossible : all_fit ≡ true → plan_valid plan ≡ false → Refused ImpossiblePlan ≡ run_verdict plan scripts world
+  pub run_impossible : all_fit ≡ true → plan_valid plan ≡ false → Err ImpossiblePlan ≡ run_verdict plan scripts world
   unfolding run_verdict lent_verdict
   run_impossible fit impossible = rw (fit, impossible, lent_verdict) refl
 
 pub log_impossible :
-    (plan : Plan) (state : State) (log : List ℕ) (domain : ℕ) → plan_valid plan ≡ false → Refused ImpossiblePlan ≡ log_verdict plan state log domain
+    (plan : Plan) (state : State) (log : List ℕ) (domain : ℕ) → plan_valid plan ≡ false → Err ImpossiblePlan ≡ log_verdict plan state log domain
 unfolding log_verdict
 log_impossible plan state log domain impossible = rw (impossible, log_verdict) refl
 
@@ -261,18 +261,18 @@ log_impossible plan state log domain impossible = rw (impossible, log_verdict) r
 module _ (plan : Plan) (state : State) (cache boxes : List ℕ) where
   pub fresh_refused :
       (refusal : Refusal)
-      → Refused refusal ≡ fresh_verdict plan cache boxes
-      → fresh_with (Refused refusal) state cache boxes ≡ fresh_start_of plan state cache boxes
+      → Err refusal ≡ fresh_verdict plan cache boxes
+      → fresh_with (Err refusal) state cache boxes ≡ fresh_start_of plan state cache boxes
   unfolding fresh_start_of
   fresh_refused refusal refused = ap (λ (verdict : Verdict). fresh_from verdict state cache boxes) refused
 
   pub fresh_started :
       (fresh : State) (emptied cleared : List ℕ)
-      → Accepted ≡ fresh_verdict plan cache boxes
+      → (Ok tt) ≡ fresh_verdict plan cache boxes
       → fresh ≡ fresh_state
       → emptied ≡ replicate (length cache) 0
       → cleared ≡ replicate (length boxes) 0
-      → fresh_with Accepted fresh emptied cleared ≡ fresh_start_of plan state cache boxes
+      → fresh_with (Ok tt) fresh emptied cleared ≡ fresh_start_of plan state cache boxes
   unfolding fresh_start_of
   fresh_started fresh emptied cleared accepted zeroed empties clears =
       let lent = fresh_accepted plan cache boxes (sym accepted) in
@@ -282,8 +282,8 @@ module _ (plan : Plan) (state : State) (cache boxes : List ℕ) where
 module _ (plan : Plan) (scripts : List ℕ) (world : World) (limit : ℕ) where
   pub run_refused :
       (refusal : Refusal)
-      → Refused refusal ≡ run_verdict plan scripts world
-      → answered (Refused refusal) 0 Stopped world ≡ run_call_of plan scripts world limit
+      → Err refusal ≡ run_verdict plan scripts world
+      → answered (Err refusal) 0 Stopped world ≡ run_call_of plan scripts world limit
   unfolding run_call_of
   run_refused refusal refused = ap (λ (verdict : Verdict). run_from verdict plan scripts world limit) refused
 
@@ -291,8 +291,8 @@ module _ (plan : Plan) (scripts : List ℕ) (world : World) (limit : ℕ) where
 module _ (lent : LentLog) (plan : Plan) (scripts : List ℕ) (world : World) (limit : ℕ) where
   pub call_refused :
       (refusal : Refusal)
-      → Refused refusal ≡ lent_log_verdict lent plan scripts world
-      → answered (Refused refusal) 0 Stopped world ≡ lent_call_of lent plan scripts world limit
+      → Err refusal ≡ lent_log_verdict lent plan scripts world
+      → answered (Err refusal) 0 Stopped world ≡ lent_call_of lent plan scripts world limit
   unfolding lent_call_of
   call_refused refusal refused =
       ap
@@ -302,12 +302,12 @@ module _ (lent : LentLog) (plan : Plan) (scripts : List ℕ) (world : World) (li
 
   pub call_ran :
       (keep : Keep) (quota steps : ℕ) (last : World) (ending : Ending)
-      → Accepted ≡ lent_log_verdict lent plan scripts world
+      → (Ok tt) ≡ lent_log_verdict lent plan scripts world
       → keep ≡ keep_of lent
       → quota ≡ quota_of lent plan (length world.log)
       → ran_with steps last ≡ run_keeping keep plan scripts quota limit world
       → ending ≡ ending_of (ended_of plan last.state)
-      → answered Accepted steps ending last ≡ lent_call_of lent plan scripts world limit
+      → answered (Ok tt) steps ending last ≡ lent_call_of lent plan scripts world limit
   unfolding lent_call_of ran_from
   call_ran keep quota steps last ending accepted keeps parts did ends =
       rw ends
@@ -336,13 +336,13 @@ counted_part plan quota state domain passes declared below =
 
 -- what a log query hands back, refused or not
 module _ (plan : Plan) (state : State) (log : List ℕ) (domain : ℕ) where
-  pub log_refused : (refusal : Refusal) → Refused refusal ≡ log_verdict plan state log domain → [] ≡ log_query_of plan state log domain
+  pub log_refused : (refusal : Refusal) → Err refusal ≡ log_verdict plan state log domain → [] ≡ log_query_of plan state log domain
   unfolding log_query_of
   log_refused refusal refused = ap (λ (verdict : Verdict). log_from verdict plan state log domain) refused
 
   pub log_handed :
       (quota : ℕ)
-      → Accepted ≡ log_verdict plan state log domain
+      → (Ok tt) ≡ log_verdict plan state log domain
       → quota ≡ part_records plan (length log)
       → take (8 * (quota * domain) + 8 * records_at state domain - 8 * (quota * domain)) (drop (8 * (quota * domain)) log)
       ≡ log_query_of plan state log domain
@@ -354,17 +354,17 @@ module _ (plan : Plan) (state : State) (log : List ℕ) (domain : ℕ) where
       ∙ ap (λ (verdict : Verdict). log_from verdict plan state log domain) accepted)
 
   -- and where in the lent log it lies
-  pub offset_refused : (refusal : Refusal) (at : ℕ) → Refused refusal ≡ log_verdict plan state log domain
+  pub offset_refused : (refusal : Refusal) (at : ℕ) → Err refusal ≡ log_verdict plan state log domain
       → at ≡ at + log_offset_of plan state log domain
   unfolding log_offset_of
   offset_refused refusal at refused =
       sym (add-zero at) ∙ ap (λ (verdict : Verdict). at + offset_from verdict plan log domain) refused
 
-  pub offset_handed : (quota at : ℕ) → Accepted ≡ log_verdict plan state log domain → quota ≡ part_records plan (length log)
+  pub offset_handed : (quota at : ℕ) → (Ok tt) ≡ log_verdict plan state log domain → quota ≡ part_records plan (length log)
       → 8 * (quota * domain) + at ≡ at + log_offset_of plan state log domain
   unfolding log_offset_of
   offset_handed quota at accepted parts =
-      let begins : 8 * (quota * domain) ≡ offset_from Accepted plan log domain = rw (parts, add-zero) refl in
+      let begins : 8 * (quota * domain) ≡ offset_from (Ok tt) plan log domain = rw (parts, add-zero) refl in
       let same = ap (λ (verdict : Verdict). offset_from verdict plan log domain) accepted in
       omega arith
 

@@ -7,9 +7,9 @@ use Rattle.engine.specs.declared.Answer.{Answer}
 use Rattle.engine.specs.declared.Ending.{Ending}
 use Rattle.engine.specs.declared.Progress.{Progress}
 use Rattle.state.specs.declared.State.{State}
-use Rattle.refusal.specs.declared.Verdict.{Verdict}
 use Rattle.engine.specs.FreshStart.{FreshOutcome}
 use Rattle.engine.specs.Running.{RunOutcome}
+use Rattle.refusal.specs.Verdict.{Verdict}
 
 -- four things as one answer
 abbrev pub answered : Verdict → ℕ → Ending → World → RunOutcome

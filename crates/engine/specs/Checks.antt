@@ -2,7 +2,7 @@
 -- a plan value: lengths (11), plan validity (12), table validity (13), state validity (14), and
 -- last a domain that is not declared (4), in this order, each where the call takes that thing.
 -- Assumes nothing.
-use Rattle.std.specs.Prelude.{ℕ, ◌*◌, Bool, ◌&&◌, List, eqb, ltb, length}
+use Rattle.std.specs.Prelude.{ℕ, ◌*◌, Bool, ◌&&◌, List, eqb, ltb, length, Ok}
 use Rattle.plan.specs.declared.Plan.{Plan}
 use Rattle.plan.specs.Validity.{plan_valid}
 use Rattle.script.specs.Limits.{scripts_length}
@@ -15,9 +15,8 @@ use Rattle.state.specs.StateValidity.{state_valid}
 use Rattle.state.specs.World.{World}
 use Rattle.refusal.specs.declared.Refusal.TheVariants.{DamagedTable, ImpossiblePlan}
 use Rattle.refusal.specs.declared.Refusal.TheVariants.{ImpossibleState, WrongDomain, WrongLength}
-use Rattle.refusal.specs.declared.Verdict.{Verdict}
-use Rattle.refusal.specs.declared.Verdict.TheVariants.{Accepted}
 use Rattle.refusal.specs.Checks.{unless}
+use Rattle.refusal.specs.Verdict.{Verdict}
 
 -- 11: the cache table and the boxes have their lengths
 abbrev pub tables_fit : List ℕ → List ℕ → Bool
@@ -28,7 +27,7 @@ tables_fit cache boxes = eqb (length cache) table_length && eqb (length boxes) b
 unfoldable pub fresh_verdict : Plan → List ℕ → List ℕ → Verdict
 fresh_verdict plan cache boxes =
     unless (tables_fit cache boxes) WrongLength
-    (unless (plan_valid plan) ImpossiblePlan Accepted)
+    (unless (plan_valid plan) ImpossiblePlan (Ok tt))
 
 -- what a step and a run are lent beside their log: 11, 12, 13; then the checks that follow
 unfoldable pub lent_verdict : Plan → List ℕ → State → List ℕ → List ℕ → Verdict → Verdict
@@ -42,7 +41,7 @@ unfoldable pub run_verdict : Plan → List ℕ → World → Verdict
 run_verdict plan scripts world =
     lent_verdict plan scripts world.state world.cache world.boxes
     (unless (state_valid plan (part_records plan (length world.log)) world.state)
-    ImpossibleState Accepted)
+    ImpossibleState (Ok tt))
 
 -- a run that keeps one domain's log, where a part holds `quota` records: 11 also where the buffer
 -- is not one part long; 12, 13; 14 against that number of records; and last 4 for a domain that is
@@ -52,7 +51,7 @@ kept_verdict plan scripts domain quota world =
     unless (eqb (length world.log) (record_size * quota)) WrongLength
     (lent_verdict plan scripts world.state world.cache world.boxes
     (unless (state_valid plan quota world.state) ImpossibleState
-    (unless (ltb domain plan.domains) (WrongDomain 0) Accepted)))
+    (unless (ltb domain plan.domains) (WrongDomain 0) (Ok tt))))
 
 -- a log query takes plan, state, log and a domain: 12, 14, and last 4 for a domain that is not
 -- declared
@@ -60,4 +59,4 @@ unfoldable pub log_verdict : Plan → State → List ℕ → ℕ → Verdict
 log_verdict plan state log domain =
     unless (plan_valid plan) ImpossiblePlan
     (unless (state_valid plan (part_records plan (length log)) state) ImpossibleState
-    (unless (ltb domain plan.domains) (WrongDomain 0) Accepted))
+    (unless (ltb domain plan.domains) (WrongDomain 0) (Ok tt)))

@@ -1,6 +1,6 @@
 -- A run by the log that it is lent, document 01's whole one or document 02's, E8, of one domain:
 -- one definition, for the code that does both. Assumes nothing.
-use Rattle.std.specs.Prelude.{ℕ, ◌*◌, Bool, true, List, eqb, ltb, length}
+use Rattle.std.specs.Prelude.{ℕ, ◌*◌, Bool, true, List, eqb, ltb, length, Ok}
 use Rattle.plan.specs.declared.Plan.{Plan}
 use Rattle.records.specs.declared.Keep.{Keep}
 use Rattle.records.specs.declared.Keep.TheVariants.{Every, One}
@@ -9,13 +9,12 @@ use Rattle.state.specs.StateValidity.{state_valid}
 use Rattle.state.specs.World.{World}
 use Rattle.machine.specs.Steps.{run_keeping}
 use Rattle.refusal.specs.declared.Refusal.TheVariants.{ImpossibleState, WrongDomain, WrongLength}
-use Rattle.refusal.specs.declared.Verdict.{Verdict}
-use Rattle.refusal.specs.declared.Verdict.TheVariants.{Accepted}
 use Rattle.refusal.specs.Checks.{unless}
 use Rattle.engine.specs.declared.LentLog.{LentLog}
 use Rattle.engine.specs.declared.LentLog.TheVariants.{Part, Whole}
 use Rattle.engine.specs.Checks.{lent_verdict}
 use Rattle.engine.specs.Running.{RunOutcome, outcome_from}
+use Rattle.refusal.specs.Verdict.{Verdict}
 
 -- whose records it keeps
 abbrev pub keep_of : LentLog → Keep
@@ -44,7 +43,7 @@ lent_log_verdict lent plan scripts world =
     (lent_verdict plan scripts world.state world.cache world.boxes
     (unless (state_valid plan (quota_of lent plan (length world.log)) world.state)
     ImpossibleState
-    (unless (domain_fits lent plan.domains) (WrongDomain 0) Accepted)))
+    (unless (domain_fits lent plan.domains) (WrongDomain 0) (Ok tt))))
 
 unfoldable pub lent_call_of : LentLog → Plan → List ℕ → World → ℕ → RunOutcome
 lent_call_of lent plan scripts world limit =

@@ -1,14 +1,13 @@
 -- Document 01, "Window, switch, run": a single step, and running with a number of steps as its limit. Assumes nothing.
-use Rattle.std.specs.Prelude.{ℕ, Bool, cond, List, length}
+use Rattle.std.specs.Prelude.{ℕ, Bool, cond, List, length, Ok, Err}
 use Rattle.plan.specs.declared.Plan.{Plan}
 use Rattle.records.specs.Records.{part_records}
 use Rattle.state.specs.World.{World, ended_of}
 use Rattle.machine.specs.Steps.{RunEffect, run_of}
-use Rattle.refusal.specs.declared.Verdict.{Verdict}
-use Rattle.refusal.specs.declared.Verdict.TheVariants.{Accepted, Refused}
 use Rattle.engine.specs.declared.Ending.{Ending}
 use Rattle.engine.specs.declared.Ending.TheVariants.{Stopped, Ended}
 use Rattle.engine.specs.Checks.{run_verdict}
+use Rattle.refusal.specs.Verdict.{Verdict}
 
 -- what a run answers and leaves
 pub record RunOutcome : Type 0 where
@@ -25,13 +24,13 @@ ending_of ended = cond ended Ended Stopped
 unfoldable pub ran_from : Plan → RunEffect → RunOutcome
 ran_from plan ran =
     record
-    { verdict = Accepted; steps = ran.done; ending = ending_of (ended_of plan ran.world.state); world = ran.world }
+    { verdict = Ok tt; steps = ran.done; ending = ending_of (ended_of plan ran.world.state); world = ran.world }
 
 -- what any run answers, by its verdict: a refused one changes nothing, and does no step
 abbrev pub outcome_from : Verdict → Plan → RunEffect → World → RunOutcome
-outcome_from Accepted plan ran world = ran_from plan ran
-outcome_from (Refused refusal) plan ran world =
-    record { verdict = Refused refusal; steps = 0; ending = Stopped; world = world }
+outcome_from (Ok tt) plan ran world = ran_from plan ran
+outcome_from (Err refusal) plan ran world =
+    record { verdict = Err refusal; steps = 0; ending = Stopped; world = world }
 
 -- a run with the whole log, whose length gives how many records a part holds
 abbrev pub run_from : Verdict → Plan → List ℕ → World → ℕ → RunOutcome

@@ -1,6 +1,6 @@
 -- Document 02, E3: how many steps a run answers at most, from a fresh start and in each window.
 -- Assumes nothing.
-use Rattle.std.specs.Prelude.{ℕ, ◌+◌, ◌≤◌, true, List, ◌≡◌, length}
+use Rattle.std.specs.Prelude.{ℕ, ◌+◌, ◌≤◌, true, List, ◌≡◌, length, Ok}
 use Rattle.plan.specs.declared.Plan.{Plan}
 use Rattle.plan.specs.Sums.{sum_to}
 use Rattle.plan.specs.Validity.{plan_valid}
@@ -11,7 +11,6 @@ use Rattle.records.specs.Records.{part_records}
 use Rattle.state.specs.World.{World}
 use Rattle.machine.specs.Fresh.{fresh_world}
 use Rattle.reachable.specs.StepCounts.{ops_run, window_steps}
-use Rattle.refusal.specs.declared.Verdict.TheVariants.{Accepted}
 use Rattle.engine.specs.Checks.{run_verdict}
 use Rattle.engine.specs.declared.Ending.TheVariants.{Ended}
 use Rattle.engine.specs.Running.{RunOutcome, run_call_of}
@@ -54,11 +53,11 @@ pub record WindowsBounded : Type 0 where
   -- no window takes more steps than its length and one, its switch among them
   pub each :
       (plan : Plan) (scripts : List ℕ) (world : World) (limit window : ℕ)
-      → run_verdict plan scripts world ≡ Accepted
+      → run_verdict plan scripts world ≡ Ok tt
       → steps_in_window plan scripts world limit window ≤ window_length plan window + 1
   -- and the steps of all windows are those that it answers
   pub together :
       (plan : Plan) (scripts : List ℕ) (world : World) (limit : ℕ)
-      → run_verdict plan scripts world ≡ Accepted
+      → run_verdict plan scripts world ≡ Ok tt
       → sum_to (steps_in_window plan scripts world limit) (windows_total plan)
       ≡ (run_call_of plan scripts world limit).steps

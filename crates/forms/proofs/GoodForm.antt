@@ -1,5 +1,6 @@
 -- What a form that is not refused is known to satisfy: its numbers are within their limits, its domain is declared or the next one, its
 -- recipients are noted, and it ends at or past the offset that it is read from. Assumes nothing.
+use Rattle.std.specs.Prelude.{Result, Ok, Err}
 use Prim.Native.Nat.{ℕ, ◌≤◌, ◌<◌}
 use native.Mathlib.Omega.{arith}
 use mathlib.Core.List.{List}
@@ -15,20 +16,15 @@ use Rattle.script.specs.Limits.{last_domain}
 use Rattle.syntax.proofs.Advance.{OfNumber, by_number, then_bracketed, then_head, then_number_lem}
 use Rattle.syntax.proofs.GoodList.{GoodList, GoodPassed, Recorded, list_good}
 use Rattle.syntax.proofs.PastOp.{then_op_lem}
-use Rattle.syntax.specs.declared.NumberParse.{NumberParse}
-use Rattle.syntax.specs.declared.NumberParse.TheVariants.{Number as Is, Refused as RefusedNumber}
-use Rattle.syntax.specs.declared.TokenParse.{TokenParse}
-use Rattle.syntax.specs.declared.TokenParse.TheVariants.{To, Refused}
 use Rattle.syntax.specs.declared.RecipientList.{RecipientList}
 use Rattle.syntax.specs.Recipients.{recipients_at}
 use Rattle.syntax.specs.Tokens.{then}
 use Rattle.lexer.proofs.Reached.{cond_holds}
 use Rattle.forms.specs.declared.Form.{Form}
 use Rattle.forms.specs.declared.Form.TheVariants.{Blank, Pad, Run, Domain, Window, Op as Script, Refused as NoForm}
-use Rattle.forms.specs.declared.FormParse.{FormParse}
-use Rattle.forms.specs.declared.FormParse.TheVariants.{Form as Took, Refused as RefusedForm}
 use Rattle.forms.specs.declared.DomainParse.{DomainParse}
 use Rattle.forms.specs.Forms.{declared_domain, domain_form, listed_domain, may_form, next_domain, op_form, pad_form, refused_domain, run_form, window_form}
+use Rattle.syntax.specs.declared.Number.{Number}
 
 -- with `declared` domains above and `named` noted there; `marked` is noted once the form is read, and it reaches from `at` to `end`
 abbrev pub GoodForm : ℕ → List ℕ → List ℕ → ℕ → ℕ → Form → Type 0
@@ -42,11 +38,11 @@ GoodForm declared named marked at end (Window line) =
 GoodForm declared named marked at end (Script line) = (line.domain < declared) × (at ≤ end)
 GoodForm declared named marked at end (NoForm refusal) = Unit {0}
 
-abbrev GoodParse : ℕ → List ℕ → List ℕ → ℕ → FormParse → Type 0
-GoodParse declared named marked at (Took form end) = GoodForm declared named marked at end form
-GoodParse declared named marked at (RefusedForm refusal) = Unit {0}
+abbrev GoodParse : ℕ → List ℕ → List ℕ → ℕ → Result (Form × ℕ) Refusal → Type 0
+GoodParse declared named marked at (Ok (form, end)) = GoodForm declared named marked at end form
+GoodParse declared named marked at (Err refusal) = Unit {0}
 
-pub record Good (declared : ℕ) (named marked : List ℕ) (at : ℕ) (parse : FormParse) : Type 0 where
+pub record Good (declared : ℕ) (named marked : List ℕ) (at : ℕ) (parse : Result (Form × ℕ) Refusal) : Type 0 where
   pub form : GoodParse declared named marked at parse
 
 pub record GoodDomainParse (declared : ℕ) (named : List ℕ) (at : ℕ) (domain : DomainParse) : Type 0 where
@@ -55,7 +51,7 @@ pub record GoodDomainParse (declared : ℕ) (named : List ℕ) (at : ℕ) (domai
 -- ---- the number of a domain
 
 -- a number that passes a test and ends at or past the offset
-record Passes (P : ℕ → Type 0) (at : ℕ) (taken : NumberParse) : Type 0 where
+record Passes (P : ℕ → Type 0) (at : ℕ) (taken : Result Number Refusal) : Type 0 where
   is : OfNumber (λ value start end. P value × (value ≤ last_domain) × (at ≤ end)) taken
 
 declared_passes : (text : List ℕ) (declared at : ℕ) → Passes (λ value. value < declared) at (declared_domain text declared at)
@@ -63,7 +59,7 @@ unfolding declared_domain
 declared_passes text declared at =
     let P = Passes (λ value. value < declared) at in
     then_number_lem P text 0 last_domain at _ _ (λ _. record { is = tt }) λ domain start end low high on.
-    cond_holds P (ltb domain declared) (Is domain start end) (RefusedNumber (WrongDomain start))
+    cond_holds P (ltb domain declared) (Ok (number_with domain start end)) (Err (WrongDomain start))
     (λ below. record { is = (ltb-true _ _ below, high, on) })
     (λ _. record { is = tt })
 
@@ -72,14 +68,14 @@ unfolding next_domain
 next_passes text declared at =
     let P = Passes (λ value. value ≡ declared) at in
     then_number_lem P text 0 last_domain at _ _ (λ _. record { is = tt }) λ domain start end low high on.
-    cond_holds P (eqb domain declared) (Is domain start end) (RefusedNumber (WrongDomain start))
+    cond_holds P (eqb domain declared) (Ok (number_with domain start end)) (Err (WrongDomain start))
     (λ same. record { is = (eqb-true _ _ same, high, on) })
     (λ _. record { is = tt })
 
 -- ---- the forms
 
 module _ (text : List ℕ) (declared : ℕ) (named : List ℕ) (at : ℕ) where
-  none : (refusal : Refusal) → Good declared named named at (RefusedForm refusal)
+  none : (refusal : Refusal) → Good declared named named at (Err refusal)
   none refusal = record { form = tt }
 
   pub pad_good : (here : ℕ) → at ≤ here → Good declared named named at (pad_form text here)
@@ -118,12 +114,12 @@ module _ (text : List ℕ) (declared : ℕ) (named : List ℕ) (at : ℕ) where
   unfolding listed_domain
   listed_good share here list next low high past = go list.passed
     where
-      go : (passed : TokenParse) → GoodPassed declared here named list.rights list.named passed
+      go : (passed : Result ℕ Refusal) → GoodPassed declared here named list.rights list.named passed
           → GoodDomainParse declared named at
           (then passed (refused_domain list.named) λ end.
-          record { parse = Took (Domain (record { share = share; rights = list.rights })) end; named = list.named })
-      go (To end) h = record { parse = record { form = (next, low, high, h.1, omega arith) } }
-      go (Refused refusal) h = record { parse = record { form = tt } }
+          record { parse = Ok ((Domain (record { share = share; rights = list.rights })), end); named = list.named })
+      go (Ok end) h = record { parse = record { form = (next, low, high, h.1, omega arith) } }
+      go (Err refusal) h = record { parse = record { form = tt } }
 
   may_good : (share here : ℕ) → length named ≡ most_domains → declared ≤ last_domain → least_share ≤ share → share ≤ most_share → at ≤ here
       → GoodDomainParse declared named at (may_form text declared named share here)

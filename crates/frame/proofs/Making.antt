@@ -1,4 +1,5 @@
 -- What the maker answers: refused, and from the windows that were worked out. Assumes nothing.
+use Rattle.std.specs.Prelude.{Ok, Err}
 use Prim.Native.Nat.{ℕ, ◌≤◌, ◌<◌}
 use mathlib.Core.Bool.{Bool, true, false}
 use mathlib.Core.List.{List}
@@ -6,7 +7,6 @@ use mathlib.Core.Path.{◌≡◌, refl, sym, ap, ◌∙◌}
 use lib.ListN.{length, length-replicate, replicate}
 use Rattle.plan.specs.Limits.{most_domains, most_windows}
 use Rattle.refusal.specs.declared.Refusal.TheVariants.{FrameOutOfLimits}
-use Rattle.refusal.specs.declared.Verdict.TheVariants.{Accepted, Refused}
 use Rattle.frame.specs.Frame.{frame_of, inputs_valid, frame_answer_of, frame_answer_with}
 use Rattle.frame.specs.Quotas.{entry_of, window_count}
 use Rattle.frame.specs.Turns.{first_turns, zero_filled}
@@ -16,12 +16,12 @@ use Rattle.frame.proofs.Promises.{frames_by_weights, laid_fits}
 use Rattle.frame.proofs.Taken.{limits_valid, taken, valid_limits}
 
 pub made_refused : (count : ℕ) (weights : List ℕ) → inputs_valid count weights ≡ false
-    → frame_answer_with (Refused FrameOutOfLimits) (replicate most_windows 0) ≡ frame_answer_of count weights
+    → frame_answer_with (Err FrameOutOfLimits) (replicate most_windows 0) ≡ frame_answer_of count weights
 unfolding frame_answer_of
 made_refused count weights invalid = rw (invalid, frame_answer_of)
 
 pub made_valid : (count : ℕ) (weights : List ℕ) → inputs_valid count weights ≡ true
-    → frame_answer_of count weights ≡ frame_answer_with Accepted (frame_of count weights)
+    → frame_answer_of count weights ≡ frame_answer_with (Ok tt) (frame_of count weights)
 unfolding frame_answer_of
 made_valid count weights valid = rw (valid, frame_answer_of)
 
@@ -35,10 +35,10 @@ module _ (count : ℕ) (weights windows : List ℕ) (valid : inputs_valid count 
 
   pub made_frame : (frame : List ℕ)
       → frame ≡ zero_filled most_windows (first_turns (entry_of windows) count)
-      → frame_answer_with Accepted frame ≡ frame_answer_of count weights
+      → frame_answer_with (Ok tt) frame ≡ frame_answer_of count weights
   unfolding frame_of
   made_frame frame is =
-      ap (frame_answer_with Accepted) (is ∙ ap (zero_filled most_windows) laid_same) ∙ sym (made_valid count weights valid)
+      ap (frame_answer_with (Ok tt)) (is ∙ ap (zero_filled most_windows) laid_same) ∙ sym (made_valid count weights valid)
 
 -- it always answers as many numbers
 pub made_entries :

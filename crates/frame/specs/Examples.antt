@@ -1,21 +1,20 @@
 -- Document 02, E1: frames worked out by hand, and what is refused. Assumes nothing.
-use Rattle.std.specs.Prelude.{ℕ, List, [], ◌∷◌, ◌≡◌, replicate}
+use Rattle.std.specs.Prelude.{ℕ, List, [], ◌∷◌, ◌≡◌, replicate, Ok, Err}
 use Rattle.plan.specs.Limits.{most_windows}
 use Rattle.refusal.specs.declared.Refusal.TheVariants.{FrameOutOfLimits}
-use Rattle.refusal.specs.declared.Verdict.TheVariants.{Accepted, Refused}
 use Rattle.frame.specs.Frame.{frame_answer_of, frame_answer_with}
 use Rattle.frame.specs.Turns.{zero_filled}
 
 -- the frame with these windows is made
 abbrev Makes : ℕ → List ℕ → List ℕ → Type 0
 Makes count weights windows =
-    frame_answer_of count weights ≡ frame_answer_with Accepted (zero_filled most_windows windows)
+    frame_answer_of count weights ≡ frame_answer_with (Ok tt) (zero_filled most_windows windows)
 
 -- no frame is made
 abbrev Refuses : ℕ → List ℕ → Type 0
 Refuses count weights =
     frame_answer_of count weights
-    ≡ frame_answer_with (Refused FrameOutOfLimits) (replicate most_windows 0)
+    ≡ frame_answer_with (Err FrameOutOfLimits) (replicate most_windows 0)
 
 pub record FrameExamples : Type 0 where
   -- quotas 3, 2, 2: whole numbers

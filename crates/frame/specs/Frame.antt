@@ -1,15 +1,14 @@
 -- Document 02, E1: what the frame maker (`make_frame`) answers. Assumes nothing.
-use Rattle.std.specs.Prelude.{ℕ, Bool, true, false, not, ◌&&◌, List, eqb, leb, replicate}
+use Rattle.std.specs.Prelude.{ℕ, Bool, true, false, not, ◌&&◌, List, eqb, leb, replicate, Ok, Err}
 use Rattle.plan.specs.Limits.{least_windows, most_domains, most_windows}
 use Rattle.plan.specs.Sums.{all_below}
 use Rattle.plan.specs.Validity.{within}
 use Rattle.refusal.specs.declared.Refusal.TheVariants.{FrameOutOfLimits}
-use Rattle.refusal.specs.declared.Verdict.{Verdict}
-use Rattle.refusal.specs.declared.Verdict.TheVariants.{Accepted, Refused}
 use Rattle.frame.specs.declared.FrameAnswer.{FrameAnswer}
 use Rattle.frame.specs.Limits.{most_weight}
 use Rattle.frame.specs.Quotas.{entry_of, window_count}
 use Rattle.frame.specs.Turns.{first_turns, zero_filled}
+use Rattle.refusal.specs.Verdict.{Verdict}
 
 -- every weight is within its limit; the least, 0, is the least number there is
 unfoldable pub weights_within : List ℕ → Bool
@@ -38,6 +37,6 @@ frame_answer_with verdict frame = record { verdict = verdict; frame = frame }
 unfoldable pub frame_answer_of : ℕ → List ℕ → FrameAnswer
 frame_answer_of count weights =
     elim (inputs_valid count weights) [
-      | true ↦ frame_answer_with Accepted (frame_of count weights)
-      | false ↦ frame_answer_with (Refused FrameOutOfLimits) (replicate most_windows 0)
+      | true ↦ frame_answer_with (Ok tt) (frame_of count weights)
+      | false ↦ frame_answer_with (Err FrameOutOfLimits) (replicate most_windows 0)
     ]

@@ -1,10 +1,9 @@
 -- Document 02, E1: when a frame is made, and what it promises the planners who get it, said of its
 -- numbers and not of how they were laid. Assumes nothing.
-use Rattle.std.specs.Prelude.{ℕ, ◌+◌, ◌<◌, ◌≤◌, true, cond, List, [], ◌∷◌, ◌≡◌, eqb, get_or, length, replicate, take}
+use Rattle.std.specs.Prelude.{ℕ, ◌+◌, ◌<◌, ◌≤◌, true, cond, List, [], ◌∷◌, ◌≡◌, eqb, get_or, length, replicate, take, Ok, Err}
 use Rattle.plan.specs.Limits.{least_windows, most_domains, most_windows}
 use Rattle.plan.specs.Sums.{sum_to}
 use Rattle.refusal.specs.declared.Refusal.TheVariants.{FrameOutOfLimits}
-use Rattle.refusal.specs.declared.Verdict.TheVariants.{Accepted, Refused}
 use Rattle.frame.specs.Frame.{frame_answer_of, frame_answer_with, frame_of}
 use Rattle.frame.specs.Limits.{most_weight}
 use Rattle.frame.specs.Quotas.{entry_of, is_ahead, remainder_of, whole_part}
@@ -23,11 +22,11 @@ pub record WithinLimits (count : ℕ) (weights : List ℕ) : Type 0 where
 pub record MadeExactly (count : ℕ) (weights : List ℕ) : Type 0 where
   pub made :
       WithinLimits count weights
-      → frame_answer_of count weights ≡ frame_answer_with Accepted (frame_of count weights)
+      → frame_answer_of count weights ≡ frame_answer_with (Ok tt) (frame_of count weights)
   pub refused :
       (WithinLimits count weights → ⊥)
       → frame_answer_of count weights
-      ≡ frame_answer_with (Refused FrameOutOfLimits) (replicate most_windows 0)
+      ≡ frame_answer_with (Err FrameOutOfLimits) (replicate most_windows 0)
 
 abbrev pub FramesMade : Type 0
 FramesMade = (count : ℕ) (weights : List ℕ) → MadeExactly count weights

@@ -1,5 +1,6 @@
 -- Demand 3 of the library's C functions, from demand 3 of the engine's lists: each list of a host's calls has an
 -- engine's list of the same run and the same point, which leaves what the host's arrays stand for. Assumes nothing.
+use Rattle.std.specs.Prelude.{Ok}
 use Prim.Native.Nat.{ℕ, ◌+◌, ◌<◌, ◌≤◌}
 use mathlib.Core.Bool.{true}
 use mathlib.Core.List.{List}
@@ -15,7 +16,6 @@ use Rattle.state.specs.World.{World, position_at}
 use Rattle.machine.specs.Fresh.{fresh_world}
 use Rattle.reachable.proofs.Reached.{log_length_lem}
 use Rattle.refusal.specs.declared.Code.{Code}
-use Rattle.refusal.specs.declared.Verdict.TheVariants.{Accepted}
 use Rattle.engine.specs.LogQuery.{log_query_of, log_status_of}
 use Rattle.isolation.specs.Calls.{Admissible, leaves_of, point_of, refused_code, verdict_after, verdict_of}
 use Rattle.isolation.specs.Points.{InWindowOf, SameBoxesTo, ops_of, windows_after, world_after}
@@ -193,11 +193,11 @@ module _ (Named : ℕ → Type 0) (is_named : (domain : ℕ) → Dec (Named doma
   own_window : HostEndsInWindowOf (Only observer) one → EndsInWindowOf (Only observer) (engine_list one)
   own_window = subst (InWindowOf (Only observer) (run_of_host one)) (sym (engine_point one is))
 
-  status : status_on one.plan (arrays_left one) observer ≡ Accepted
-  status = left (λ w w'. log_status_of (plan_of one.plan) w.state w.log observer ≡ Accepted) seen.queried
+  status : status_on one.plan (arrays_left one) observer ≡ Ok tt
+  status = left (λ w w'. log_status_of (plan_of one.plan) w.state w.log observer ≡ Ok tt) seen.queried
 
-  status' : status_on other.plan (arrays_left other) observer ≡ Accepted
-  status' = left (λ w w'. log_status_of (plan_of other.plan) w'.state w'.log observer ≡ Accepted) seen.queried'
+  status' : status_on other.plan (arrays_left other) observer ≡ Ok tt
+  status' = left (λ w w'. log_status_of (plan_of other.plan) w'.state w'.log observer ≡ Ok tt) seen.queried'
 
   same_bytes : bytes_on one.plan (arrays_left one) observer ≡ bytes_on other.plan (arrays_left other) observer
   same_bytes =

@@ -1,4 +1,5 @@
 -- Lists of `pirkvezo_run_kept` beside the same lists of `pirkvezo_run`, call by call. Assumes nothing.
+use Rattle.std.specs.Prelude.{Ok, Err}
 use Prim.Native.Nat.{ℕ, ◌+◌, ◌<◌}
 use mathlib.Core.Bool.{Bool, true, false, cond, false≢true}
 use mathlib.Core.List.{List, [], ◌∷◌}
@@ -12,8 +13,6 @@ use Rattle.state.specs.World.{World}
 use Rattle.machine.specs.Steps.{RunEffect}
 use Rattle.machine.specs.View.{world_with}
 use Rattle.machine.proofs.Invariant.{steps_log}
-use Rattle.refusal.specs.declared.Verdict.{Verdict}
-use Rattle.refusal.specs.declared.Verdict.TheVariants.{Accepted, Refused}
 use Rattle.engine.specs.Checks.{run_verdict}
 use Rattle.engine.specs.Running.{outcome_from, ran_from, run_call_of}
 use Rattle.isolation.specs.Calls.{handed}
@@ -30,14 +29,15 @@ use Rattle.host.specs.Keeping.{HostKeptCall, HostKeptList, HostKeptListsAlike, I
 use Rattle.host.specs.Keeping.{ProperHostKept, after_host_kept, after_host_kept_calls, full_host_list, host_kept_refused, host_steps_of_kept}
 use Rattle.host.specs.Keeping.{kept_arrays, kept_arrays_left, kept_fresh_return, kept_return, kept_start_arrays, same_host_runs}
 use Rattle.host.proofs.Calls.{all_own_arrays, arrays_kept, not_zero, own_run_arrays}
+use Rattle.refusal.specs.Verdict.{Verdict}
 
 -- ---- the log keeps its length
 
 outcome_log : (verdict : Verdict) (plan : Plan) (ran : RunEffect) (world : World) → length ran.world.log ≡ length world.log
     → length (outcome_from verdict plan ran world).world.log ≡ length world.log
 unfolding ran_from
-outcome_log Accepted plan ran world same = same
-outcome_log (Refused refusal) plan ran world same = refl
+outcome_log (Ok tt) plan ran world same = same
+outcome_log (Err refusal) plan ran world same = refl
 
 run_log : (plan scripts state cache boxes log : List ℕ) (limit : ℕ) (answer : List ℕ)
     → length (host_run plan scripts state cache boxes log limit answer).log ≡ length log

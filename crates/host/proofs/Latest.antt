@@ -1,4 +1,5 @@
 -- What a call for a latest finish tells a host is the maximum. Assumes nothing.
+use Rattle.std.specs.Prelude.{Ok}
 use Prim.Native.Nat.{ℕ, ◌≤◌}
 use mathlib.Core.Bool.{true}
 use mathlib.Core.List.{List}
@@ -8,8 +9,6 @@ use borrow.Author.Tests.{eq-eqb}
 use Rattle.plan.specs.Windows.{window_owner}
 use Rattle.script.specs.Limits.{most_ops}
 use Rattle.state.specs.World.{World}
-use Rattle.refusal.specs.declared.Verdict.{Verdict}
-use Rattle.refusal.specs.declared.Verdict.TheVariants.{Accepted}
 use Rattle.latest.specs.Answer.{LatestOutcome, latest_from, latest_of, latest_verdict}
 use Rattle.latest.specs.Bounds.{Fitting}
 use Rattle.latest.specs.Latest.{latest_ticks}
@@ -29,6 +28,7 @@ use Rattle.host.proofs.Calls.{fitting}
 use Rattle.host.proofs.Lists.{engine_is, engine_leaves, engine_list}
 use Rattle.host.proofs.StepBounds.{third_is}
 use Rattle.host.proofs.Texts.{not_refused}
+use Rattle.refusal.specs.Verdict.{Verdict}
 
 module _ (plan : List ℕ) (domain : ℕ) (script answer : List ℕ) where
   abbrev call : LatestCall
@@ -50,12 +50,12 @@ module _ (plan : List ℕ) (domain : ℕ) (script answer : List ℕ) where
         (host_latest_with (verdict_number wrong_length) script (answer_of wrong_length 0 0 answer))
         (latest_done found answer) refl (ap is_refusal none)
 
-    found_accepted : found.verdict ≡ Accepted
+    found_accepted : found.verdict ≡ Ok tt
     unfolding latest_done
     found_accepted =
         not_refused found.verdict (ap is_refusal (sym (ap (λ (c : LatestCall). c.number) did.1) ∙ none))
 
-    pub verdict_accepted : latest_verdict (plan_of plan) domain script ≡ Accepted
+    pub verdict_accepted : latest_verdict (plan_of plan) domain script ≡ Ok tt
     verdict_accepted = accepted_told (plan_of plan) domain script found_accepted
 
     script_is : call.script ≡ found.script

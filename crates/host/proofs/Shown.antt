@@ -7,7 +7,6 @@ use mathlib.Core.Path.{◌≡◌, refl, ap, ◌∙◌}
 use lib.ListN.{length}
 use borrow.Author.Tests.{eq-eqb}
 use Rattle.plan.specs.declared.Plan.{Plan}
-use Rattle.refusal.specs.declared.Verdict.{Verdict}
 use Rattle.refusal.specs.Code.{code_of}
 use Rattle.engine.specs.LogQuery.{log_query_of, log_status_of}
 use Rattle.pirkvezo.specs.Answers.{all_fit, answer_length, answer_numbers, answer_of, verdict_number}
@@ -18,6 +17,7 @@ use Rattle.pirkvezo.proofs.LogQueries.{query_bytes}
 use Rattle.host.specs.Calls.{Arrays}
 use Rattle.host.specs.Statement.{LogShown, log_shown, shown_by}
 use Rattle.host.proofs.Calls.{query_is}
+use Rattle.refusal.specs.Verdict.{Verdict}
 
 -- what is shown, by a verdict, a plan, the log's length and the bytes of the domain's log
 abbrev pub shown_from : Verdict → Plan → ℕ → List ℕ → ℕ → LogShown

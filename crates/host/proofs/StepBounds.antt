@@ -21,7 +21,6 @@ use Rattle.engine.specs.Theorems.{steps_in_window}
 use Rattle.bound.specs.declared.BoundAnswer.{BoundAnswer}
 use Rattle.bound.specs.Bound.{bound_answer_of, step_bound}
 use Rattle.bound.proofs.Answers.{accepted as bound-accepted, wrong_length_lem}
-use Rattle.refusal.specs.declared.Verdict.{Verdict}
 use Rattle.engine.specs.declared.Ending.TheVariants.{Ended}
 use Rattle.engine.specs.Running.{ending_number, run_call_of, step_call_of}
 use Rattle.isolation.specs.Calls.{Call, after_call, run_answer}
@@ -42,6 +41,7 @@ use Rattle.host.specs.StepBounds.{host_steps_answered, steps_told}
 use Rattle.host.proofs.Calls.{accepted_fits, all_own_arrays, as_call, did_is, meant, mirrors, own_run_arrays}
 use Rattle.host.proofs.Calls.{all_fit_lem, fitting, refused_keeps}
 use Rattle.host.proofs.Lists.{as_calls, engine_is, engine_leaves, engine_point, engine_list, next_long, plan_long, start_long, start_meant, state_long}
+use Rattle.refusal.specs.Verdict.{Verdict}
 
 -- an answer array of four numbers is given its four
 pub third_is : (verdict : Verdict) (third fourth : ℕ) (answer : List ℕ) → length answer ≡ answer_length → third_of (answer_of verdict third fourth answer) ≡ third

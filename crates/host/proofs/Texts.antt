@@ -1,5 +1,6 @@
 -- A list from a text: the plan array that `pirkvezo_read_plan` wrote stands for the plan that was read, which is valid,
 -- so that the fresh start is not refused. Assumes nothing.
+use Rattle.std.specs.Prelude.{Ok, Err}
 use mathlib.Core.Bool.{true, false, false≢true}
 use mathlib.Core.Path.{◌≡◌, refl, sym, ap, ◌∙◌}
 use borrow.Author.Tests.{eq-eqb}
@@ -7,8 +8,6 @@ use lib.ListN.{length}
 use Rattle.plan.specs.Validity.{plan_valid}
 use Rattle.cache.specs.Lines.{table_length}
 use Rattle.ops.specs.Ops.{boxes_length}
-use Rattle.refusal.specs.declared.Verdict.{Verdict}
-use Rattle.refusal.specs.declared.Verdict.TheVariants.{Accepted, Refused}
 use Rattle.reader.specs.Read.{ReadOutcome, read_of}
 use Rattle.reader.proofs.Accepted.{accepted_valid}
 use Rattle.engine.specs.Checks.{fresh_verdict}
@@ -23,10 +22,11 @@ use Rattle.pirkvezo.proofs.ReadBack.{read_back}
 use Rattle.host.specs.Calls.{HostList, IsHostList, IsTextList, ReadArrays, fresh_return, is_refusal, read_return}
 use Rattle.host.specs.Statement.{run_of_host}
 use Rattle.host.proofs.Calls.{all_fit_lem, fitting}
+use Rattle.refusal.specs.Verdict.{Verdict}
 
-pub not_refused : (verdict : Verdict) → is_refused verdict ≡ false → verdict ≡ Accepted
-not_refused Accepted accepted = refl
-not_refused (Refused refusal) accepted = absurd (false≢true (sym accepted ∙ refused_number refusal))
+pub not_refused : (verdict : Verdict) → is_refused verdict ≡ false → verdict ≡ Ok tt
+not_refused (Ok tt) accepted = refl
+not_refused (Err refusal) accepted = absurd (false≢true (sym accepted ∙ refused_number refusal))
 
 -- the reading behind a call
 abbrev pub reading_of : ReadArrays → ReadOutcome
@@ -42,7 +42,7 @@ module _ (arrays : ReadArrays) (none : (read_return arrays).number ≡ 0) where
       (host_read_with (verdict_number wrong_length) arrays.scripts arrays.plan answer)
       (read_done (reading_of arrays) arrays.answer) refl (ap is_refusal none)).1
 
-  pub text_accepted : (reading_of arrays).verdict ≡ Accepted
+  pub text_accepted : (reading_of arrays).verdict ≡ Ok tt
   unfolding read_done
   text_accepted =
       not_refused (reading_of arrays).verdict (ap is_refusal (sym (ap (λ (call : ReadCall). call.number) read_is) ∙ none))
@@ -59,7 +59,7 @@ module _ (arrays : ReadArrays) (list : HostList) (is : IsTextList arrays list) w
   abbrev reading : ReadOutcome
   reading = reading_of arrays
 
-  accepted : reading.verdict ≡ Accepted
+  accepted : reading.verdict ≡ Ok tt
   accepted = text_accepted arrays is.read
 
   plan_is : list.plan ≡ plan_numbers reading.plan
@@ -78,7 +78,7 @@ module _ (arrays : ReadArrays) (list : HostList) (is : IsTextList arrays list) w
   valid : plan_valid (plan_of list.plan) ≡ true
   valid = ap plan_valid meant_plan ∙ accepted_valid arrays.text arrays.scripts accepted
 
-  fresh_accepted : fresh_verdict (plan_of list.plan) list.old_cache list.old_boxes ≡ Accepted
+  fresh_accepted : fresh_verdict (plan_of list.plan) list.old_cache list.old_boxes ≡ Ok tt
   unfolding fresh_verdict
   fresh_accepted = rw (eq-eqb _ table_length is.cache_fits, eq-eqb _ boxes_length is.boxes_fit, valid) refl
 

@@ -1,4 +1,5 @@
 -- A plan that a host's call read is written back by another, and read again. Assumes nothing.
+use Rattle.std.specs.Prelude.{Ok}
 use Prim.Native.Nat.{ℕ}
 use native.Mathlib.Omega.{arith}
 use mathlib.Core.Bool.{true}
@@ -10,7 +11,6 @@ use borrow.Author.Tests.{eq-eqb}
 use Rattle.lists.proofs.Tests.{both_pass}
 use Rattle.plan.specs.declared.Plan.{Plan}
 use Rattle.reader.specs.Read.{ReadOutcome}
-use Rattle.refusal.specs.declared.Verdict.TheVariants.{Accepted}
 use Rattle.writer.specs.Write.{WriteOutcome, write_of}
 use Rattle.roundtrip.specs.Theorems.{rewritten}
 use Rattle.shortest.proofs.Shortest.{none_shorter}
@@ -66,7 +66,7 @@ module _ (arrays : ReadArrays) (out answer : List ℕ) (none : (read_return arra
   text_is = ap₂ (λ (count : ℕ) (buffer : List ℕ). take count buffer) bytes_are out_is
 
   -- it returned 0, so the writer accepted
-  wrote_accepted : (write_return arrays out answer).number ≡ 0 → wrote.verdict ≡ Accepted
+  wrote_accepted : (write_return arrays out answer).number ≡ 0 → wrote.verdict ≡ Ok tt
   unfolding write_done
   wrote_accepted returned = not_refused wrote.verdict (ap is_refusal (sym (ap (λ (call : WriteCall). call.number) call_is) ∙ returned))
 

@@ -1,5 +1,6 @@
 -- Demand 3, proved: what is said of one list of calls is put together, and (B) is brought from two runs of the machine
 -- to the two lists that they are the runs of. Assumes nothing.
+use Rattle.std.specs.Prelude.{Ok}
 use Prim.Native.Nat.{ℕ, ◌≤◌, ◌<◌}
 use mathlib.Core.List.{List}
 use mathlib.Core.Path.{◌≡◌, refl, sym, ap, subst, subst₂, ◌∙◌}
@@ -12,8 +13,6 @@ use Rattle.records.specs.Records.{log_part, part_records}
 use Rattle.state.specs.declared.State.{State}
 use Rattle.state.specs.World.{World, position_at, records_at}
 use Rattle.reachable.proofs.Reached.{log_length_lem}
-use Rattle.refusal.specs.declared.Verdict.{Verdict}
-use Rattle.refusal.specs.declared.Verdict.TheVariants.{Accepted}
 use Rattle.engine.specs.LogQuery.{log_query_of, log_from, log_status_of}
 use Rattle.machine.specs.Fresh.{fresh_world}
 use Rattle.isolation.specs.Calls.{CallList, IsList, leaves_of, point_of}
@@ -26,9 +25,10 @@ use Rattle.isolation.proofs.OneRun.Leaves.{list_valid}
 use Rattle.isolation.proofs.TwoRuns.Positions.{position_is_ops}
 use Rattle.isolation.proofs.TwoRuns.Solo.{agrees_with_solo}
 use Rattle.isolation.proofs.TwoRuns.{Same, SameFor, Shared, corresponding, two_runs}
+use Rattle.refusal.specs.Verdict.{Verdict}
 
 -- what a log query that is not refused hands back
-handed_back_lem : (plan : Plan) (state : State) (log : List ℕ) (domain : ℕ) → log_status_of plan state log domain ≡ Accepted
+handed_back_lem : (plan : Plan) (state : State) (log : List ℕ) (domain : ℕ) → log_status_of plan state log domain ≡ Ok tt
     → log_query_of plan state log domain ≡ log_part (part_records plan (length log)) domain (records_at state domain) log
 unfolding log_query_of log_status_of
 handed_back_lem plan state log domain accepted = ap (λ (verdict : Verdict). log_from verdict plan state log domain) accepted

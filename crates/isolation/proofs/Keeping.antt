@@ -1,5 +1,6 @@
 -- A list whose runs keep one domain's log leaves what the same list of runs leaves, with that domain's part for the log; so
 -- (B) of demand 3 holds of a domain that is watched by such runs alone. Assumes nothing.
+use Rattle.std.specs.Prelude.{Ok}
 use Prim.Native.Nat.{ℕ, suc, ◌+◌, ◌*◌, ◌/◌, ◌-◌, ◌≤◌, ◌<◌}
 use mathlib.Core.Bool.{Bool, true, false, cond, false≢true}
 use mathlib.Core.List.{List, [], ◌∷◌, ◌++◌}
@@ -23,7 +24,6 @@ use Rattle.machine.specs.View.{world_with}
 use Rattle.machine.proofs.Invariant.{steps_log}
 use Rattle.reachable.proofs.Counts.{counted}
 use Rattle.reachable.proofs.Reached.{log_length_lem}
-use Rattle.refusal.specs.declared.Verdict.TheVariants.{Accepted}
 use Rattle.engine.specs.Checks.{kept_verdict}
 use Rattle.engine.specs.Keeping.{kept_call_of, kept_outcome}
 use Rattle.engine.specs.LogQuery.{log_query_of}
@@ -76,7 +76,7 @@ module _ (plan : Plan) (scripts : List ℕ) (domain quota : ℕ) where
 
   module _ (limit : ℕ) (kept full : World) (whole : quota ≡ part_records plan (length full.log)) (is : kept ≡ kept_world quota domain full)
       (accepted : is_refused (kept_call_of plan scripts domain quota kept limit).verdict ≡ false) where
-    passed : kept_verdict plan scripts domain quota kept ≡ Accepted
+    passed : kept_verdict plan scripts domain quota kept ≡ Ok tt
     unfolding kept_call_of
     passed = outcome_accepted plan (run_keeping (One domain) plan scripts quota limit kept) kept (kept_verdict plan scripts domain quota kept) accepted
 

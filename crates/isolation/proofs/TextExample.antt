@@ -1,5 +1,6 @@
 -- The example's two lists stand under an accepted plan: a text gives it, and so demand 3 of accepted plans speaks of
 -- them. Assumes nothing.
+use Rattle.std.specs.Prelude.{Ok}
 use Prim.Native.Nat.{ℕ}
 use Prim.Native.String.{String}
 use mathlib.Core.Path.{◌≡◌, refl, ap}
@@ -13,7 +14,6 @@ use Rattle.lexer.specs.Decimal.{decimal_of, digits_of}
 use Rattle.lexer.specs.Scan.{all_bytes}
 use Rattle.reader.specs.Draft.{no_ops}
 use Rattle.reader.specs.Read.{ReadOutcome, read_of}
-use Rattle.refusal.specs.declared.Verdict.TheVariants.{Accepted}
 use Rattle.roundtrip.specs.Accepted.{Given}
 use Rattle.writer.specs.Canonical.{canonical_lines, canonical_text, followed, joined, lines_from, op_lines_from, plan_lines, script_lines}
 use Rattle.writer.specs.Lines.{domain_line, pad_line, recipients_of, rising_from, run_line, spaced, window_line}
@@ -37,7 +37,7 @@ unfolding
 is_text = refl
 
 -- the reader gives the plan for it, with 0, 0
-read : read_of (bytes_of example_text) no_ops ≡ record { verdict = Accepted; plan = plan; scripts = no_ops }
+read : read_of (bytes_of example_text) no_ops ≡ record { verdict = Ok tt; plan = plan; scripts = no_ops }
 unfolding computing no_ops
 read =
     rw (← is_text)

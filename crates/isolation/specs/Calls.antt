@@ -6,12 +6,12 @@ use Rattle.plan.specs.declared.Plan.{Plan}
 use Rattle.script.specs.Limits.{scripts_length}
 use Rattle.state.specs.declared.State.{State}
 use Rattle.state.specs.World.{World}
-use Rattle.refusal.specs.declared.Verdict.{Verdict}
 use Rattle.refusal.specs.declared.Code.{Code}
 use Rattle.refusal.specs.Code.{code_of, code_with}
 use Rattle.engine.specs.LogQuery.{log_status_of}
 use Rattle.engine.specs.FreshStart.{FreshOutcome, fresh_start_of}
 use Rattle.engine.specs.Running.{RunOutcome, run_call_of, step_call_of}
+use Rattle.refusal.specs.Verdict.{Verdict}
 
 -- a call was handed the list's own thing, as the last call left it, or any other
 pub data Handed (A : Type 0) : Type 0 where

@@ -2,7 +2,7 @@
 -- Where two lists end at corresponding points, the domains of any set see the same, whatever their
 -- rivals' scripts hold, if each of their windows began with the same in the boxes addressed to
 -- them. Assumes nothing.
-use Rattle.std.specs.Prelude.{ℕ, ◌+◌, ◌*◌, ◌<◌, ◌≤◌, true, List, ◌≡◌, get_or, length}
+use Rattle.std.specs.Prelude.{ℕ, ◌+◌, ◌*◌, ◌<◌, ◌≤◌, true, List, ◌≡◌, get_or, length, Ok}
 use Rattle.plan.specs.declared.Plan.{Plan}
 use Rattle.plan.specs.Colours.{owns_colour}
 use Rattle.plan.specs.Windows.{window_owner, window_start, windows_total}
@@ -11,7 +11,6 @@ use Rattle.bound.specs.Bound.{step_bound}
 use Rattle.cache.specs.Lines.{kernel_colour, l1_length, set_colour, set_index, set_count, ways_per_set}
 use Rattle.state.specs.World.{position_at}
 use Rattle.refusal.specs.Code.{code_of}
-use Rattle.refusal.specs.declared.Verdict.TheVariants.{Accepted}
 use Rattle.engine.specs.LogQuery.{log_query_of, log_status_of}
 use Rattle.engine.specs.Running.{run_call_of}
 use Rattle.isolation.specs.Calls.{Admissible, AllOwn, Call, CallList, IsList, after_call}
@@ -138,9 +137,9 @@ SameClock one other = (leaves_of one).state.clock ≡ (leaves_of other).state.cl
 pub record SameSeen (observer : ℕ) (one other : CallList) : Type 0 where
   -- its log, every byte, as a log query hands it back; the query is refused after neither list
   pub queried :
-      log_status_of one.plan (leaves_of one).state (leaves_of one).log observer ≡ Accepted
+      log_status_of one.plan (leaves_of one).state (leaves_of one).log observer ≡ Ok tt
   pub queried' :
-      log_status_of other.plan (leaves_of other).state (leaves_of other).log observer ≡ Accepted
+      log_status_of other.plan (leaves_of other).state (leaves_of other).log observer ≡ Ok tt
   pub log :
       log_query_of one.plan (leaves_of one).state (leaves_of one).log observer
       ≡ log_query_of other.plan (leaves_of other).state (leaves_of other).log observer
@@ -193,7 +192,7 @@ pub record ListLaws (list : CallList) : Type 0 where
       (call : Call)
       → AllOwn call
       → Admissible list.plan list.scripts call
-      → verdict_after list call ≡ Accepted
+      → verdict_after list call ≡ Ok tt
   -- and else it is, with 11, 0 or with 4, 0
   pub refused :
       (call : Call)

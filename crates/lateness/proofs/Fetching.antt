@@ -1,4 +1,5 @@
 -- What stands at each position of the script that is handed back, in a store that holds it for its domain. Assumes nothing.
+use Rattle.std.specs.Prelude.{Some, None}
 use Prim.Native.Nat.{ℕ, ◌+◌, ◌*◌, ◌-◌, ◌≤◌, ◌<◌}
 use mathlib.Core.Bool.{Bool, true, false, cond}
 use mathlib.Core.List.{List}
@@ -13,7 +14,6 @@ use Rattle.plan.specs.declared.Plan.{Plan}
 use Rattle.plan.specs.Limits.{most_domains}
 use Rattle.script.specs.declared.Op.{Op}
 use Rattle.script.specs.declared.Op.TheVariants.{Write, Send, Receive, Compute}
-use Rattle.script.specs.declared.ScriptItem.TheVariants.{Op as Fetch, End}
 use Rattle.script.specs.Fetch.{decode_of, fetch_of}
 use Rattle.script.specs.Limits.{OpWithinLimits, most_ops, most_ticks}
 use Rattle.script.specs.Stored.{stored_of}
@@ -92,18 +92,18 @@ module _ (script : LateScript) where
       → ((position : ℕ) → position < script.opening → OpWithinLimits (message_at position))
       → ((count : ℕ) → count < script.writes → OpWithinLimits (Write (script.line + count)))
       → (last : Op) → script.last ≡ stored_of last → OpWithinLimits last
-      → (position : ℕ) → position < waited + 2 → decode_of (late_number script position) ≡ End → ⊥
+      → (position : ℕ) → position < waited + 2 → decode_of (late_number script position) ≡ None → ⊥
   op_at_lem wait-good rest_good message-good write_good last last-is last-good position before =
       go (ltb position script.opening) refl (ltb position written) refl (ltb position waited) refl (eqb position waited) refl
     where
-      none : (number : ℕ) (op : Op) → number ≡ stored_of op → OpWithinLimits op → decode_of number ≡ End → ⊥
+      none : (number : ℕ) (op : Op) → number ≡ stored_of op → OpWithinLimits op → decode_of number ≡ None → ⊥
       none number op is good ends = end_is_none op (sym ends ∙ ap decode_of is ∙ decode_stored op good)
 
       go : (opening : Bool) → ltb position script.opening ≡ opening
           → (writes : Bool) → ltb position written ≡ writes
           → (waits : Bool) → ltb position waited ≡ waits
           → (rests : Bool) → eqb position waited ≡ rests
-          → decode_of (late_number script position) ≡ End → ⊥
+          → decode_of (late_number script position) ≡ None → ⊥
       go true opens w _ x _ y _ =
           let early : position < script.opening = ltb-true _ _ opens in
           none _ (message_at position) (number_opening position early) (message-good position early)
@@ -179,7 +179,7 @@ module _ (plan : Plan) (domain : ℕ) (fitting : Fitting plan domain) where
   unfolding latest_script
   long = numbers_length parts most_ops 0
 
-  ops_before : (position : ℕ) → position < end → decode_of (late_number parts position) ≡ End → ⊥
+  ops_before : (position : ℕ) → position < end → decode_of (late_number parts position) ≡ None → ⊥
   unfolding late_script_of OpWithinLimits
   ops_before =
       op_at_lem parts (omega arith, omega arith) (omega arith, omega arith)
@@ -208,7 +208,7 @@ module _ (plan : Plan) (domain : ℕ) (fitting : Fitting plan domain) where
 
 module _ (plan : Plan) (domain : ℕ) (scripts : List ℕ) (holds : HoldsScript domain (latest_script plan domain) scripts) where
   pub fetches : (position : ℕ) (op : Op) → position < most_ops → late_number (late_script_of plan domain) position ≡ stored_of op
-      → OpWithinLimits op → fetch_of scripts domain position ≡ Fetch op
+      → OpWithinLimits op → fetch_of scripts domain position ≡ Some op
   unfolding fetch_of latest_script
   fetches position op below is good =
       let number : get_or scripts (most_ops * domain + position) 0 ≡ stored_of op =

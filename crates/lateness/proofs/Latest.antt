@@ -1,4 +1,5 @@
 -- What is answered is the latest finish: no run exceeds it, and the script that is handed back reaches it. Assumes nothing.
+use Rattle.std.specs.Prelude.{Ok}
 use Prim.Native.Nat.{ℕ, suc, ◌+◌, ◌*◌, ◌-◌, ◌≤◌, ◌<◌}
 use mathlib.Core.Bool.{Bool, true, false, cond}
 use mathlib.Core.List.{List, ◌++◌}
@@ -26,7 +27,6 @@ use Rattle.script.specs.Stored.{stored_of}
 use Rattle.cache.specs.Lines.{table_length}
 use Rattle.records.specs.declared.Observation.{Observation}
 use Rattle.records.specs.Records.{part_records, record_size}
-use Rattle.refusal.specs.declared.Verdict.TheVariants.{Accepted}
 use Rattle.cache.specs.Access.{old_access_of}
 use Rattle.ops.specs.Ops.{Effect, compute_of, effect_by, message_by, receive_by}
 use Rattle.reachable.specs.OldBoard.{old_effect_of}
@@ -62,7 +62,7 @@ use Rattle.lateness.proofs.Stepping.{Stepped, switch_steps}
 
 -- ---- an answer that is no refusal
 
-judged : (plan : Plan) (domain : ℕ) (buffer : List ℕ) → latest_verdict plan domain buffer ≡ Accepted → Judged plan domain
+judged : (plan : Plan) (domain : ℕ) (buffer : List ℕ) → latest_verdict plan domain buffer ≡ Ok tt → Judged plan domain
 judged plan domain buffer accepted =
     let fitting = accepted_fits plan domain buffer accepted in
     let first = first_window_lem plan domain fitting in

@@ -1,4 +1,5 @@
 -- The ops of a script, one after the other, in its domain's window: where the domain stands after each. Assumes nothing.
+use Rattle.std.specs.Prelude.{Some, None}
 use Prim.Native.Nat.{ℕ, suc, ◌+◌, ◌≤◌, ◌<◌}
 use mathlib.Core.Bool.{true, false}
 use mathlib.Core.List.{List}
@@ -12,7 +13,6 @@ use Rattle.plan.specs.declared.Plan.{Plan}
 use Rattle.plan.specs.Limits.{most_domains}
 use Rattle.plan.specs.Windows.{window_end, window_length, window_owner, window_start, windows_total}
 use Rattle.script.specs.declared.Op.{Op}
-use Rattle.script.specs.declared.ScriptItem.TheVariants.{Op as Fetch, End}
 use Rattle.script.specs.Fetch.{fetch_of}
 use Rattle.ops.specs.Ops.{Effect, effect_of}
 use Rattle.state.specs.World.{World, ended_of, position_at, records_at, running_of}
@@ -47,11 +47,11 @@ module _ (plan : Plan) (scripts : List ℕ) (quota domain window : ℕ) (in_run_
     -- ---- an op
 
     module _ (op : Op) (in_time : ticks < window_length plan window) (room : ops < quota)
-        (fetched : fetch_of scripts domain ops ≡ Fetch op) where
-      item_is : next_item scripts (turn_of plan quota world.state) ≡ Fetch op
+        (fetched : fetch_of scripts domain ops ≡ Some op) where
+      item_is : next_item scripts (turn_of plan quota world.state) ≡ Some op
       item_is = rw (running, stands.position) fetched
 
-      op_is_next : next_step_of scripts (turn_of plan quota world.state) ≡ Fetch op
+      op_is_next : next_step_of scripts (turn_of plan quota world.state) ≡ Some op
       unfolding next_step_of switch_due
       op_is_next =
           let early : leb (window_end plan world.state.windows) world.state.clock ≡ false =
@@ -98,7 +98,7 @@ module _ (plan : Plan) (scripts : List ℕ) (quota domain window : ℕ) (in_run_
     switch_steps over =
         let late : leb (window_end plan world.state.windows) world.state.clock ≡ true =
         le-leb (window_end plan world.state.windows) world.state.clock (omega (arith, end_is, stands.clock)) in
-        let due : next_step_of scripts (turn_of plan quota world.state) ≡ End = rw late refl in
+        let due : next_step_of scripts (turn_of plan quota world.state) ≡ None = rw late refl in
         step_active _ plan scripts quota world not_ended ∙ ap (λ item. active_step plan quota item world) due
 
 -- one op further: where the domain stands, and the cache table
@@ -109,7 +109,7 @@ pub record Stepped (plan : Plan) (domain window ops ticks : ℕ) (cache : List �
 pub op_stepped : (plan : Plan) (scripts : List ℕ) (quota domain window : ℕ) → window < windows_total plan
     → window_owner plan window ≡ domain → domain < most_domains
     → (ops ticks : ℕ) (world : World) → Stands plan domain window ops ticks world
-    → (op : Op) → ticks < window_length plan window → ops < quota → fetch_of scripts domain ops ≡ Fetch op
+    → (op : Op) → ticks < window_length plan window → ops < quota → fetch_of scripts domain ops ≡ Some op
     → Stepped plan domain window (suc ops) (ticks + (effect_of plan domain op world.cache world.boxes).ticks)
     (effect_of plan domain op world.cache world.boxes).cache (step_of plan scripts quota world)
 op_stepped plan scripts quota domain window in_run_lem owner below ops ticks world stands op in_time room fetched =

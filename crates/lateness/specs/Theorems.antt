@@ -1,6 +1,6 @@
 -- Document 02, E6 and E9: what is promised of the latest finish of a domain and of the script that
 -- is handed back with it. Assumes nothing.
-use Rattle.std.specs.Prelude.{ℕ, ◌+◌, ◌*◌, ◌≤◌, ◌<◌, max, true, false, List, ◌≡◌, get_or, length}
+use Rattle.std.specs.Prelude.{ℕ, ◌+◌, ◌*◌, ◌≤◌, ◌<◌, max, true, false, List, ◌≡◌, get_or, length, None, Ok}
 use Rattle.plan.specs.declared.Plan.{Plan}
 use Rattle.plan.specs.Colours.{holding_of}
 use Rattle.plan.specs.Limits.{least_pad, touch_ticks}
@@ -8,11 +8,9 @@ use Rattle.plan.specs.Validity.{plan_valid}
 use Rattle.plan.specs.Windows.{window_end, window_owner, windows_total}
 use Rattle.cache.specs.Lines.{ways_per_set}
 use Rattle.cache.specs.Flush.{flush_ticks}
-use Rattle.script.specs.declared.ScriptItem.TheVariants.{End}
 use Rattle.script.specs.Fetch.{decode_of}
 use Rattle.script.specs.Limits.{most_ops}
 use Rattle.records.specs.Records.{part_records}
-use Rattle.refusal.specs.declared.Verdict.TheVariants.{Accepted}
 use Rattle.state.specs.World.{World}
 use Rattle.machine.specs.Switch.{switch_of}
 use Rattle.isolation.specs.Points.{FreshRun}
@@ -54,7 +52,7 @@ pub record IsLatest (plan : Plan) (domain : ℕ) (script : List ℕ) (ticks : �
 pub record IsScript (script : List ℕ) : Type 0 where
   pub numbers : length script ≡ most_ops
   pub end : ℕ
-  pub ops : (position : ℕ) → position < end → decode_of (get_or script position 0) ≡ End → ⊥
+  pub ops : (position : ℕ) → position < end → decode_of (get_or script position 0) ≡ None → ⊥
   pub zeros : (position : ℕ) → end ≤ position → get_or script position 0 ≡ 0
 
 -- what is answered is the maximum, with a script that reaches it
@@ -65,14 +63,14 @@ pub record LatestTold (plan : Plan) (domain : ℕ) (outcome : LatestOutcome) : T
 abbrev pub LatestFinish : Type 0
 LatestFinish =
     (plan : Plan) (domain : ℕ) (buffer : List ℕ)
-    → (latest_of plan domain buffer).verdict ≡ Accepted
+    → (latest_of plan domain buffer).verdict ≡ Ok tt
     → LatestTold plan domain (latest_of plan domain buffer)
 
 -- and no other number is: whatever script is said to reach it
 abbrev pub OneLatest : Type 0
 OneLatest =
     (plan : Plan) (domain : ℕ) (buffer script : List ℕ) (ticks : ℕ)
-    → (latest_of plan domain buffer).verdict ≡ Accepted
+    → (latest_of plan domain buffer).verdict ≡ Ok tt
     → IsLatest plan domain script ticks
     → ticks ≡ (latest_of plan domain buffer).ticks
 

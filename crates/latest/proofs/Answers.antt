@@ -1,4 +1,5 @@
 -- Each answer from the tests that lead to it. Assumes nothing.
+use Rattle.std.specs.Prelude.{Ok, Err}
 use Prim.Native.Nat.{ℕ}
 use mathlib.Core.Bool.{Bool, true, false}
 use mathlib.Core.List.{List}
@@ -12,8 +13,6 @@ use Rattle.script.specs.Limits.{most_ops}
 use Rattle.refusal.specs.Checks.{unless}
 use Rattle.refusal.specs.declared.Refusal.{Refusal}
 use Rattle.refusal.specs.declared.Refusal.TheVariants.{ImpossiblePlan, LatestOutOfLimits, WrongLength}
-use Rattle.refusal.specs.declared.Verdict.{Verdict}
-use Rattle.refusal.specs.declared.Verdict.TheVariants.{Accepted, Refused}
 use Rattle.refusal.proofs.Passed.{unless_passed}
 use Rattle.latest.specs.declared.LatestAnswer.{LatestAnswer}
 use Rattle.latest.specs.declared.LateScript.{LateScript}
@@ -21,15 +20,16 @@ use Rattle.latest.specs.Answer.{domain_fits, latest_from, latest_of, latest_verd
 use Rattle.latest.specs.Bounds.{Fitting}
 use Rattle.latest.specs.Latest.{latest_ticks}
 use Rattle.latest.specs.Script.{late_numbers, late_script_of, latest_script}
+use Rattle.refusal.specs.Verdict.{Verdict}
 
 module _ (plan : Plan) (domain : ℕ) (script : List ℕ) where
   -- ---- the verdict
 
-  pub wrong_length_lem : (length script ≡ most_ops → ⊥) → latest_verdict plan domain script ≡ Refused WrongLength
+  pub wrong_length_lem : (length script ≡ most_ops → ⊥) → latest_verdict plan domain script ≡ Err WrongLength
   unfolding latest_verdict
   wrong_length_lem differs = rw (ne_eqb (length script) most_ops differs) refl
 
-  pub impossible_plan : length script ≡ most_ops → plan_valid plan ≡ false → latest_verdict plan domain script ≡ Refused ImpossiblePlan
+  pub impossible_plan : length script ≡ most_ops → plan_valid plan ≡ false → latest_verdict plan domain script ≡ Err ImpossiblePlan
   unfolding latest_verdict
   impossible_plan one impossible = rw (eq-eqb (length script) most_ops one, impossible) refl
 
@@ -37,11 +37,11 @@ module _ (plan : Plan) (domain : ℕ) (script : List ℕ) where
       length script ≡ most_ops
       → plan_valid plan ≡ true
       → domain_fits plan domain ≡ false
-      → latest_verdict plan domain script ≡ Refused (LatestOutOfLimits domain)
+      → latest_verdict plan domain script ≡ Err (LatestOutOfLimits domain)
   unfolding latest_verdict
   out_of_limits one possible unfit = rw (eq-eqb (length script) most_ops one, possible, unfit) refl
 
-  pub accepted : length script ≡ most_ops → Fitting plan domain → latest_verdict plan domain script ≡ Accepted
+  pub accepted : length script ≡ most_ops → Fitting plan domain → latest_verdict plan domain script ≡ Ok tt
   unfolding latest_verdict
   accepted one fitting =
       let possible : plan_valid plan ≡ true = fitting.0 in
@@ -49,7 +49,7 @@ module _ (plan : Plan) (domain : ℕ) (script : List ℕ) where
       rw (eq-eqb (length script) most_ops one, possible, fits) refl
 
   -- an answer is told of a fitting domain alone
-  pub accepted_fits : latest_verdict plan domain script ≡ Accepted → Fitting plan domain
+  pub accepted_fits : latest_verdict plan domain script ≡ Ok tt → Fitting plan domain
   unfolding latest_verdict
   accepted_fits is =
       let first = unless_passed (eqb (length script) most_ops) _ _ is in
@@ -61,23 +61,23 @@ module _ (plan : Plan) (domain : ℕ) (script : List ℕ) where
   -- a refusal is told with 0 ticks, and the buffer is as it was
   pub refused_is :
       (refusal : Refusal) (answer : LatestAnswer)
-      → latest_verdict plan domain script ≡ Refused refusal
-      → (answer.verdict ≡ Refused refusal) × (answer.ticks ≡ 0)
+      → latest_verdict plan domain script ≡ Err refusal
+      → (answer.verdict ≡ Err refusal) × (answer.ticks ≡ 0)
       → latest_with answer script ≡ latest_of plan domain script
   unfolding latest_of
   refused_is refusal answer judged tells = rw (judged, tells.0, tells.1) refl
 
   -- an answer's verdict is the verdict
-  pub accepted_told : (latest_of plan domain script).verdict ≡ Accepted → latest_verdict plan domain script ≡ Accepted
+  pub accepted_told : (latest_of plan domain script).verdict ≡ Ok tt → latest_verdict plan domain script ≡ Ok tt
   unfolding latest_of
   accepted_told tells = go (latest_verdict plan domain script) tells
     where
-      go : (verdict : Verdict) → (latest_from verdict plan domain script).verdict ≡ Accepted → verdict ≡ Accepted
-      go Accepted is = refl
-      go (Refused refusal) is = is
+      go : (verdict : Verdict) → (latest_from verdict plan domain script).verdict ≡ Ok tt → verdict ≡ Ok tt
+      go (Ok tt) is = refl
+      go (Err refusal) is = is
 
   -- what is told where nothing is refused
-  pub told_is : latest_verdict plan domain script ≡ Accepted
+  pub told_is : latest_verdict plan domain script ≡ Ok tt
       → ((latest_of plan domain script).script ≡ latest_script plan domain) × ((latest_of plan domain script).ticks ≡ latest_ticks plan domain)
   unfolding latest_of
   told_is accepted = rw accepted (refl, refl)
@@ -89,7 +89,7 @@ module _ (plan : Plan) (domain : ℕ) (script : List ℕ) where
       → ticks ≡ latest_ticks plan domain
       → parts ≡ late_script_of plan domain
       → written ≡ late_numbers parts most_ops 0
-      → latest_with (record { verdict = Accepted; ticks = ticks }) written ≡ latest_of plan domain script
+      → latest_with (record { verdict = Ok tt; ticks = ticks }) written ≡ latest_of plan domain script
   unfolding latest_of latest_script
   accepted_is ticks parts written one fitting ticks_are parts_are writes =
       rw (accepted one fitting, ticks_are, writes, parts_are) refl
@@ -106,7 +106,7 @@ impossible_alike domain script one other impossible impossible' = go (eqb (lengt
     judged : Bool → Plan → Verdict
     judged fits plan =
         unless fits WrongLength
-        (unless (plan_valid plan) ImpossiblePlan (unless (domain_fits plan domain) (LatestOutOfLimits domain) Accepted))
+        (unless (plan_valid plan) ImpossiblePlan (unless (domain_fits plan domain) (LatestOutOfLimits domain) (Ok tt)))
 
     go : (fits : Bool) → latest_from (judged fits one) one domain script ≡ latest_from (judged fits other) other domain script
     go false = refl

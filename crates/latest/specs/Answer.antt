@@ -1,6 +1,6 @@
 -- Document 02, E6: what is answered to one who asks for the latest finish of a domain (`latest`),
 -- and what is left in the buffer that it lent. Assumes nothing.
-use Rattle.std.specs.Prelude.{ℕ, Bool, true, cond, ◌&&◌, List, eqb, ltb, get_or, length}
+use Rattle.std.specs.Prelude.{ℕ, Bool, true, cond, ◌&&◌, List, eqb, ltb, get_or, length, Ok, Err}
 use Rattle.plan.specs.declared.Plan.{Plan}
 use Rattle.plan.specs.Sums.{all_below}
 use Rattle.plan.specs.Validity.{plan_valid, within}
@@ -8,13 +8,12 @@ use Rattle.script.specs.Limits.{most_ops}
 use Rattle.refusal.specs.Checks.{unless}
 use Rattle.refusal.specs.declared.Refusal.TheVariants.{ImpossiblePlan, LatestOutOfLimits}
 use Rattle.refusal.specs.declared.Refusal.TheVariants.{WrongLength}
-use Rattle.refusal.specs.declared.Verdict.{Verdict}
-use Rattle.refusal.specs.declared.Verdict.TheVariants.{Accepted, Refused}
 use Rattle.latest.specs.declared.LatestAnswer.{LatestAnswer}
 use Rattle.latest.specs.Latest.{latest_ticks}
 use Rattle.latest.specs.Limits.{least_latest_length, most_latest_length}
 use Rattle.latest.specs.Reach.{first_window, owns_window}
 use Rattle.latest.specs.Script.{latest_script}
+use Rattle.refusal.specs.Verdict.{Verdict}
 
 -- a declared window is another domain's, or within the limits
 unfoldable pub window_fits : Plan → ℕ → ℕ → Bool
@@ -34,7 +33,7 @@ unfoldable pub latest_verdict : Plan → ℕ → List ℕ → Verdict
 latest_verdict plan domain script =
     unless (eqb (length script) most_ops) WrongLength
     (unless (plan_valid plan) ImpossiblePlan
-    (unless (domain_fits plan domain) (LatestOutOfLimits domain) Accepted))
+    (unless (domain_fits plan domain) (LatestOutOfLimits domain) (Ok tt)))
 
 -- what is answered, and the buffer after the call
 pub record LatestOutcome : Type 0 where
@@ -49,14 +48,14 @@ latest_with answer script =
 
 -- the ticks and a script that reaches them; beside a refusal 0 and the buffer as it was
 abbrev pub latest_from : Verdict → Plan → ℕ → List ℕ → LatestOutcome
-latest_from Accepted plan domain script =
+latest_from (Ok tt) plan domain script =
     record {
-      verdict = Accepted;
+      verdict = Ok tt;
       ticks = latest_ticks plan domain;
       script = latest_script plan domain;
     }
-latest_from (Refused refusal) plan domain script =
-    record { verdict = Refused refusal; ticks = 0; script = script }
+latest_from (Err refusal) plan domain script =
+    record { verdict = Err refusal; ticks = 0; script = script }
 
 -- the answer, for every input
 unfoldable pub latest_of : Plan → ℕ → List ℕ → LatestOutcome

@@ -1,5 +1,6 @@
 -- What a line is known to satisfy: its form is a good one, if it is not refused, and it ends at or past its first byte and within the text.
 -- Assumes nothing.
+use Rattle.std.specs.Prelude.{Result, Ok, Err}
 use Prim.Native.Nat.{ℕ, ◌+◌, ◌≤◌, ◌<◌}
 use native.Mathlib.Omega.{arith}
 use mathlib.Core.List.{List, []}
@@ -10,8 +11,6 @@ use Rattle.forms.proofs.GoodForm.{Good, GoodForm}
 use Rattle.forms.proofs.GoodForm.{domain_good, op_good, pad_good, run_good, window_good}
 use Rattle.forms.specs.declared.Form.{Form}
 use Rattle.forms.specs.declared.Form.TheVariants.{Blank, Pad, Run, Domain, Window, Op as Script, Refused as NoForm}
-use Rattle.forms.specs.declared.FormParse.{FormParse}
-use Rattle.forms.specs.declared.FormParse.TheVariants.{Form as Took, Refused as RefusedForm}
 use Rattle.forms.specs.declared.OpLine.{OpLine}
 use Rattle.plan.specs.Limits.{most_domains}
 use Rattle.refusal.specs.declared.Refusal.{Refusal}
@@ -20,8 +19,6 @@ use Rattle.syntax.proofs.ByKeyword.{one_of_holds}
 use Rattle.lexer.proofs.Reached.{cond_holds, token_bounds}
 use Rattle.lexer.specs.Tokens.{line_end_kind, open_kind, token_at, token_kind, token_start}
 use Rattle.line.specs.declared.Line.{Line}
-use Rattle.line.specs.declared.OpLineParse.{OpLineParse}
-use Rattle.line.specs.declared.OpLineParse.TheVariants.{Op as TookOp}
 use Rattle.line.specs.Heads.{op_line_of, op_line_with}
 use Rattle.line.specs.Lines.{closed_line, noted_line, form_keywords, form_line, line_at, line_with, refused_line}
 
@@ -44,11 +41,11 @@ module _ (text : List ℕ) (declared : ℕ) (named : List ℕ) (at : ℕ) where
   none : (bracket : ℕ) (marked : List ℕ) (refusal : Refusal) → GoodLine text declared named at (refused_line bracket marked refusal)
   none bracket marked refusal = record { form = tt; within = omega arith }
 
-  closed_good : (bracket : ℕ) (marked : List ℕ) (parse : FormParse) → Good declared named marked at parse
+  closed_good : (bracket : ℕ) (marked : List ℕ) (parse : Result (Form × ℕ) Refusal) → Good declared named marked at parse
       → GoodLine text declared named at (closed_line text bracket marked parse)
   unfolding closed_line
-  closed_good bracket marked (RefusedForm refusal) h = none bracket marked refusal
-  closed_good bracket marked (Took form end) h =
+  closed_good bracket marked (Err refusal) h = none bracket marked refusal
+  closed_good bracket marked (Ok (form, end)) h =
       let P = GoodLine text declared named at in
       then_close P text end _ _ (none bracket marked) λ closed c within.
       then_line_end P text closed _ _ within (none bracket marked) λ ended e ends.
@@ -84,11 +81,11 @@ module _ (text : List ℕ) (declared : ℕ) (named : List ℕ) (at : ℕ) where
       λ bracket inside least order ends. form_good bracket eight (omega arith))
 
 -- the domain of an op line that was read apart is declared
-pub op_declared : (text : List ℕ) (declared inside : ℕ) {parse : OpLineParse} {line : OpLine}
+pub op_declared : (text : List ℕ) (declared inside : ℕ) {parse : Result (OpLine × ℕ) Refusal} {line : OpLine}
     {end : ℕ}
     → ((bracket : ℕ) (named : List ℕ)
     → op_line_with bracket named parse ≡ op_line_of text declared named bracket inside)
-    → parse ≡ TookOp line end → line.domain < declared
+    → parse ≡ Ok (line, end) → line.domain < declared
 op_declared text declared inside {parse} {line} {end} read known =
     let good = op_good text declared [] inside inside (omega arith) in
     (subst (GoodLine text declared [] inside)

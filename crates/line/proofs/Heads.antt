@@ -1,5 +1,6 @@
 -- A line read by its beginning is the line; its closing bracket and its end are passed one after
 -- the other; and an op form is an op. Assumes nothing.
+use Rattle.std.specs.Prelude.{Result, Ok, Err}
 use Prim.Native.Nat.{ℕ, ◌+◌}
 use mathlib.Core.Bool.{Bool, true, false, cond}
 use mathlib.Core.List.{List}
@@ -10,8 +11,6 @@ use Rattle.forms.specs.declared.Form.TheVariants.{Blank, Pad, Run, Domain, Windo
 use Rattle.forms.specs.declared.Form.TheVariants.{Op as Script, Refused as NoForm}
 use Rattle.forms.specs.declared.OpLine.{OpLine}
 use Rattle.forms.specs.Forms.{declared_domain, op_form}
-use Rattle.forms.specs.declared.FormParse.{FormParse}
-use Rattle.forms.specs.declared.FormParse.TheVariants.{Form as Took, Refused as RefusedForm}
 use Rattle.lexer.specs.declared.Token.{Token}
 use Rattle.lexer.specs.Tokens.{line_end_kind, open_kind, token_at, token_kind, token_start}
 use Rattle.refusal.specs.declared.Refusal.{Refusal}
@@ -20,12 +19,6 @@ use Rattle.syntax.proofs.ByKeyword.{by_keyword}
 use Rattle.syntax.specs.declared.KeywordParse.{KeywordParse}
 use Rattle.syntax.specs.declared.KeywordParse.TheVariants.{First, Second, Third, Fourth, Fifth}
 use Rattle.syntax.specs.declared.KeywordParse.TheVariants.{Refused as RefusedKeyword}
-use Rattle.syntax.specs.declared.TokenParse.{TokenParse}
-use Rattle.syntax.specs.declared.TokenParse.TheVariants.{To, Refused as RefusedToken}
-use Rattle.syntax.specs.declared.NumberParse.{NumberParse}
-use Rattle.syntax.specs.declared.NumberParse.TheVariants.{Number, Refused as RefusedNumber}
-use Rattle.syntax.specs.declared.OpParse.{OpParse}
-use Rattle.syntax.specs.declared.OpParse.TheVariants.{Op as Is, Refused as RefusedOp}
 use Rattle.syntax.specs.Brackets.{bracketed_op}
 use Rattle.syntax.specs.Ops.{then_op}
 use Rattle.syntax.specs.Keywords.{form_words, keyword_at}
@@ -35,6 +28,8 @@ use Rattle.line.specs.declared.Line.{Line}
 use Rattle.line.specs.declared.PlainHead.TheVariants.{Blank as NoToken, Refused}
 use Rattle.line.specs.Heads.{closed_end, form_head, head_at, head_line, word_head}
 use Rattle.line.specs.Lines.{form_keywords, form_line, line_at, line_with, refused_line}
+use Rattle.syntax.specs.declared.Number.{Number}
+use Rattle.script.specs.declared.Op.{Op}
 
 -- ---- the beginning
 
@@ -85,11 +80,11 @@ pub closed_then : {A : Type 0} (text : List ℕ) (at : ℕ) (refused : Refusal �
 unfolding closed_end
 closed_then {A} text at refused go = by_close (pass_close text at)
   where
-    by_close : (closing : TokenParse)
+    by_close : (closing : Result ℕ Refusal)
         → then closing refused (λ closed. then (pass_line_end text closed) refused go)
-        ≡ then (then closing RefusedToken (λ closed. pass_line_end text closed)) refused go
-    by_close (To closed) = refl
-    by_close (RefusedToken refusal) = refl
+        ≡ then (then closing Err (λ closed. pass_line_end text closed)) refused go
+    by_close (Ok closed) = refl
+    by_close (Err refusal) = refl
 
 -- ---- an op form
 
@@ -102,26 +97,26 @@ IsOp (Window line) = ⊥
 IsOp (Script line) = Unit {0}
 IsOp (NoForm refusal) = ⊥
 
-abbrev IsOpParse : FormParse → Type 0
-IsOpParse (Took form end) = IsOp form
-IsOpParse (RefusedForm refusal) = Unit {0}
+abbrev IsOpParse : Result (Form × ℕ) Refusal → Type 0
+IsOpParse (Ok (form, end)) = IsOp form
+IsOpParse (Err refusal) = Unit {0}
 
 op_form_is : (text : List ℕ) (declared at : ℕ) → IsOpParse (op_form text declared at)
 unfolding op_form
 op_form_is text declared at = by_domain (declared_domain text declared at)
   where
-    by_op : (domain : ℕ) (taken : OpParse)
-        → IsOpParse (then_op taken RefusedForm λ op closed.
-        Took (Script (record { domain = domain; op = op })) closed)
-    by_op domain (Is op closed) = tt
-    by_op domain (RefusedOp refusal) = tt
+    by_op : (domain : ℕ) (taken : Result (Op × ℕ) Refusal)
+        → IsOpParse (then_op taken Err λ op closed.
+        Ok ((Script (record { domain = domain; op = op })), closed))
+    by_op domain (Ok (op, closed)) = tt
+    by_op domain (Err refusal) = tt
 
-    by_domain : (numbered : NumberParse)
-        → IsOpParse (then_number numbered RefusedForm λ domain start end.
-        then_op (bracketed_op text end) RefusedForm λ op closed.
-        Took (Script (record { domain = domain; op = op })) closed)
-    by_domain (Number domain start end) = by_op domain (bracketed_op text end)
-    by_domain (RefusedNumber refusal) = tt
+    by_domain : (numbered : Result Number Refusal)
+        → IsOpParse (then_number numbered Err λ domain start end.
+        then_op (bracketed_op text end) Err λ op closed.
+        Ok ((Script (record { domain = domain; op = op })), closed))
+    by_domain (Ok (number_with domain start end)) = by_op domain (bracketed_op text end)
+    by_domain (Err refusal) = tt
 
 other_form : (form : Form) → ((line : OpLine) → form ≡ Script line → ⊥) → IsOp form → ⊥
 other_form Blank other h = h
@@ -133,8 +128,8 @@ other_form (Script line) other h = other line refl
 other_form (NoForm refusal) other h = h
 
 -- what the branch of a `let .. else` knows of a form, that it is not an op, is not so of an op form
-pub no_other : (text : List ℕ) (declared at : ℕ) {parse : FormParse} {form : Form} {end : ℕ}
-    → parse ≡ op_form text declared at → parse ≡ Took form end
+pub no_other : (text : List ℕ) (declared at : ℕ) {parse : Result (Form × ℕ) Refusal} {form : Form} {end : ℕ}
+    → parse ≡ op_form text declared at → parse ≡ Ok (form, end)
     → ((line : OpLine) → form ≡ Script line → ⊥) → ⊥
 no_other text declared at {parse} {form} read known other =
     other_form form other (subst IsOpParse (sym read ∙ known) (op_form_is text declared at))

@@ -1,5 +1,6 @@
 -- What the line of a beginning that opens no op is known to be: no op, and one that leaves what is
 -- named as it was, unless it is a domain line or refused. Assumes nothing.
+use Rattle.std.specs.Prelude.{Result, Ok, Err}
 use Prim.Native.Nat.{ℕ}
 use mathlib.Core.List.{List}
 use mathlib.Core.Path.{◌≡◌, refl}
@@ -8,18 +9,12 @@ use Rattle.forms.specs.declared.DomainParse.{DomainParse}
 use Rattle.forms.specs.declared.Form.{Form}
 use Rattle.forms.specs.declared.Form.TheVariants.{Blank, Pad, Run, Domain, Window}
 use Rattle.forms.specs.declared.Form.TheVariants.{Op as Script, Refused as NoForm}
-use Rattle.forms.specs.declared.FormParse.{FormParse}
-use Rattle.forms.specs.declared.FormParse.TheVariants.{Form as Took, Refused as RefusedForm}
 use Rattle.forms.specs.Forms.{declared_domain, domain_form, listed_domain, may_form, next_domain}
 use Rattle.forms.specs.Forms.{pad_form, run_form, window_form}
 use Rattle.plan.specs.Limits.{least_length, least_pad, least_run, least_share}
 use Rattle.plan.specs.Limits.{most_length, most_pad, most_run, most_share}
 use Rattle.refusal.specs.declared.Refusal.{Refusal}
-use Rattle.syntax.specs.declared.NumberParse.{NumberParse}
-use Rattle.syntax.specs.declared.NumberParse.TheVariants.{Number, Refused as RefusedNumber}
 use Rattle.syntax.specs.declared.RecipientList.{RecipientList}
-use Rattle.syntax.specs.declared.TokenParse.{TokenParse}
-use Rattle.syntax.specs.declared.TokenParse.TheVariants.{To, Refused as RefusedToken}
 use Rattle.syntax.specs.Brackets.{bracketed_number, pass_head}
 use Rattle.syntax.specs.Recipients.{recipients_at}
 use Rattle.syntax.specs.Tokens.{pass_close, pass_line_end, take_number, then, then_number}
@@ -31,6 +26,7 @@ use Rattle.line.specs.declared.PlainHead.TheVariants.{Window as WindowHead}
 use Rattle.line.specs.declared.PlainHead.TheVariants.{Refused as RefusedHead}
 use Rattle.line.specs.Heads.{line_of}
 use Rattle.line.specs.Lines.{closed_line, noted_line}
+use Rattle.syntax.specs.declared.Number.{Number}
 
 -- `named` before the form, and `marked` after it
 abbrev pub IsPlain : List ℕ → List ℕ → Form → Type 0
@@ -42,11 +38,11 @@ IsPlain named marked (Window line) = marked ≡ named
 IsPlain named marked (Script line) = ⊥
 IsPlain named marked (NoForm refusal) = Unit {0}
 
-abbrev IsPlainParse : List ℕ → List ℕ → FormParse → Type 0
-IsPlainParse named marked (Took form end) = IsPlain named marked form
-IsPlainParse named marked (RefusedForm refusal) = Unit {0}
+abbrev IsPlainParse : List ℕ → List ℕ → Result (Form × ℕ) Refusal → Type 0
+IsPlainParse named marked (Ok (form, end)) = IsPlain named marked form
+IsPlainParse named marked (Err refusal) = Unit {0}
 
-record PlainForm (named marked : List ℕ) (parse : FormParse) : Type 0 where
+record PlainForm (named marked : List ℕ) (parse : Result (Form × ℕ) Refusal) : Type 0 where
   form : IsPlainParse named marked parse
 
 record PlainDomain (named : List ℕ) (domain : DomainParse) : Type 0 where
@@ -57,20 +53,20 @@ pub record PlainLine (named : List ℕ) (line : Line) : Type 0 where
 
 -- ---- whatever was taken
 
-after_token : {A : Type 0} (P : A → Type 0) (passed : TokenParse) (refused : Refusal → A)
+after_token : {A : Type 0} (P : A → Type 0) (passed : Result ℕ Refusal) (refused : Refusal → A)
     (go : ℕ → A) → ((refusal : Refusal) → P (refused refusal)) → ((end : ℕ) → P (go end))
     → P (then passed refused go)
-after_token P (To end) refused go f g = g end
-after_token P (RefusedToken refusal) refused go f g = f refusal
+after_token P (Ok end) refused go f g = g end
+after_token P (Err refusal) refused go f g = f refusal
 
-after_number : {A : Type 0} (P : A → Type 0) (taken : NumberParse) (refused : Refusal → A)
+after_number : {A : Type 0} (P : A → Type 0) (taken : Result Number Refusal) (refused : Refusal → A)
     (go : ℕ → ℕ → ℕ → A) → ((refusal : Refusal) → P (refused refusal))
     → ((value start end : ℕ) → P (go value start end)) → P (then_number taken refused go)
-after_number P (Number value start end) refused go f g = g value start end
-after_number P (RefusedNumber refusal) refused go f g = f refusal
+after_number P (Ok (number_with value start end)) refused go f g = g value start end
+after_number P (Err refusal) refused go f g = f refusal
 
 module _ (text : List ℕ) (declared : ℕ) (named : List ℕ) where
-  none : (refusal : Refusal) → PlainForm named named (RefusedForm refusal)
+  none : (refusal : Refusal) → PlainForm named named (Err refusal)
   none refusal = record { form = tt }
 
   pad_plain : (at : ℕ) → PlainForm named named (pad_form text at)
@@ -95,7 +91,7 @@ module _ (text : List ℕ) (declared : ℕ) (named : List ℕ) where
       λ ticks first closed. record { form = refl }
 
   no_domain : (refusal : Refusal)
-      → PlainDomain named (record { parse = RefusedForm refusal; named = named })
+      → PlainDomain named (record { parse = Err refusal; named = named })
   no_domain refusal = record { parse = none refusal }
 
   listed_plain : (share : ℕ) (list : RecipientList) → PlainDomain named (listed_domain share list)
@@ -117,11 +113,11 @@ module _ (text : List ℕ) (declared : ℕ) (named : List ℕ) where
       λ worded.
       listed_plain share (recipients_at text own named worded)
 
-  closed_plain : (bracket : ℕ) (marked : List ℕ) (parse : FormParse)
+  closed_plain : (bracket : ℕ) (marked : List ℕ) (parse : Result (Form × ℕ) Refusal)
       → PlainForm named marked parse → PlainLine named (closed_line text bracket marked parse)
   unfolding closed_line
-  closed_plain bracket marked (RefusedForm refusal) h = record { form = tt }
-  closed_plain bracket marked (Took form end) h =
+  closed_plain bracket marked (Err refusal) h = record { form = tt }
+  closed_plain bracket marked (Ok (form, end)) h =
       after_token (PlainLine named) (pass_close text end) _ _ (λ refusal. record { form = tt })
       λ closed.
       after_token (PlainLine named) (pass_line_end text closed) _ _ (λ refusal. record { form = tt })

@@ -1,14 +1,12 @@
 -- The beginning of a line and the rest of it, as the code reads them apart. They say nothing of
 -- their own: by `line_by_head` of proofs/Heads they give the line that `line_at` of Lines is.
 -- Assumes nothing.
-use Rattle.std.specs.Prelude.{ℕ, ◌+◌, cond, List, eqb}
+use Rattle.std.specs.Prelude.{ℕ, ◌+◌, cond, List, eqb, Result, Ok, Err}
 use Rattle.forms.specs.declared.Form.TheVariants.{Blank, Op as Script}
 use Rattle.forms.specs.Forms.{domain_form, op_form, pad_form, run_form, window_form}
 use Rattle.syntax.specs.declared.KeywordParse.{KeywordParse}
 use Rattle.syntax.specs.declared.KeywordParse.TheVariants.{First, Second, Third, Fourth, Fifth}
 use Rattle.syntax.specs.declared.KeywordParse.TheVariants.{Refused as RefusedKeyword}
-use Rattle.syntax.specs.declared.TokenParse.{TokenParse}
-use Rattle.syntax.specs.declared.TokenParse.TheVariants.{Refused as RefusedToken}
 use Rattle.syntax.specs.Keywords.{form_words, keyword_at}
 use Rattle.syntax.specs.Tokens.{due, pass_close, pass_line_end, then}
 use Rattle.lexer.specs.declared.Token.{Token}
@@ -16,12 +14,12 @@ use Rattle.lexer.specs.Tokens.{line_end_kind, open_kind, token_at, token_kind, t
 use Rattle.line.specs.declared.Head.{Head}
 use Rattle.line.specs.declared.Head.TheVariants.{Op, Plain}
 use Rattle.line.specs.declared.Line.{Line}
-use Rattle.line.specs.declared.OpLineParse.{OpLineParse}
-use Rattle.line.specs.declared.OpLineParse.TheVariants.{Op as Took, Refused as RefusedOp}
 use Rattle.line.specs.declared.PlainHead.{PlainHead}
 use Rattle.line.specs.declared.PlainHead.TheVariants.{Blank as NoToken, Refused}
 use Rattle.line.specs.declared.PlainHead.TheVariants.{Pad, Run, Domain, Window}
 use Rattle.line.specs.Lines.{closed_line, line_with, noted_line, refused_line}
+use Rattle.forms.specs.declared.OpLine.{OpLine}
+use Rattle.refusal.specs.declared.Refusal.{Refusal}
 
 -- ---- the beginning of a line
 
@@ -52,8 +50,8 @@ head_at text at = token_head text (token_at text at)
 -- ---- the rest of a line
 
 -- a form's closing bracket and the line's end
-unfoldable pub closed_end : List ℕ → ℕ → TokenParse
-closed_end text at = then (pass_close text at) RefusedToken λ closed. pass_line_end text closed
+unfoldable pub closed_end : List ℕ → ℕ → Result ℕ Refusal
+closed_end text at = then (pass_close text at) Err λ closed. pass_line_end text closed
 
 -- the line of a beginning that opens no op
 abbrev pub line_of : List ℕ → ℕ → List ℕ → PlainHead → Line
@@ -79,6 +77,6 @@ head_line text declared named (Op bracket inside) = op_line_of text declared nam
 head_line text declared named (Plain head) = line_of text declared named head
 
 -- an op line that was read apart, with its bracket and what is named
-abbrev pub op_line_with : ℕ → List ℕ → OpLineParse → Line
-op_line_with bracket named (Took line end) = line_with bracket named (Script line) end
-op_line_with bracket named (RefusedOp refusal) = refused_line bracket named refusal
+abbrev pub op_line_with : ℕ → List ℕ → Result (OpLine × ℕ) Refusal → Line
+op_line_with bracket named (Ok (line, end)) = line_with bracket named (Script line) end
+op_line_with bracket named (Err refusal) = refused_line bracket named refusal

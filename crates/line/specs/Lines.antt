@@ -1,10 +1,9 @@
 -- Document 01, "The plan text": one form a line; lines without a token allowed. `named` is as in
 -- the domain form of crate forms. Assumes nothing.
-use Rattle.std.specs.Prelude.{ℕ, ◌+◌, cond, List, [], ◌∷◌, eqb}
+use Rattle.std.specs.Prelude.{ℕ, ◌+◌, cond, List, [], ◌∷◌, eqb, Result}
 use Rattle.forms.specs.declared.DomainParse.{DomainParse}
 use Rattle.forms.specs.declared.Form.{Form}
 use Rattle.forms.specs.declared.Form.TheVariants.{Blank, Refused}
-use Rattle.forms.specs.declared.FormParse.{FormParse}
 use Rattle.forms.specs.Forms.{domain_form, op_form, pad_form, run_form, then_form, window_form}
 use Rattle.refusal.specs.declared.Refusal.{Refusal}
 use Rattle.syntax.specs.Keywords.{Keyword, on, one_of}
@@ -24,7 +23,7 @@ line_with bracket named form end =
     record { form = form; bracket = bracket; end = end; named = named }
 
 -- a form, its closing bracket and the line's end
-unfoldable pub closed_line : List ℕ → ℕ → List ℕ → FormParse → Line
+unfoldable pub closed_line : List ℕ → ℕ → List ℕ → Result (Form × ℕ) Refusal → Line
 closed_line text bracket named parse =
     then_form parse (refused_line bracket named) λ form end.
     then (pass_close text end) (refused_line bracket named) λ closed.

@@ -1,4 +1,5 @@
 -- A run under way: what holds each time its loop comes round, and what follows when it stops. Assumes nothing.
+use Rattle.std.specs.Prelude.{Option}
 use mathlib.Core.Path.{◌≡◌, refl, sym, subst, ap, ◌∙◌}
 use mathlib.Core.Bool.{Bool, false, true, ◌&&◌, and-eq-true_iff}
 use mathlib.Core.List.{List}
@@ -15,7 +16,6 @@ use Rattle.plan.specs.Windows.{window_end, window_length, window_owner, slot_of,
 use Rattle.plan.proofs.ValidPlans.{counts}
 use Rattle.plan.proofs.Windows.{length_most, owner_declared, slot_below, start_fits}
 use Rattle.cache.specs.Access.{access_of}
-use Rattle.records.specs.declared.Place.{Place}
 use Rattle.state.specs.StateValidity.{state_valid}
 use Rattle.state.specs.World.{World, ended_of}
 use Rattle.machine.specs.Steps.{RunEffect, run_by}
@@ -72,7 +72,7 @@ goes_on steps limit windows total test =
 
 -- some steps are done, and they lead to what is present
 pub record Going
-    (places : ℕ → Place) (plan : Plan) (scripts : List ℕ) (quota limit : ℕ) (first present : World)
+    (places : ℕ → Option ℕ) (plan : Plan) (scripts : List ℕ) (quota limit : ℕ) (first present : World)
     (steps start slot : ℕ) : Type 0 where
   pub within : steps ≤ limit
   pub ran : RunsTo places plan scripts quota steps first present
@@ -82,7 +82,7 @@ pub record Going
   pub boxes_long : length present.boxes ≡ length first.boxes
   pub log_long : length present.log ≡ length first.log
 
-module _ (places : ℕ → Place) (plan : Plan) (scripts : List ℕ) (quota limit : ℕ) (first : World) where
+module _ (places : ℕ → Option ℕ) (plan : Plan) (scripts : List ℕ) (quota limit : ℕ) (first : World) where
   -- before the first step
   pub going_first : (start slot : ℕ) → start ≡ window_start plan first.state.windows
       → slot ≡ slot_of plan first.state.windows

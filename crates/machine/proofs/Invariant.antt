@@ -1,4 +1,5 @@
 -- What holds along a run: whatever a switch and an op that begins keep holds after any number of steps. Assumes nothing.
+use Rattle.std.specs.Prelude.{Option, Some, None}
 use Prim.Native.Nat.{ℕ, zero, suc, ◌<◌}
 use mathlib.Core.Bool.{Bool, true, false, cond, ◌||◌}
 use mathlib.Core.List.{List}
@@ -9,11 +10,8 @@ use borrow.Author.Tests.{leb-false}
 use Rattle.plan.specs.declared.Plan.{Plan}
 use Rattle.plan.specs.Windows.{window_end, windows_total}
 use Rattle.script.specs.declared.Op.{Op}
-use Rattle.script.specs.declared.ScriptItem.{ScriptItem}
-use Rattle.script.specs.declared.ScriptItem.TheVariants.{Op as Fetch, End}
 use Rattle.script.proofs.ScriptEnd.{end_is_none}
 use Rattle.cache.specs.Access.{access_of}
-use Rattle.records.specs.declared.Place.{Place}
 use Rattle.records.proofs.Places.{stored_length}
 use Rattle.state.specs.declared.State.{State}
 use Rattle.state.specs.World.{World, ended_of, records_at, running_of}
@@ -26,31 +24,31 @@ use Rattle.machine.proofs.Runs.{step_active, step_ended, steps_last}
 pub record OpNext (scripts : List ℕ) (turn : Turn) (op : Op) : Type 0 where
   pub in_time : turn.clock < turn.end
   pub room : turn.records < turn.quota
-  pub next : next_item scripts turn ≡ Fetch op
+  pub next : next_item scripts turn ≡ Some op
 
 -- an op begins: it is next in a window
 pub record Begins (plan : Plan) (scripts : List ℕ) (quota : ℕ) (world : World) (op : Op) : Type 0 where
   pub in_a_window : world.state.windows < windows_total plan
   pub in_time : world.state.clock < window_end plan world.state.windows
   pub room : records_at world.state (running_of plan world.state) < quota
-  pub next : next_item scripts (turn_of plan quota world.state) ≡ Fetch op
+  pub next : next_item scripts (turn_of plan quota world.state) ≡ Some op
 
 -- the next step is an op only there
-pub op_next : (scripts : List ℕ) (turn : Turn) (op : Op) → next_step_of scripts turn ≡ Fetch op → OpNext scripts turn op
+pub op_next : (scripts : List ℕ) (turn : Turn) (op : Op) → next_step_of scripts turn ≡ Some op → OpNext scripts turn op
 unfolding next_step_of switch_due
 op_next scripts turn op is =
     go (leb turn.end turn.clock) refl (next_item scripts turn) refl (leb turn.quota turn.records) refl is
   where
     go :
         (late : Bool) → leb turn.end turn.clock ≡ late
-        → (item : ScriptItem) → next_item scripts turn ≡ item
+        → (item : Option Op) → next_item scripts turn ≡ item
         → (full : Bool) → leb turn.quota turn.records ≡ full
-        → cond (late || is_end item || full) End item ≡ Fetch op
+        → cond (late || is_end item || full) None item ≡ Some op
         → OpNext scripts turn op
     go true late item next full room is = absurd (end_is_none op is)
-    go false late End next full room is = absurd (end_is_none op is)
-    go false late (Fetch found) next true room is = absurd (end_is_none op is)
-    go false late (Fetch found) next false room is =
+    go false late None next full room is = absurd (end_is_none op is)
+    go false late (Some found) next true room is = absurd (end_is_none op is)
+    go false late (Some found) next false room is =
         record { in_time = leb-false _ _ late; room = leb-false _ _ room; next = cc }
 
 -- a run that has not ended is in a window
@@ -60,7 +58,7 @@ in_window plan state running = leb-false _ _ running
 
 -- what holds of the world after a step: of the same world where the run has ended, else of the world after a switch, or after an op that begins
 module _
-    (places : ℕ → Place)
+    (places : ℕ → Option ℕ)
     (plan : Plan)
     (scripts : List ℕ)
     (quota : ℕ)
@@ -74,11 +72,11 @@ module _
     unfolding active_step_by
     step_cases = by_end (ended_of plan world.state) refl
       where
-        by_next : (next : ScriptItem) → next_step_of scripts (turn_of plan quota world.state) ≡ next
+        by_next : (next : Option Op) → next_step_of scripts (turn_of plan quota world.state) ≡ next
             → ended_of plan world.state ≡ false
             → Holds (active_step_by access_of places plan next world)
-        by_next End is running = switch_holds (in_window plan world.state running)
-        by_next (Fetch op) is running =
+        by_next None is running = switch_holds (in_window plan world.state running)
+        by_next (Some op) is running =
             let next = op_next scripts _ op is in
             op-holds op
             (record { in_a_window = in_window plan world.state running; in_time = next.in_time; room = next.room; next = next.next })
@@ -89,7 +87,7 @@ module _
 
 -- what a switch and an op that begins keep holds after any number of steps
 module _
-    (places : ℕ → Place)
+    (places : ℕ → Option ℕ)
     (plan : Plan)
     (scripts : List ℕ)
     (quota : ℕ)
@@ -113,7 +111,7 @@ abbrev SameCounts : World → World → Type 0
 SameCounts one other =
     (length one.state.positions ≡ length other.state.positions) × (length one.state.records ≡ length other.state.records)
 
-pub steps_counts : (places : ℕ → Place)
+pub steps_counts : (places : ℕ → Option ℕ)
     (plan : Plan) (scripts : List ℕ) (quota count : ℕ) (world : World)
     → SameCounts (steps_by access_of places plan scripts quota count world) world
 unfolding op_step_by switch_by
@@ -124,7 +122,7 @@ steps_counts places plan scripts quota count world =
     world (refl, refl) count
 
 -- nor how long the log is
-pub steps_log : (places : ℕ → Place) (plan : Plan) (scripts : List ℕ) (quota count : ℕ) (world : World)
+pub steps_log : (places : ℕ → Option ℕ) (plan : Plan) (scripts : List ℕ) (quota count : ℕ) (world : World)
     → length (steps_by access_of places plan scripts quota count world).log ≡ length world.log
 unfolding op_step_by switch_by
 steps_log places plan scripts quota count world =

@@ -1,17 +1,15 @@
 -- A run that keeps one domain's records, beside the run that keeps everyone's: step by step the one's log is the domain's
 -- part of the other's. Assumes nothing.
+use Rattle.std.specs.Prelude.{Option, Some, None}
 use Prim.Native.Nat.{ℕ, zero, suc, ◌+◌, ◌≤◌, ◌<◌}
 use mathlib.Core.Bool.{Bool, true, false}
 use mathlib.Core.List.{List}
 use mathlib.Core.Path.{◌≡◌, refl, sym, ap, ◌∙◌}
 use native.Mathlib.Decide.{ℕ_discrete}
 use Rattle.plan.specs.declared.Plan.{Plan}
-use Rattle.script.specs.declared.ScriptItem.{ScriptItem}
-use Rattle.script.specs.declared.ScriptItem.TheVariants.{Op as Fetch, End}
 use Rattle.cache.specs.Access.{access_of}
 use Rattle.records.specs.declared.Keep.TheVariants.{One}
 use Rattle.records.specs.declared.Observation.{Observation}
-use Rattle.records.specs.declared.Place.{Place}
 use Rattle.records.specs.Records.{in_parts, log_part, only_of, stored_at}
 use Rattle.records.proofs.Parts.{part_kept, part_left}
 use Rattle.records.proofs.Places.{kept_elsewhere, kept_here}
@@ -24,9 +22,10 @@ use Rattle.machine.specs.View.{world_with}
 use Rattle.machine.proofs.Invariant.{op_next, step_cases}
 use Rattle.machine.proofs.Runs.{step_active, step_ended}
 use Rattle.machine.proofs.Turns.{next_full}
+use Rattle.script.specs.declared.Op.{Op}
 
 -- a record stored in a domain's part of a log
-abbrev stored_in : ℕ → ℕ → List ℕ → ℕ → Observation → ℕ → Place → List ℕ
+abbrev stored_in : ℕ → ℕ → List ℕ → ℕ → Observation → ℕ → Option ℕ → List ℕ
 stored_in quota domain log number seen clock place = stored_at place number seen clock (log_part quota domain quota log)
 
 -- it goes into the part alike, or leaves it where it is another domain's
@@ -52,12 +51,12 @@ abbrev with_log : World → List ℕ → World
 with_log world log = world_with world.state world.cache world.boxes log
 
 module _ (plan : Plan) (scripts : List ℕ) (quota domain : ℕ) where
-  active_kept : (world : World) (next : ScriptItem) → next_step_of scripts (turn_of plan quota world.state) ≡ next
+  active_kept : (world : World) (next : Option Op) → next_step_of scripts (turn_of plan quota world.state) ≡ next
       → active_step_by access_of (only_of domain) plan next (kept_world quota domain world)
       ≡ kept_world quota domain (active_step plan quota next world)
   unfolding active_step_by op_step_by switch_by
-  active_kept world End is = refl
-  active_kept world (Fetch op) is =
+  active_kept world None is = refl
+  active_kept world (Some op) is =
       let running = running_of plan world.state in
       let effect = effect_of plan running op world.cache world.boxes in
       ap (with_log (op_step_by access_of (in_parts quota running) plan running op world))
@@ -102,7 +101,7 @@ module _ (plan : Plan) (scripts : List ℕ) (quota domain : ℕ) where
   unfolding active_step_by
   full_idle world running full =
       step_active (only_of domain) plan scripts quota world running
-      ∙ ap (λ (next : ScriptItem). active_step_by access_of (only_of domain) plan next world)
+      ∙ ap (λ (next : Option Op). active_step_by access_of (only_of domain) plan next world)
       (sym (next_full scripts (turn_of plan quota world.state) full))
 
   others_left : (world : World) → (running_of plan world.state ≡ domain → ⊥) → (kept_step domain plan scripts quota world).log ≡ world.log
@@ -113,7 +112,7 @@ module _ (plan : Plan) (scripts : List ℕ) (quota domain : ℕ) where
       let running = running_of plan world.state in
       let effect = effect_of plan running op world.cache world.boxes in
       ap
-      (λ (place : Place).
+      (λ (place : Option ℕ).
       stored_at place (records_at world.state running) effect.seen (world.state.clock + effect.ticks) world.log)
       (kept_elsewhere domain running other))
 

@@ -1,5 +1,6 @@
 -- Runs and their steps: n steps may be taken apart at either end, an ended world stays, and a run of a + b steps is a run of a, then one of b.
 -- Wherever each domain's records go. Assumes nothing.
+use Rattle.std.specs.Prelude.{Option}
 use Prim.Native.Nat.{ℕ, zero, suc, ◌+◌, ◌-◌, ◌≤◌}
 use mathlib.Core.Bool.{Bool, true, false}
 use mathlib.Core.List.{List}
@@ -8,12 +9,11 @@ use native.Mathlib.Nat.{add-zero, suc-add, zero-add}
 use native.Mathlib.Omega.{arith}
 use Rattle.plan.specs.declared.Plan.{Plan}
 use Rattle.cache.specs.Access.{access_of}
-use Rattle.records.specs.declared.Place.{Place}
 use Rattle.state.specs.World.{World, ended_of}
 use Rattle.machine.specs.Steps.{RunEffect, active_step_by, next_step_of, one_more, run_by, step_by, steps_by, turn_of}
 use Rattle.machine.specs.View.{RunsTo, ran_with}
 
-module _ (places : ℕ → Place) (plan : Plan) (scripts : List ℕ) (quota : ℕ) where
+module _ (places : ℕ → Option ℕ) (plan : Plan) (scripts : List ℕ) (quota : ℕ) where
   -- a step of it, a run of it, n steps
   abbrev step : World → World
   step = step_by access_of places plan scripts quota

@@ -1,5 +1,6 @@
 -- Windows start when the plan alone says: where the clock of a reached world stands, and that a switch sets it to the next window's start.
 -- Assumes nothing.
+use Rattle.std.specs.Prelude.{Option}
 use Prim.Native.Nat.{ℕ, suc, ◌+◌, ◌-◌, ◌≤◌, ◌<◌}
 use mathlib.Core.Bool.{Bool, and-eq-true_iff, false, true}
 use mathlib.Core.List.{List}
@@ -17,7 +18,6 @@ use Rattle.plan.proofs.Windows.{pad_least, start_total}
 use Rattle.script.specs.declared.Op.{Op}
 use Rattle.cache.proofs.Ticks.{flush_ticks_lem}
 use Rattle.cache.specs.Access.{access_of}
-use Rattle.records.specs.declared.Place.{Place}
 use Rattle.records.specs.Records.{in_parts}
 use Rattle.ops.proofs.Ticks.{effect_ticks}
 use Rattle.state.specs.StateValidity.{clock_valid, state_valid}
@@ -71,7 +71,7 @@ module _ (plan : Plan) (possible : plan_valid plan ≡ true) where
       let length = start_end plan (world.state.windows + 1) in
       record { windows = omega arith; started = omega arith; soon = λ h. omega arith; ended = λ h. exact }
 
-  after_op : (place : Place) (scripts : List ℕ) (quota : ℕ) (world : World) (op : Op) → Scheduled plan world → Begins plan scripts quota world op
+  after_op : (place : Option ℕ) (scripts : List ℕ) (quota : ℕ) (world : World) (op : Op) → Scheduled plan world → Begins plan scripts quota world op
       → Scheduled plan (op_step_by access_of place plan (running_of plan world.state) op world)
   unfolding op_step_by
   after_op place scripts quota world op scheduled begins =
@@ -112,7 +112,7 @@ step_windows plan scripts quota world possible scheduled =
     (λ op begins. inl refl)
 
 -- steps keep to the schedule
-pub steps_scheduled : (places : ℕ → Place) (plan : Plan) (scripts : List ℕ) (quota : ℕ) (world : World) → plan_valid plan ≡ true → Scheduled plan world
+pub steps_scheduled : (places : ℕ → Option ℕ) (plan : Plan) (scripts : List ℕ) (quota : ℕ) (world : World) → plan_valid plan ≡ true → Scheduled plan world
     → (count : ℕ)
     → Scheduled plan (steps_by access_of places plan scripts quota count world)
 steps_scheduled places plan scripts quota world possible on-schedule =

@@ -1,4 +1,5 @@
 -- What the code of a switch, an op and the choice of a step answers and leaves is the definition's. Assumes nothing.
+use Rattle.std.specs.Prelude.{Option, Some, None}
 use mathlib.Core.Path.{◌≡◌, refl, ap}
 use mathlib.Core.Bool.{Bool, true, false, cond, ◌||◌}
 use mathlib.Core.List.{List}
@@ -9,8 +10,6 @@ use borrow.Author.Tests.{le-leb, le-ltb, leb-false, leb-true, lt-leb}
 use Rattle.plan.specs.declared.Plan.{Plan}
 use Rattle.plan.specs.Limits.{dearest_op, most_flush_ticks, touch_ticks}
 use Rattle.plan.specs.Windows.{window_end}
-use Rattle.script.specs.declared.ScriptItem.{ScriptItem}
-use Rattle.script.specs.declared.ScriptItem.TheVariants.{Op as Fetch, End}
 use Rattle.script.specs.declared.Op.{Op}
 use Rattle.script.specs.declared.Op.TheVariants.{Compute, Read, Receive, Send, Write}
 use Rattle.script.specs.Fetch.{fetch_of}
@@ -18,7 +17,6 @@ use Rattle.script.specs.Limits.{OpWithinLimits, most_ops}
 use Rattle.cache.specs.Flush.{kernel_flush_ticks, kernel_flushed, l1_flush_ticks, l1_flushed}
 use Rattle.cache.proofs.Ticks.{flush_ticks_lem}
 use Rattle.cache.specs.Access.{access_of}
-use Rattle.records.specs.declared.Place.{Place}
 use Rattle.records.specs.Records.{stored_at}
 use Rattle.ops.specs.declared.OpResult.{OpResult}
 use Rattle.ops.specs.Ops.{Effect, effect_by, effect_of, kernel_entry_line, message_by, owns_line, receive_by, touch_by}
@@ -77,34 +75,34 @@ switch_stepped plan state cache boxes log end clock last cache' ends lasts clock
 
 module _ (scripts : List ℕ) (turn : Turn) where
   -- the clock has reached the end
-  pub next_late : turn.end ≤ turn.clock → End ≡ next_step_of scripts turn
+  pub next_late : turn.end ≤ turn.clock → None ≡ next_step_of scripts turn
   unfolding next_step_of switch_due
   next_late reached = rw (le-leb turn.end turn.clock reached) refl
 
   -- or the domain's log is full
-  pub next_full : turn.quota ≤ turn.records → End ≡ next_step_of scripts turn
+  pub next_full : turn.quota ≤ turn.records → None ≡ next_step_of scripts turn
   unfolding next_step_of switch_due
   next_full full =
       rw (le-leb turn.quota turn.records full)
       (go (leb turn.end turn.clock) (next_item scripts turn))
     where
-      go : (late : Bool) (item : ScriptItem) → End ≡ cond (late || is_end item || true) End item
+      go : (late : Bool) (item : Option Op) → None ≡ cond (late || is_end item || true) None item
       go true item = refl
-      go false (Fetch op) = refl
-      go false End = refl
+      go false (Some op) = refl
+      go false None = refl
 
   -- or its script has no position more
-  next_past : most_ops ≤ turn.position → End ≡ next_step_of scripts turn
+  next_past : most_ops ≤ turn.position → None ≡ next_step_of scripts turn
   unfolding next_step_of switch_due fetch_of
   next_past past = rw (le-ltb turn.position most_ops past)
       (go (leb turn.end turn.clock || true || leb turn.quota turn.records))
     where
-      go : (due : Bool) → End ≡ cond due End End
+      go : (due : Bool) → None ≡ cond due None None
       go true = refl
       go false = refl
 
   -- or none of these: what stands next in the script decides
-  pub next_item_lem : (item : ScriptItem) → item ≡ next_item scripts turn
+  pub next_item_lem : (item : Option Op) → item ≡ next_item scripts turn
       → turn.clock < turn.end
       → turn.records < turn.quota
       → item ≡ next_step_of scripts turn
@@ -113,9 +111,9 @@ module _ (scripts : List ℕ) (turn : Turn) where
       rw (lt-leb turn.end turn.clock in_time, lt-leb turn.quota turn.records room, ← is)
       (go item)
     where
-      go : (item : ScriptItem) → item ≡ cond (is_end item || false) End item
-      go (Fetch op) = refl
-      go End = refl
+      go : (item : Option Op) → item ≡ cond (is_end item || false) None item
+      go (Some op) = refl
+      go None = refl
 
 -- after as many ops as are allowed a switch is next, unless the limit is reached
 pub next_disallowed :
@@ -123,12 +121,12 @@ pub next_disallowed :
     → most ≡ ops_allowed limit first
     → most ≤ steps
     → steps < limit
-    → End ≡ next_step_of scripts (turn_after first steps clock)
+    → None ≡ next_step_of scripts (turn_after first steps clock)
 next_disallowed scripts first limit most steps clock allowed all more =
     go (leb first.quota (first.records + steps)) refl
   where
     go : (full : Bool) → leb first.quota (first.records + steps) ≡ full
-        → End ≡ next_step_of scripts (turn_after first steps clock)
+        → None ≡ next_step_of scripts (turn_after first steps clock)
     go true full = next_full scripts (turn_after first steps clock) (leb-true _ _ full)
     go false room =
         next_past scripts (turn_after first steps clock)
@@ -148,7 +146,7 @@ operated_ticks plan domain op cache boxes done cache' boxes' within did =
 
 -- one op, with its record stored
 pub op_ran :
-    (place : Place) (plan : Plan) (op : Op) (turn : Turn) (cache boxes log : List ℕ) (done : OpResult) (cache' boxes' log' : List ℕ)
+    (place : Option ℕ) (plan : Plan) (op : Op) (turn : Turn) (cache boxes log : List ℕ) (done : OpResult) (cache' boxes' log' : List ℕ)
     → OpWithinLimits op
     → effect_with done cache' boxes' ≡ effect_of plan turn.owner op cache boxes
     → log' ≡ stored_at place turn.records done.seen (turn.clock + done.ticks) log
@@ -172,7 +170,7 @@ effect_view plan domain (Receive sender) cache boxes = refl
 effect_view plan domain (Compute ticks) cache boxes = refl
 
 pub op_step_view :
-    (place : Place) (plan : Plan) (domain : ℕ) (op : Op) (world : World)
+    (place : Option ℕ) (plan : Plan) (domain : ℕ) (op : Op) (world : World)
     → op_step_by access_of place (view_of plan.rights plan.masks) domain op world ≡ op_step_by access_of place plan domain op world
 unfolding op_step_by
 op_step_view place plan domain op world = rw effect_view refl

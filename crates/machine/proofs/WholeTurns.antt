@@ -1,4 +1,5 @@
 -- A window's ops and its switch: what they are handed, and that as many steps lead to what they leave. Assumes nothing.
+use Rattle.std.specs.Prelude.{Option}
 use mathlib.Core.Path.{◌≡◌, refl, sym, ap, subst, ◌∙◌}
 use mathlib.Core.Bool.{Bool, false, true}
 use mathlib.Core.List.{List}
@@ -13,7 +14,6 @@ use Rattle.plan.specs.Limits.{dearest_op, least_pad, most_domains}
 use Rattle.plan.specs.Validity.{plan_valid}
 use Rattle.plan.specs.Windows.{slot_of, window_end, window_owner, window_start, windows_total}
 use Rattle.cache.proofs.Ticks.{flush_ticks_lem}
-use Rattle.records.specs.declared.Place.{Place}
 use Rattle.state.specs.declared.State.{State}
 use Rattle.state.specs.World.{World, ended_of, position_at, records_at}
 use Rattle.machine.specs.declared.Turn.{Turn}
@@ -129,7 +129,7 @@ module _ (limit pad : ℕ) (first : Turn) (ran : WindowProgress) (within : ran.s
         }
 
     pub switch_runs :
-        (places : ℕ → Place) (plan : Plan) (scripts rights masks : List ℕ) (state : State) (before : World) (boxes log cache' : List ℕ) (last : Bool)
+        (places : ℕ → Option ℕ) (plan : Plan) (scripts rights masks : List ℕ) (state : State) (before : World) (boxes log cache' : List ℕ) (last : Bool)
         → WindowRan places plan scripts first.quota limit ran.steps before (world_with (turned state ran.turn) cache boxes log)
         → cache' ≡ switched_cache last cache
         → InTurn plan rights masks state first
@@ -164,7 +164,7 @@ turned_at state owner turn =
 -- a turn of a run: one that ends before the limit leaves the clock at the next window's start, and
 -- the next declared window follows
 pub going_turn :
-    (places : ℕ → Place) (plan : Plan) (scripts : List ℕ) (quota limit : ℕ) (first : World) (state : State)
+    (places : ℕ → Option ℕ) (plan : Plan) (scripts : List ℕ) (quota limit : ℕ) (first : World) (state : State)
     (cache boxes log : List ℕ) (steps start slot : ℕ) (turn : Turn) (ran : WindowProgress)
     (slot' : ℕ) (cache' boxes' log' : List ℕ)
     → Going places plan scripts quota limit first (world_with state cache boxes log) steps start slot

@@ -1,4 +1,5 @@
 -- The ops of one window, with the running domain's numbers kept apart from the state. Assumes nothing.
+use Rattle.std.specs.Prelude.{Option, Some, None}
 use mathlib.Core.Bool.{false}
 use mathlib.Core.Path.{◌≡◌, refl, sym, ap, ap₂, subst, ◌∙◌}
 use mathlib.Core.List.{List}
@@ -12,10 +13,7 @@ use Rattle.plan.specs.declared.Plan.{Plan}
 use Rattle.plan.specs.Limits.{dearest_op}
 use Rattle.plan.specs.Windows.{window_end, window_owner, windows_total}
 use Rattle.script.specs.declared.Op.{Op}
-use Rattle.script.specs.declared.ScriptItem.{ScriptItem}
-use Rattle.script.specs.declared.ScriptItem.TheVariants.{Op as Fetch, End}
 use Rattle.cache.specs.Access.{access_of}
-use Rattle.records.specs.declared.Place.{Place}
 use Rattle.ops.specs.View.{view_of}
 use Rattle.state.specs.declared.State.{State}
 use Rattle.state.specs.World.{World, ended_of, position_at, records_at}
@@ -74,34 +72,34 @@ module _ (plan : Plan) (scripts rights masks : List ℕ) (state : State) (turn :
             };
       }
 
-  module _ (places : ℕ → Place) (cache boxes log : List ℕ) where
+  module _ (places : ℕ → Option ℕ) (cache boxes log : List ℕ) where
     -- the step is the one that the code chose
     not_ended : ended_of plan state ≡ false
     unfolding ended_of
     not_ended = lt-leb (windows_total plan) state.windows (omega (arith, here.not_ended, here.stands.windows_is))
 
-    step_chosen : (next : ScriptItem) → next ≡ next_step_of scripts turn
+    step_chosen : (next : Option Op) → next ≡ next_step_of scripts turn
         → step_by access_of places plan scripts turn.quota (world_with state cache boxes log) ≡ active_step_by access_of places plan next (world_with state cache boxes log)
     step_chosen next is =
         step_active places plan scripts turn.quota (world_with state cache boxes log) not_ended
         ∙ ap (λ (t : Turn). active_step_by access_of places plan (next_step_of scripts t) (world_with state cache boxes log)) own_turn
-        ∙ ap (λ (n : ScriptItem). active_step_by access_of places plan n (world_with state cache boxes log)) (sym is)
+        ∙ ap (λ (n : Option Op). active_step_by access_of places plan n (world_with state cache boxes log)) (sym is)
 
-    step_switches : End ≡ next_step_of scripts turn
+    step_switches : None ≡ next_step_of scripts turn
         → step_by access_of places plan scripts turn.quota (world_with state cache boxes log) ≡ switch_of plan (world_with state cache boxes log)
     unfolding active_step_by
-    step_switches is = step_chosen End is
+    step_switches is = step_chosen None is
 
     -- one op
     op_runs : (op : Op) (clock : ℕ) (cache' boxes' log' : List ℕ)
-        → Fetch op ≡ next_step_of scripts turn
+        → Some op ≡ next_step_of scripts turn
         → OpRan (places turn.owner) (view_of rights masks) op turn clock cache boxes log cache' boxes' log'
         → RunsTo places plan scripts turn.quota 1 (world_with state cache boxes log)
         (world_with (turned state (turn_after turn 1 clock)) cache' boxes' log')
     unfolding active_step_by
     op_runs op clock cache' boxes' log' is did =
         runs_one places plan scripts turn.quota (world_with state cache boxes log) _ not_ended
-        (step_chosen (Fetch op) is
+        (step_chosen (Some op) is
         ∙ ap (λ (d : ℕ). op_step_by access_of (places d) plan d op (world_with state cache boxes log))
         (ap (window_owner plan) here.stands.windows_is ∙ here.owner_is)
         ∙ sym (op_step_view (places turn.owner) plan turn.owner op (world_with state cache boxes log))
@@ -109,7 +107,7 @@ module _ (plan : Plan) (scripts rights masks : List ℕ) (state : State) (turn :
         ∙ sym (did.world state here.stands))
 
 -- some ops of a window are done: as many steps lead to the state that they left, and the turn is that state's
-abbrev pub Done : (ℕ → Place) → Plan → List ℕ → List ℕ → List ℕ → ℕ → ℕ → Turn → World → State → List ℕ → List ℕ → List ℕ → Type 0
+abbrev pub Done : (ℕ → Option ℕ) → Plan → List ℕ → List ℕ → List ℕ → ℕ → ℕ → Turn → World → State → List ℕ → List ℕ → List ℕ → Type 0
 Done places plan scripts rights masks quota steps turn before state cache boxes log =
     RunsTo places plan scripts quota steps before (world_with state cache boxes log) × InTurn plan rights masks state turn
 
@@ -140,7 +138,7 @@ after_more turn ops clock clock' =
 
 -- what holds each time the loop comes round
 pub record Turning
-    (rights masks scripts : List ℕ) (most : ℕ) (place : Place) (first : Turn)
+    (rights masks scripts : List ℕ) (most : ℕ) (place : Option ℕ) (first : Turn)
     (cache₀ boxes₀ log₀ cache boxes log : List ℕ) (steps clock : ℕ) : Type 0 where
   pub within : steps ≤ most
   pub late : clock ≤ first.end + (dearest_op - 1)
@@ -148,7 +146,7 @@ pub record Turning
   pub boxes_long : length boxes ≡ length boxes₀
   pub log_long : length log ≡ length log₀
   pub done :
-      (places : ℕ → Place) (plan : Plan) (state : State)
+      (places : ℕ → Option ℕ) (plan : Plan) (state : State)
       → places first.owner ≡ place
       → InTurn plan rights masks state first
       → Done places plan scripts rights masks first.quota steps (turn_after first steps clock)
@@ -156,7 +154,7 @@ pub record Turning
       (turned state (turn_after first steps clock)) cache boxes log
 
 module _
-    (rights masks scripts : List ℕ) (most : ℕ) (place : Place) (first : Turn) (cache₀ boxes₀ log₀ : List ℕ) where
+    (rights masks scripts : List ℕ) (most : ℕ) (place : Option ℕ) (first : Turn) (cache₀ boxes₀ log₀ : List ℕ) where
   -- before the first op
   pub turn_first : first.clock ≤ first.end + (dearest_op - 1)
       → Turning rights masks scripts most place first cache₀ boxes₀ log₀ cache₀ boxes₀ log₀
@@ -193,7 +191,7 @@ module _
     pub turn_more :
         (op : Op) (clock' : ℕ) (cache' boxes' log' : List ℕ)
         → steps < most
-        → Fetch op ≡ next_step_of scripts turn
+        → Some op ≡ next_step_of scripts turn
         → OpRan place (view_of rights masks) op turn clock' cache boxes log cache' boxes' log'
         → length cache' ≡ length cache
         → length boxes' ≡ length boxes
@@ -230,8 +228,8 @@ module _
 
     -- a switch is next
     pub turn_ends :
-        End ≡ next_step_of scripts turn
-        → (places : ℕ → Place) (plan : Plan) (state : State)
+        None ≡ next_step_of scripts turn
+        → (places : ℕ → Option ℕ) (plan : Plan) (state : State)
         → places first.owner ≡ place
         → InTurn plan rights masks state first
         → step_by access_of places plan scripts first.quota (world_with (turned state turn) cache boxes log)

@@ -1,16 +1,13 @@
 -- Document 01, "Window, switch, run", and document 02, E8: one step, n steps, a run under a limit.
 -- The step is defined once, over the access that a board makes and where each domain's records go.
 -- Assumes nothing.
-use Rattle.std.specs.Prelude.{ℕ, zero, suc, ◌+◌, Bool, true, false, cond, ◌||◌, List, leb, set}
+use Rattle.std.specs.Prelude.{ℕ, zero, suc, ◌+◌, Bool, true, false, cond, ◌||◌, List, leb, set, Option, Some, None}
 use Rattle.plan.specs.declared.Plan.{Plan}
 use Rattle.plan.specs.Windows.{window_end}
 use Rattle.script.specs.declared.Op.{Op}
-use Rattle.script.specs.declared.ScriptItem.{ScriptItem}
-use Rattle.script.specs.declared.ScriptItem.TheVariants.{Op as Fetch, End}
 use Rattle.script.specs.Fetch.{fetch_of}
 use Rattle.cache.specs.Access.{AccessOutcome, access_of}
 use Rattle.records.specs.declared.Keep.{Keep}
-use Rattle.records.specs.declared.Place.{Place}
 use Rattle.records.specs.Records.{in_parts, places_of, stored_at}
 use Rattle.ops.specs.Ops.{Effect, effect_by}
 use Rattle.state.specs.declared.State.{State}
@@ -35,13 +32,13 @@ turn_of plan quota state =
     }
 
 -- what stands next in its script
-abbrev pub next_item : List ℕ → Turn → ScriptItem
+abbrev pub next_item : List ℕ → Turn → Option Op
 next_item scripts turn = fetch_of scripts turn.owner turn.position
 
 -- the script has ended
-abbrev pub is_end : ScriptItem → Bool
-is_end (Fetch op) = false
-is_end End = true
+abbrev pub is_end : Option Op → Bool
+is_end (Some op) = false
+is_end None = true
 
 -- a switch is due: the clock has reached the window's end, or the script has ended, or the domain's
 -- log is full
@@ -51,8 +48,8 @@ switch_due scripts turn =
 
 -- the next step in a window: where no switch is due, the op that stands next in the script; `End`
 -- is the switch
-unfoldable pub next_step_of : List ℕ → Turn → ScriptItem
-next_step_of scripts turn = cond (switch_due scripts turn) End (next_item scripts turn)
+unfoldable pub next_step_of : List ℕ → Turn → Option Op
+next_step_of scripts turn = cond (switch_due scripts turn) None (next_item scripts turn)
 
 -- ---- what a step leaves
 
@@ -69,7 +66,7 @@ one_more ran = record { done = ran.done + 1; world = ran.world }
 -- clock after the op, and the effect's cache table and boxes. The record goes where the domain's
 -- records go; it is counted also where that is nowhere. What the op's accesses put out is no part
 -- of a world.
-abbrev pub after_effect : Place → ℕ → Effect → World → World
+abbrev pub after_effect : Option ℕ → ℕ → Effect → World → World
 after_effect place domain effect world =
     let clock = world.state.clock + effect.ticks in
     let count = records_at world.state domain in
@@ -89,18 +86,18 @@ after_effect place domain effect world =
 -- over the access that a board makes, by an op and by a switch's touch
 module _ (access : Bool → ℕ → List ℕ → AccessOutcome) where
   -- one op of a domain, whose records go to a place
-  unfoldable pub op_step_by : Place → Plan → ℕ → Op → World → World
+  unfoldable pub op_step_by : Option ℕ → Plan → ℕ → Op → World → World
   op_step_by place plan domain op world =
       after_effect place domain (effect_by access plan domain op world.cache world.boxes) world
 
   -- and over where each domain's records go
-  module _ (places : ℕ → Place) where
+  module _ (places : ℕ → Option ℕ) where
     -- what the next step in a window leaves
-    unfoldable pub active_step_by : Plan → ScriptItem → World → World
-    active_step_by plan (Fetch op) world =
+    unfoldable pub active_step_by : Plan → Option Op → World → World
+    active_step_by plan (Some op) world =
         let domain = running_of plan world.state in
         op_step_by (places domain) plan domain op world
-    active_step_by plan End world = switch_by access plan world
+    active_step_by plan None world = switch_by access plan world
 
     -- one step; an ended run stays as it is
     unfoldable pub step_by : Plan → List ℕ → ℕ → World → World
@@ -135,7 +132,7 @@ run_keeping keep plan scripts quota = run_by access_of (places_of keep quota) pl
 abbrev pub op_step_of : Plan → ℕ → ℕ → Op → World → World
 op_step_of plan quota domain = op_step_by access_of (in_parts quota domain) plan domain
 
-abbrev pub active_step : Plan → ℕ → ScriptItem → World → World
+abbrev pub active_step : Plan → ℕ → Option Op → World → World
 active_step plan quota = active_step_by access_of (in_parts quota) plan
 
 abbrev pub step_of : Plan → List ℕ → ℕ → World → World

@@ -1,13 +1,12 @@
 -- Document 01, "Window, switch, run": what the code of a run is handed of a plan and a world, and what it answers beside the buffers.
 -- Assumes nothing.
-use Rattle.std.specs.Prelude.{ℕ, ◌+◌, ◌-◌, ◌^◌, ◌≤◌, ◌<◌, min, ◌≡◌, List, length, set}
+use Rattle.std.specs.Prelude.{ℕ, ◌+◌, ◌-◌, ◌^◌, ◌≤◌, ◌<◌, min, ◌≡◌, List, length, set, Option}
 use Rattle.plan.specs.declared.Plan.{Plan}
 use Rattle.plan.specs.Limits.{dearest_op}
 use Rattle.plan.specs.Windows.{window_end, window_owner, windows_total}
 use Rattle.script.specs.declared.Op.{Op}
 use Rattle.script.specs.Limits.{most_ops}
 use Rattle.cache.specs.Access.{access_of}
-use Rattle.records.specs.declared.Place.{Place}
 use Rattle.state.specs.declared.State.{State}
 use Rattle.state.specs.World.{World, position_at, records_at}
 use Rattle.machine.specs.declared.Turn.{Turn}
@@ -28,7 +27,7 @@ abbrev pub ran_with : ℕ → World → RunEffect
 ran_with steps world = record { done = steps; world = world }
 
 -- n steps lead from one world to another, all of them before the run's end
-abbrev pub RunsTo : (ℕ → Place) → Plan → List ℕ → ℕ → ℕ → World → World → Type 0
+abbrev pub RunsTo : (ℕ → Option ℕ) → Plan → List ℕ → ℕ → ℕ → World → World → Type 0
 RunsTo places plan scripts quota steps before after =
     ran_with steps after ≡ run_by access_of places plan scripts quota steps before
 
@@ -84,7 +83,7 @@ pub record Stands (state : State) (turn : Turn) : Type 0 where
 
 -- what an op leaves, with the clock after it
 pub record OpRan
-    (place : Place) (view : Plan) (op : Op) (turn : Turn) (clock : ℕ)
+    (place : Option ℕ) (view : Plan) (op : Op) (turn : Turn) (clock : ℕ)
     (cache boxes log cache' boxes' log' : List ℕ) : Type 0 where
   pub ticks : clock ≤ turn.clock + dearest_op
   pub world :
@@ -104,7 +103,7 @@ pub record InTurn (plan : Plan) (rights masks : List ℕ) (state : State) (turn 
 
 -- what the ops of a window leave: as many steps lead there, and where they are fewer than the limit a switch is next
 pub record WindowRan
-    (places : ℕ → Place) (plan : Plan) (scripts : List ℕ) (quota limit steps : ℕ)
+    (places : ℕ → Option ℕ) (plan : Plan) (scripts : List ℕ) (quota limit steps : ℕ)
     (before after : World) : Type 0 where
   pub ran : RunsTo places plan scripts quota steps before after
   pub due : steps < limit → step_by access_of places plan scripts quota after ≡ switch_of plan after

@@ -1,4 +1,5 @@
 -- What the code of an op answers and leaves is the op's effect: a law for each way through it. Assumes nothing.
+use Rattle.std.specs.Prelude.{Option, None}
 use mathlib.Core.Path.{◌≡◌, refl}
 use mathlib.Core.Bool.{Bool, true, false, cond, false≢true}
 use mathlib.Core.List.{List}
@@ -13,8 +14,6 @@ use Rattle.plan.specs.Limits.{most_domains}
 use Rattle.script.specs.Limits.{OpWithinLimits}
 use Rattle.script.specs.declared.Op.TheVariants.{Receive, Send}
 use Rattle.cache.specs.declared.AccessKind.{AccessKind}
-use Rattle.cache.specs.declared.WriteBack.{WriteBack}
-use Rattle.cache.specs.declared.WriteBack.TheVariants.{Nothing}
 use Rattle.cache.specs.Access.{access_of}
 use Rattle.cache.specs.Lines.{colour_of, most_line, set_count}
 use Rattle.cache.proofs.Ticks.{access_ticks, most_access_ticks}
@@ -38,20 +37,20 @@ owned plan domain line owns = go (ltb most_line line) refl owns
 module _ (plan : Plan) (domain : ℕ) (writes : Bool) (line : ℕ) (cache boxes : List ℕ) where
   pub touch_barred :
       owns_line plan domain line ≡ false
-      → effect_with (record { ticks = barred_ticks; seen = Barred line; first = Nothing; second = Nothing }) cache boxes
+      → effect_with (record { ticks = barred_ticks; seen = Barred line; first = None; second = None }) cache boxes
       ≡ touch_of plan domain writes line cache boxes
   unfolding touch_by
   touch_barred lacks = rw lacks refl
 
   pub touch_access :
-      (ticks : ℕ) (found : AccessKind) (seen : Observation) (first : WriteBack) (table : List ℕ)
+      (ticks : ℕ) (found : AccessKind) (seen : Observation) (first : Option ℕ) (table : List ℕ)
       → owns_line plan domain line ≡ true
       → ticks ≡ (access_of writes line cache).ticks
       → found ≡ (access_of writes line cache).found
       → seen ≡ access_observation found line
       → first ≡ (access_of writes line cache).back
       → table ≡ (access_of writes line cache).table
-      → effect_with (record { ticks = ticks; seen = seen; first = first; second = Nothing }) table boxes
+      → effect_with (record { ticks = ticks; seen = seen; first = first; second = None }) table boxes
       ≡ touch_of plan domain writes line cache boxes
   unfolding touch_by
   touch_access ticks found seen first table owns t f s o b = rw (owns, t, s, f, o, b) refl
@@ -59,19 +58,19 @@ module _ (plan : Plan) (domain : ℕ) (writes : Bool) (line : ℕ) (cache boxes 
 -- a send or a receive: refused by the rights, or passed on. The code has the rights and the box's index in hand.
 module _
     (plan : Plan) (sender recipient : ℕ) (denied passed : Observation) (number : ℕ) (cache boxes rights : List ℕ)
-    (handed : plan.rights ≡ rights) (entered : ℕ) (first : WriteBack) (table : List ℕ)
+    (handed : plan.rights ≡ rights) (entered : ℕ) (first : Option ℕ) (table : List ℕ)
     (e : entered ≡ (access_of false kernel_entry_line cache).ticks)
     (f : first ≡ (access_of false kernel_entry_line cache).back)
     (t : table ≡ (access_of false kernel_entry_line cache).table) where
   pub message_denied :
       has_bit (get_or rights sender 0) recipient ≡ false
-      → effect_with (record { ticks = message_ticks + entered; seen = denied; first = first; second = Nothing }) table boxes
+      → effect_with (record { ticks = message_ticks + entered; seen = denied; first = first; second = None }) table boxes
       ≡ message_of plan sender recipient denied passed number cache boxes
   unfolding message_by
   message_denied lacks = rw (handed, lacks, e, f, t) refl
 
   pub message_passed :
-      (reached index : ℕ) (second : WriteBack) (last : List ℕ)
+      (reached index : ℕ) (second : Option ℕ) (last : List ℕ)
       → has_bit (get_or rights sender 0) recipient ≡ true
       → index ≡ box_index sender recipient
       → reached ≡ (access_of true (first_box_line + set_count * index) table).ticks

@@ -1,6 +1,6 @@
 -- Document 01, "What an op costs", and document 02, E7: the five ops, with their ticks, records,
 -- caches and boxes. Assumes nothing.
-use Rattle.std.specs.Prelude.{ℕ, ◌+◌, ◌*◌, ◌-◌, Bool, true, false, cond, List, eqb, ltb, get_or, replicate, set}
+use Rattle.std.specs.Prelude.{ℕ, ◌+◌, ◌*◌, ◌-◌, Bool, true, false, cond, List, eqb, ltb, get_or, replicate, set, Option, None}
 use Rattle.plan.specs.declared.Plan.{Plan}
 use Rattle.plan.specs.Limits.{most_domains}
 use Rattle.plan.specs.Colours.{owns_colour}
@@ -10,8 +10,6 @@ use Rattle.script.specs.declared.Op.TheVariants.{Read, Write, Send, Receive, Com
 use Rattle.cache.specs.declared.AccessKind.{AccessKind}
 use Rattle.cache.specs.declared.AccessKind.TheVariants.{Hit1 as AtL1, Hit2 as AtL2}
 use Rattle.cache.specs.declared.AccessKind.TheVariants.{Miss as Nowhere}
-use Rattle.cache.specs.declared.WriteBack.{WriteBack}
-use Rattle.cache.specs.declared.WriteBack.TheVariants.{Nothing}
 use Rattle.cache.specs.Lines.{colour_of, most_line, set_count}
 use Rattle.cache.specs.Access.{AccessOutcome, access_of}
 use Rattle.records.specs.declared.Observation.{Observation}
@@ -24,8 +22,8 @@ use Rattle.records.specs.declared.Observation.TheVariants.{Denied, Ran, Barred}
 pub record Effect : Type 0 where
   pub ticks : ℕ
   pub seen : Observation
-  pub first : WriteBack
-  pub second : WriteBack
+  pub first : Option ℕ
+  pub second : Option ℕ
   pub cache : List ℕ
   pub boxes : List ℕ
 
@@ -85,8 +83,8 @@ compute_of ticks cache boxes =
     record {
       ticks = ticks;
       seen = Ran ticks;
-      first = Nothing;
-      second = Nothing;
+      first = None;
+      second = None;
       cache = cache;
       boxes = boxes;
     }
@@ -103,15 +101,15 @@ module _ (access : Bool → ℕ → List ℕ → AccessOutcome) where
         ticks = made.ticks;
         seen = access_observation made.found line;
         first = made.back;
-        second = Nothing;
+        second = None;
         cache = made.table;
         boxes = boxes;
       })
       (record {
         ticks = barred_ticks;
         seen = Barred line;
-        first = Nothing;
-        second = Nothing;
+        first = None;
+        second = None;
         cache = cache;
         boxes = boxes;
       })
@@ -136,7 +134,7 @@ module _ (access : Bool → ℕ → List ℕ → AccessOutcome) where
         ticks = message_ticks + entry.ticks;
         seen = denied;
         first = entry.back;
-        second = Nothing;
+        second = None;
         cache = entry.table;
         boxes = boxes;
       })

@@ -6,10 +6,10 @@ use lib.ListN.{length}
 use lib.Seq.{sets}
 use borrow.Author.Tests.{eq-eqb, ne_eqb}
 use Rattle.refusal.specs.declared.Code.{Code}
-use Rattle.refusal.specs.declared.Verdict.{Verdict}
 use Rattle.refusal.specs.Code.{code_of}
 use Rattle.pirkvezo.specs.Answers.{answer_length, answer_numbers, answer_of}
 use Rattle.pirkvezo.proofs.Runs.{whole_stored}
+use Rattle.refusal.specs.Verdict.{Verdict}
 
 module _ (answer : List ℕ) (verdict : Verdict) (third fourth : ℕ) where
   -- an answer of four places is written

@@ -13,7 +13,6 @@ use Rattle.plan.specs.Validity.{plan_valid}
 use Rattle.state.specs.declared.State.{State}
 use Rattle.state.specs.World.{World}
 use Rattle.machine.specs.View.{world_with}
-use Rattle.refusal.specs.declared.Verdict.{Verdict}
 use Rattle.reader.specs.Read.{read_of}
 use Rattle.engine.specs.declared.Ending.{Ending}
 use Rattle.engine.specs.Answers.{answered, fresh_with as engine_fresh}
@@ -32,6 +31,7 @@ use Rattle.pirkvezo.specs.Running.{RunCall, host_run, host_run_by, host_run_with
 use Rattle.pirkvezo.specs.Keeping.{host_run_kept}
 use Rattle.pirkvezo.specs.Starting.{fresh_done, host_fresh_with, host_fresh_start}
 use Rattle.pirkvezo.proofs.Judged.{fresh_alike, handed, query_alike}
+use Rattle.refusal.specs.Verdict.{Verdict}
 
 -- the number that is returned, and the answer that is written
 pub record Told (verdict : Verdict) (third fourth : ℕ) (answer : List ℕ) (number : ℕ) (written : List ℕ) : Type 0 where

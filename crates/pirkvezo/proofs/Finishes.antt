@@ -1,11 +1,10 @@
 -- What a call for a latest finish leaves, from what its parts give. Assumes nothing.
+use Rattle.std.specs.Prelude.{Ok, Err}
 use mathlib.Core.Path.{◌≡◌, refl, ap, ◌∙◌}
 use mathlib.Core.Bool.{Bool, true, false}
 use mathlib.Core.List.{List}
 use Prim.Native.Nat.{ℕ}
 use Rattle.plan.specs.declared.Plan.{Plan}
-use Rattle.refusal.specs.declared.Verdict.{Verdict}
-use Rattle.refusal.specs.declared.Verdict.TheVariants.{Accepted, Refused}
 use Rattle.latest.specs.declared.LatestAnswer.{LatestAnswer}
 use Rattle.latest.specs.Answer.{LatestOutcome, latest_from, latest_of, latest_verdict, latest_with}
 use Rattle.latest.proofs.Answers.{impossible_alike}
@@ -15,6 +14,7 @@ use Rattle.pirkvezo.specs.Numbers.{handed_plan, plan_of}
 use Rattle.pirkvezo.specs.Theorems.{RefusedLatestKeeps}
 use Rattle.pirkvezo.proofs.Calls.{Told}
 use Rattle.pirkvezo.proofs.Judged.{handed}
+use Rattle.refusal.specs.Verdict.{Verdict}
 
 module _ (plan : List ℕ) (domain : ℕ) (script answer : List ℕ) (number : ℕ) (told : List ℕ) where
   pub latest_unfit :
@@ -46,8 +46,8 @@ latest_judged :
     → ((latest_done (latest_from verdict plan domain script) answer).number ≡ 0 → ⊥)
     → (latest_done (latest_from verdict plan domain script) answer).script ≡ script
 unfolding latest_done
-latest_judged plan domain script answer Accepted refused = absurd (refused refl)
-latest_judged plan domain script answer (Refused refusal) refused = refl
+latest_judged plan domain script answer (Ok tt) refused = absurd (refused refl)
+latest_judged plan domain script answer (Err refusal) refused = refl
 
 pub latest_kept : RefusedLatestKeeps
 unfolding host_latest latest_of

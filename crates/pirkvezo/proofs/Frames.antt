@@ -1,4 +1,5 @@
 -- What a call for a frame leaves, from what its parts give. Assumes nothing.
+use Rattle.std.specs.Prelude.{Ok, Err}
 use mathlib.Core.Path.{◌≡◌, refl, sym, ap, subst, ◌∙◌}
 use mathlib.Core.Bool.{Bool, true, false, and-eq-true_iff}
 use mathlib.Core.List.{List}
@@ -17,7 +18,6 @@ use Rattle.frame.proofs.Promises.{frames_by_weights}
 use Rattle.frame.proofs.Taken.{limits_valid, valid_limits}
 use Rattle.plan.specs.Limits.{most_domains, most_windows}
 use Rattle.refusal.specs.declared.Refusal.TheVariants.{FrameOutOfLimits}
-use Rattle.refusal.specs.declared.Verdict.TheVariants.{Accepted, Refused}
 use Rattle.pirkvezo.specs.Answers.{answer_length, answer_of, wrong_length}
 use Rattle.pirkvezo.specs.Framing.{FrameCall, frame_done, frame_fits, host_frame, host_frame_with}
 use Rattle.pirkvezo.specs.Numbers.{numbers_from}
@@ -84,13 +84,13 @@ module _ (count : ℕ) (weights frame answer : List ℕ) where
   -- the maker's two answers
   refused_call : frame_fits weights frame answer ≡ true → inputs_valid count weights ≡ false
       → host_frame count weights frame answer
-      ≡ host_frame_with 15 (replicate most_windows 0) (answer_of (Refused FrameOutOfLimits) 0 0 answer)
+      ≡ host_frame_with 15 (replicate most_windows 0) (answer_of (Err FrameOutOfLimits) 0 0 answer)
   unfolding frame_done
   refused_call fit invalid =
       fit_call fit ∙ ap (λ (made : FrameAnswer). frame_done made answer) (sym (made_refused count weights invalid))
 
   made_call : frame_fits weights frame answer ≡ true → inputs_valid count weights ≡ true
-      → host_frame count weights frame answer ≡ host_frame_with 0 (frame_of count weights) (answer_of Accepted 0 0 answer)
+      → host_frame count weights frame answer ≡ host_frame_with 0 (frame_of count weights) (answer_of (Ok tt) 0 0 answer)
   unfolding frame_done
   made_call fit valid = fit_call fit ∙ ap (λ (made : FrameAnswer). frame_done made answer) (made_valid count weights valid)
 

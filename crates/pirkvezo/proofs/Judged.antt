@@ -1,6 +1,7 @@
 -- A mask of more than 16 bits makes a plan impossible, and one impossible plan is judged as
 -- another: so the plan that is handed on is judged as
 -- the lent numbers are. Assumes nothing.
+use Rattle.std.specs.Prelude.{Err}
 use mathlib.Core.Path.{◌≡◌, refl, sym, ◌∙◌}
 use mathlib.Core.Bool.{Bool, true, false, cond, false≢true, ◌&&◌}
 use mathlib.Core.List.{List}
@@ -18,7 +19,6 @@ use Rattle.state.specs.World.{World}
 use Rattle.plan.specs.Zeros.{no_plan}
 use Rattle.machine.specs.Steps.{RunEffect, run_keeping}
 use Rattle.refusal.specs.declared.Refusal.TheVariants.{ImpossiblePlan, WrongLength}
-use Rattle.refusal.specs.declared.Verdict.TheVariants.{Refused}
 use Rattle.refusal.specs.Checks.{unless}
 use Rattle.engine.specs.FreshStart.{fresh_start_of}
 use Rattle.engine.specs.Checks.{fresh_verdict, lent_verdict, tables_fit}
@@ -93,8 +93,8 @@ lent_alike lent scripts world limit one other impossible impossible' =
     done plan = run_keeping (keep_of lent) plan scripts (quota_of lent plan (length world.log)) limit world
 
     go : (long fit : Bool)
-        → outcome_from (unless long WrongLength (unless fit WrongLength (Refused ImpossiblePlan))) one (done one) world
-        ≡ outcome_from (unless long WrongLength (unless fit WrongLength (Refused ImpossiblePlan))) other (done other) world
+        → outcome_from (unless long WrongLength (unless fit WrongLength (Err ImpossiblePlan))) one (done one) world
+        ≡ outcome_from (unless long WrongLength (unless fit WrongLength (Err ImpossiblePlan))) other (done other) world
     go false fit = refl
     go true false = refl
     go true true = refl

@@ -1,4 +1,5 @@
 -- A refused call leaves state, cache table, boxes and log as they were lent. Assumes nothing.
+use Rattle.std.specs.Prelude.{Ok, Err}
 use mathlib.Core.Path.{◌≡◌, refl, ap, ◌∙◌}
 use mathlib.Core.Bool.{Bool, true, false}
 use mathlib.Core.List.{List}
@@ -8,8 +9,6 @@ use Rattle.plan.specs.declared.Plan.{Plan}
 use Rattle.state.specs.World.{World}
 use Rattle.machine.specs.Steps.{RunEffect}
 use Rattle.machine.specs.View.{world_with}
-use Rattle.refusal.specs.declared.Verdict.{Verdict}
-use Rattle.refusal.specs.declared.Verdict.TheVariants.{Accepted, Refused}
 use Rattle.engine.specs.Checks.{fresh_verdict, kept_verdict, run_verdict}
 use Rattle.engine.specs.FreshStart.{fresh_from, fresh_start_of}
 use Rattle.engine.specs.Keeping.{kept_call_of}
@@ -22,6 +21,7 @@ use Rattle.pirkvezo.specs.Starting.{FreshCall, fresh_done, host_fresh_with, host
 use Rattle.pirkvezo.specs.Theorems.{FreshKept, RefusedFreshKeeps, RefusedKeptRunKeeps, RefusedRunKeeps, RunKept}
 use Rattle.pirkvezo.proofs.Calls.{lengths}
 use Rattle.pirkvezo.proofs.Whole.{state_kept}
+use Rattle.refusal.specs.Verdict.{Verdict}
 
 -- ---- a fresh start
 
@@ -31,8 +31,8 @@ fresh_judged :
     → ((fresh_done (fresh_from verdict (state_of state) cache boxes) answer).number ≡ 0 → ⊥)
     → FreshKept state cache boxes (fresh_done (fresh_from verdict (state_of state) cache boxes) answer)
 unfolding fresh_done
-fresh_judged state cache boxes answer Accepted long refused = absurd (refused refl)
-fresh_judged state cache boxes answer (Refused refusal) long refused = record { state_is = state_kept state long; cache_is = refl; boxes_are = refl }
+fresh_judged state cache boxes answer (Ok tt) long refused = absurd (refused refl)
+fresh_judged state cache boxes answer (Err refusal) long refused = record { state_is = state_kept state long; cache_is = refl; boxes_are = refl }
 
 pub fresh_kept : RefusedFreshKeeps
 unfolding host_fresh_start fresh_start_of
@@ -65,8 +65,8 @@ outcome_keeps : (verdict : Verdict) (plan : Plan) (ran : RunEffect) (world : Wor
     → (verdict_number (outcome_from verdict plan ran world).verdict ≡ 0 → ⊥)
     → (outcome_from verdict plan ran world).world ≡ world
 unfolding ran_from
-outcome_keeps Accepted plan ran world refused = absurd (refused refl)
-outcome_keeps (Refused refusal) plan ran world refused = refl
+outcome_keeps (Ok tt) plan ran world refused = absurd (refused refl)
+outcome_keeps (Err refusal) plan ran world refused = refl
 
 module _ (run : Plan → World → RunOutcome) (keeps : Keeps run) (plan state cache boxes log answer : List ℕ) where
   run_keeps :

@@ -1,4 +1,5 @@
 -- What a log query answers, refused or not, and that the bytes it points at are the log. Assumes nothing.
+use Rattle.std.specs.Prelude.{Ok, Err}
 use mathlib.Core.Path.{◌≡◌, refl, ap}
 use mathlib.Core.List.{List}
 use Prim.Native.Nat.{ℕ, ◌+◌, ◌*◌, ◌≤◌}
@@ -12,14 +13,13 @@ use Rattle.records.specs.Records.{log_part, part_records}
 use Rattle.state.specs.declared.State.{State}
 use Rattle.state.specs.World.{records_at}
 use Rattle.refusal.specs.declared.Refusal.{Refusal}
-use Rattle.refusal.specs.declared.Verdict.{Verdict}
-use Rattle.refusal.specs.declared.Verdict.TheVariants.{Accepted, Refused}
 use Rattle.engine.specs.LogQuery.{log_query_of, log_from, log_status_of}
 use Rattle.engine.specs.Checks.{log_verdict}
 use Rattle.engine.proofs.Verdicts.{log_accepted, log_within}
 use Rattle.pirkvezo.specs.declared.LogAnswer.{LogAnswer}
 use Rattle.pirkvezo.specs.LogQuery.{log_answer_of, log_offset}
 use Rattle.pirkvezo.specs.Theorems.{QueryPointsAtLog}
+use Rattle.refusal.specs.Verdict.{Verdict}
 
 module _ (plan : Plan) (state : State) (log : List ℕ) (domain : ℕ) where
   abbrev answered : Verdict → LogAnswer
@@ -32,25 +32,25 @@ module _ (plan : Plan) (state : State) (log : List ℕ) (domain : ℕ) where
 
   pub query_refused :
       (refusal : Refusal)
-      → Refused refusal ≡ log_verdict plan state log domain
-      → answered (Refused refusal) ≡ log_answer_of plan state log domain
+      → Err refusal ≡ log_verdict plan state log domain
+      → answered (Err refusal) ≡ log_answer_of plan state log domain
   unfolding log_answer_of log_status_of log_query_of
   query_refused refusal refused = ap answered refused
 
   -- a query that is not refused: where the domain's part of the log begins, and the length of its records so far
   pub query_accepted :
       (quota : ℕ) (found : List ℕ)
-      → Accepted ≡ log_verdict plan state log domain
+      → (Ok tt) ≡ log_verdict plan state log domain
       → quota ≡ part_records plan (length log)
       → found ≡ log_query_of plan state log domain
-      → record { verdict = Accepted; offset = 8 * (quota * domain); length = length found } ≡ log_answer_of plan state log domain
+      → record { verdict = Ok tt; offset = 8 * (quota * domain); length = length found } ≡ log_answer_of plan state log domain
   unfolding log_answer_of log_status_of log_query_of
   query_accepted quota found granted parts finds =
       rw (parts, finds, ← granted, add-zero (part_records plan (length log) * domain)) refl
 
   -- that offset lies within the log
   pub offset_within :
-      log_verdict plan state log domain ≡ Accepted
+      log_verdict plan state log domain ≡ Ok tt
       → 8 * (part_records plan (length log) * domain) ≤ length log
   offset_within granted = omega (arith, log_within plan state log domain (log_accepted plan state log domain granted))
 
@@ -64,8 +64,8 @@ module _ (plan : Plan) (state : State) (log : List ℕ) (domain : ℕ) where
           → log_verdict plan state log domain ≡ verdict
           → part (log_offset (log_verdict plan state log domain) plan (length log) domain) (length (log_from (log_verdict plan state log domain) plan state log domain)) log
           ≡ log_from (log_verdict plan state log domain) plan state log domain
-      go (Refused refusal) e = rw e refl
-      go Accepted e =
+      go (Err refusal) e = rw e refl
+      go (Ok tt) e =
           let within = log_within plan state log domain (log_accepted plan state log domain e) in
           let quota = part_records plan (length log) in
           rw (e, part_length (8 * (quota * domain + 0)) (8 * records_at state domain) log (omega arith)) refl

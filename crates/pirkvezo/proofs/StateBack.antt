@@ -1,6 +1,7 @@
 -- The state that a host lends to its next call is the state that the last one left: a lent state's
 -- arrays have their lengths, and every step
 -- keeps them. Assumes nothing.
+use Rattle.std.specs.Prelude.{Option, Ok, Err}
 use mathlib.Core.Path.{refl, ◌∙◌}
 use mathlib.Core.List.{List}
 use Prim.Native.Nat.{ℕ}
@@ -8,15 +9,12 @@ use lib.ListN.{length}
 use Rattle.plan.specs.declared.Plan.{Plan}
 use Rattle.cache.specs.Access.{access_of}
 use Rattle.records.specs.declared.Keep.TheVariants.{One}
-use Rattle.records.specs.declared.Place.{Place}
 use Rattle.records.specs.Records.{in_parts, only_of, part_records}
 use Rattle.state.specs.declared.State.{State}
 use Rattle.state.specs.World.{World, fresh_state}
 use Rattle.machine.specs.Steps.{RunEffect, run_keeping, run_of, steps_by}
 use Rattle.machine.specs.View.{world_with}
 use Rattle.machine.proofs.Invariant.{steps_counts}
-use Rattle.refusal.specs.declared.Verdict.{Verdict}
-use Rattle.refusal.specs.declared.Verdict.TheVariants.{Accepted, Refused}
 use Rattle.engine.specs.Checks.{fresh_verdict, kept_verdict, run_verdict}
 use Rattle.engine.specs.FreshStart.{fresh_from, fresh_start_of}
 use Rattle.engine.specs.Keeping.{kept_call_of}
@@ -26,6 +24,7 @@ use Rattle.pirkvezo.specs.Numbers.{plan_of, positions_offset, records_offset, st
 use Rattle.pirkvezo.specs.Theorems.{FreshStateReturns, KeptStateReturns, RunStateReturns}
 use Rattle.pirkvezo.proofs.Runs.{run_length}
 use Rattle.pirkvezo.proofs.Whole.{StateLengths, state_again}
+use Rattle.refusal.specs.Verdict.{Verdict}
 
 lent_long : (numbers : List ℕ) → StateLengths (state_of numbers)
 unfolding state_of
@@ -42,8 +41,8 @@ fresh_long :
     → StateLengths state
     → StateLengths (fresh_from verdict state cache boxes).state
 unfolding fresh_state
-fresh_long Accepted state cache boxes long = record { positions = refl; records = refl }
-fresh_long (Refused refusal) state cache boxes long = long
+fresh_long (Ok tt) state cache boxes long = record { positions = refl; records = refl }
+fresh_long (Err refusal) state cache boxes long = long
 
 pub fresh_back : FreshStateReturns
 unfolding fresh_start_of
@@ -54,7 +53,7 @@ fresh_back plan state cache boxes = state_again _ (fresh_long (fresh_verdict (pl
 abbrev Long : World → Type 0
 Long world = StateLengths world.state
 
-run_long : (places : ℕ → Place) (plan : Plan) (scripts : List ℕ) (quota limit : ℕ) (world : World) → Long world
+run_long : (places : ℕ → Option ℕ) (plan : Plan) (scripts : List ℕ) (quota limit : ℕ) (world : World) → Long world
     → Long (steps_by access_of places plan scripts quota limit world)
 run_long places plan scripts quota limit world long =
     let kept = steps_counts places plan scripts quota limit world in
@@ -63,8 +62,8 @@ run_long places plan scripts quota limit world long =
 call_long : (verdict : Verdict) (plan : Plan) (ran : RunEffect) (world : World) → Long ran.world → Long world
     → Long (outcome_from verdict plan ran world).world
 unfolding ran_from
-call_long Accepted plan ran world did long = did
-call_long (Refused refusal) plan ran world did long = long
+call_long (Ok tt) plan ran world did long = did
+call_long (Err refusal) plan ran world did long = long
 
 pub run_back : RunStateReturns
 unfolding run_call_of

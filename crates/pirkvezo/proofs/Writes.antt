@@ -1,12 +1,11 @@
 -- What a call for a canonical text leaves, from what its parts give. Assumes nothing.
+use Rattle.std.specs.Prelude.{Ok, Err}
 use mathlib.Core.Path.{◌≡◌, refl, ap, ◌∙◌}
 use mathlib.Core.Bool.{Bool, true, false}
 use mathlib.Core.List.{List}
 use Prim.Native.Nat.{ℕ}
 use lib.ListN.{length}
 use Rattle.plan.specs.declared.Plan.{Plan}
-use Rattle.refusal.specs.declared.Verdict.{Verdict}
-use Rattle.refusal.specs.declared.Verdict.TheVariants.{Accepted, Refused}
 use Rattle.writer.specs.Canonical.{canonical_text}
 use Rattle.writer.specs.Write.{WriteOutcome, write_from, write_of, write_verdict, write_with}
 use Rattle.writer.proofs.Answers.{impossible_alike}
@@ -16,6 +15,7 @@ use Rattle.pirkvezo.specs.Theorems.{RefusedWriteKeeps}
 use Rattle.pirkvezo.specs.Writing.{WriteCall, host_write, host_write_with, write_done}
 use Rattle.pirkvezo.proofs.Calls.{Told}
 use Rattle.pirkvezo.proofs.Judged.{handed}
+use Rattle.refusal.specs.Verdict.{Verdict}
 
 module _ (plan scripts out answer : List ℕ) (number : ℕ) (told : List ℕ) where
   pub write_unfit : plan_fits plan answer ≡ false → Told wrong_length 0 0 answer number told → host_write_with number out told ≡ host_write plan scripts out answer
@@ -44,8 +44,8 @@ write_judged :
     → ((write_done (write_from verdict text out) answer).number ≡ 0 → ⊥)
     → (write_done (write_from verdict text out) answer).out ≡ out
 unfolding write_done
-write_judged text out answer Accepted refused = absurd (refused refl)
-write_judged text out answer (Refused refusal) refused = refl
+write_judged text out answer (Ok tt) refused = absurd (refused refl)
+write_judged text out answer (Err refusal) refused = refl
 
 pub write_kept : RefusedWriteKeeps
 unfolding host_write write_of

@@ -1,12 +1,11 @@
 -- The four numbers of an answer: document 01's returned number and companion ("The plan text"), and
 -- two of the call's own; and the check of the lengths of what a host lends. Assumes nothing.
-use Rattle.std.specs.Prelude.{ℕ, Bool, cond, ◌&&◌, List, [], ◌∷◌, eqb, get_or, length}
+use Rattle.std.specs.Prelude.{ℕ, Bool, cond, ◌&&◌, List, [], ◌∷◌, eqb, get_or, length, Err}
 use Rattle.refusal.specs.declared.Code.{Code}
 use Rattle.refusal.specs.declared.Refusal.TheVariants.{WrongLength}
-use Rattle.refusal.specs.declared.Verdict.{Verdict}
-use Rattle.refusal.specs.declared.Verdict.TheVariants.{Refused}
 use Rattle.refusal.specs.Code.{code_of}
 use Rattle.pirkvezo.specs.Numbers.{plan_length, state_length}
+use Rattle.refusal.specs.Verdict.{Verdict}
 
 -- how many numbers an answer is
 abbrev pub answer_length : ℕ
@@ -34,7 +33,7 @@ answer_of verdict third fourth answer =
 
 -- 11: a lent array of another length
 abbrev pub wrong_length : Verdict
-wrong_length = Refused WrongLength
+wrong_length = Err WrongLength
 
 -- the lengths that reading, writing and asking for a step bound or a latest finish ask for, before
 -- all else

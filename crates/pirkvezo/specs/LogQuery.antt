@@ -1,15 +1,14 @@
 -- `pirkvezo_log`: document 01's log query and its status query ("What a domain sees", "The plan
 -- text"), in numbers: what it returns and leaves, for every input. Assumes nothing.
-use Rattle.std.specs.Prelude.{ℕ, true, false, List, length}
+use Rattle.std.specs.Prelude.{ℕ, true, false, List, length, Ok, Err}
 use Rattle.plan.specs.declared.Plan.{Plan}
 use Rattle.records.specs.Records.{part_records, record_index}
 use Rattle.state.specs.declared.State.{State}
-use Rattle.refusal.specs.declared.Verdict.{Verdict}
-use Rattle.refusal.specs.declared.Verdict.TheVariants.{Accepted, Refused}
 use Rattle.engine.specs.LogQuery.{log_query_of, log_status_of}
 use Rattle.pirkvezo.specs.declared.LogAnswer.{LogAnswer}
 use Rattle.pirkvezo.specs.Answers.{all_fit, answer_of, verdict_number, wrong_length}
 use Rattle.pirkvezo.specs.Numbers.{plan_of, state_of}
+use Rattle.refusal.specs.Verdict.{Verdict}
 
 -- the number returned, and the answer after the call
 pub record LogCall : Type 0 where
@@ -22,8 +21,8 @@ host_log_with number answer = record { number = number; answer = answer }
 
 -- where a domain's log begins within the lent log; 0 where the query is refused
 abbrev pub log_offset : Verdict → Plan → ℕ → ℕ → ℕ
-log_offset Accepted plan log_length domain = record_index (part_records plan log_length) domain 0
-log_offset (Refused refusal) plan log_length domain = 0
+log_offset (Ok tt) plan log_length domain = record_index (part_records plan log_length) domain 0
+log_offset (Err refusal) plan log_length domain = 0
 
 -- a query: its verdict, the offset of the log's first byte, and how many bytes the log has
 unfoldable pub log_answer_of : Plan → State → List ℕ → ℕ → LogAnswer

@@ -1,4 +1,5 @@
 -- What an access of a line leaves of a cache table: its L1 numbers, and sound sets. Assumes nothing.
+use Rattle.std.specs.Prelude.{Option, Some, None}
 use Prim.Native.Nat.{ℕ, ◌+◌, ◌≤◌, ◌<◌}
 use mathlib.Core.Bool.{Bool, true, false, cond, ◌||◌}
 use mathlib.Core.List.{List}
@@ -11,8 +12,6 @@ use borrow.Author.Tests.{eqb-false, eqb-true, ltb-false, ltb-true}
 use Rattle.lists.specs.Part.{part, splice}
 use Rattle.lists.proofs.Parts.{part_length, part_same, part_splice, part_stored_before, splice_after, splice_before}
 use Rattle.lists.proofs.Parts.{splice_length}
-use Rattle.cache.specs.declared.WriteBack.{WriteBack}
-use Rattle.cache.specs.declared.WriteBack.TheVariants.{Line, Nothing}
 use Rattle.cache.specs.Access.{access_of, lookup_at, lookup_l1, lookup_l2, lookup_of, seek_of, write_back_at, written_back}
 use Rattle.cache.specs.Lines.{clean_entry, dirty_entry, holds_line, l1_index, l1_length, most_line, set_count, set_index, set_of}
 use Rattle.cache.specs.Lines.{table_length, ways_per_set}
@@ -89,7 +88,7 @@ other_set rewritten ways table long many set there below differs =
 
 -- ---- a line sought in a whole table
 
-module _ (writes : Bool) (line : ℕ) (back : WriteBack) (table : List ℕ) (long : length table ≡ table_length) where
+module _ (writes : Bool) (line : ℕ) (back : Option ℕ) (table : List ℕ) (long : length table ≡ table_length) where
   -- the set's ways before it is sought, and after
   abbrev ways_before : List ℕ
   ways_before = part (set_index (set_of line)) ways_per_set table
@@ -164,7 +163,7 @@ module _ (writes : Bool) (line : ℕ) (back : WriteBack) (table : List ℕ) (lon
 
 -- its set is as it was, with the line in front; every other set is as it was
 pub written_here : (line : ℕ) (table : List ℕ) → length table ≡ table_length
-    → part (set_index (set_of line)) ways_per_set (written_back (Line line) table)
+    → part (set_index (set_of line)) ways_per_set (written_back (Some line) table)
     ≡ move_to_front (clean_entry line) (part (set_index (set_of line)) ways_per_set table)
 unfolding written_back
 written_here line table long =
@@ -172,22 +171,22 @@ written_here line table long =
 
 pub written_elsewhere : (line : ℕ) (table : List ℕ) → length table ≡ table_length
     → (set : ℕ) → set < set_count → (set ≡ set_of line → ⊥)
-    → part (set_index set) ways_per_set (written_back (Line line) table) ≡ part (set_index set) ways_per_set table
+    → part (set_index set) ways_per_set (written_back (Some line) table) ≡ part (set_index set) ways_per_set table
 unfolding written_back
 written_elsewhere line table long set below differs =
     other_set (set_of line) _ table long (used_ways line table long) set (omega arith) below differs
 
 -- sound sets stay sound
-pub written_sets : (back : WriteBack) (table : List ℕ) → length table ≡ table_length
-    → ((line : ℕ) → back ≡ Line line → line ≤ most_line)
+pub written_sets : (back : Option ℕ) (table : List ℕ) → length table ≡ table_length
+    → ((line : ℕ) → back ≡ Some line → line ≤ most_line)
     → ((set : ℕ) → set < set_count → set_valid table set ≡ true)
     → (set : ℕ) → set < set_count → set_valid (written_back back table) set ≡ true
 unfolding set_valid written_back
-written_sets Nothing table long small sound set below = sound set below
-written_sets (Line line) table long small sound set below = go (eqb set (set_of line)) refl
+written_sets None table long small sound set below = sound set below
+written_sets (Some line) table long small sound set below = go (eqb set (set_of line)) refl
   where
     go : (same : Bool) → eqb set (set_of line) ≡ same
-        → ways_valid set (part (set_index set) ways_per_set (written_back (Line line) table)) ≡ true
+        → ways_valid set (part (set_index set) ways_per_set (written_back (Some line) table)) ≡ true
     go true test =
         rw (eqb-true set (set_of line) test, written_here line table long)
         (moved_valid line _ (small line refl) (sound (set_of line) (omega arith)))
@@ -197,7 +196,7 @@ written_sets (Line line) table long small sound set below = go (eqb set (set_of 
 
 module _ (writes : Bool) (line : ℕ) (table : List ℕ) (long : length table ≡ table_length) where
   -- what it puts out, and the table in which its line is sought
-  abbrev out : WriteBack
+  abbrev out : Option ℕ
   out = write_back_at line table
 
   abbrev left : List ℕ
@@ -217,7 +216,7 @@ module _ (writes : Bool) (line : ℕ) (table : List ℕ) (long : length table �
       (subst Holds (sym (written_l1 out table long index below)) kept)
 
   -- sound sets stay sound
-  pub access_sets : line ≤ most_line → ((other : ℕ) → out ≡ Line other → other ≤ most_line)
+  pub access_sets : line ≤ most_line → ((other : ℕ) → out ≡ Some other → other ≤ most_line)
       → ((set : ℕ) → set < set_count → set_valid table set ≡ true)
       → (set : ℕ) → set < set_count → set_valid (access_of writes line table).table set ≡ true
   unfolding access_of

@@ -1,5 +1,6 @@
 -- Where every line of L1 is the most recent of its set, a write-back moves nothing: an access and an op are those of
 -- document 01's own board, and leave every line of L1 in front. Assumes nothing.
+use Rattle.std.specs.Prelude.{Option, Some, None}
 use Prim.Native.Nat.{ℕ, ◌+◌, ◌≤◌, ◌<◌}
 use mathlib.Core.Bool.{Bool, true, false, false≢true, ◌||◌}
 use mathlib.Core.List.{List, [], ◌∷◌}
@@ -18,8 +19,6 @@ use Rattle.plan.specs.Rights.{may_send}
 use Rattle.script.specs.declared.Op.{Op}
 use Rattle.script.specs.declared.Op.TheVariants.{Read, Write, Send, Receive, Compute}
 use Rattle.script.specs.Limits.{OpWithinLimits, last_domain}
-use Rattle.cache.specs.declared.WriteBack.{WriteBack}
-use Rattle.cache.specs.declared.WriteBack.TheVariants.{Line, Nothing}
 use Rattle.cache.specs.Access.{access_of, old_access_of, lookup_at, lookup_l1, lookup_l2, seek_of, write_back_at}
 use Rattle.cache.specs.Access.{written_back}
 use Rattle.cache.specs.Lines.{clean_entry, dirty_entry, dirty_mark, holds_line, l1_index, l1_length, most_line, set_index}
@@ -56,7 +55,7 @@ same_line line other small fits entry is holds = go (eqb entry (clean_entry othe
     go false test held (inr at) = omega (arith, eqb-true entry (dirty_entry other) held)
 
 -- the line that an access puts out stood in L1
-put_out_held : (line other : ℕ) (cache : List ℕ) → write_back_at line cache ≡ Line other → l1_index other ≡ l1_index line
+put_out_held : (line other : ℕ) (cache : List ℕ) → write_back_at line cache ≡ Some other → l1_index other ≡ l1_index line
     → in_l1 other cache ≡ true
 put_out_held line other cache is here =
     let was = back_dirty line other cache is in
@@ -69,7 +68,7 @@ moved_front : (entry : ℕ) (ways : List ℕ) → 0 < length ways → get_or (mo
 moved_front entry [] some = absurd (omega arith)
 moved_front entry (way ∷ ways) some = rw (moved entry way ways) refl
 
-module _ (writes : Bool) (line : ℕ) (back : WriteBack) (table : List ℕ) (long : length table ≡ table_length)
+module _ (writes : Bool) (line : ℕ) (back : Option ℕ) (table : List ℕ) (long : length table ≡ table_length)
     (small : line ≤ most_line) (front : InFront table) where
   abbrev after : List ℕ
   after = (seek_of writes line back table).table
@@ -133,9 +132,9 @@ module _ (plan : Plan) (state : State) (cache : List ℕ) (sound : CacheValid pl
   unfolding written_back
   nothing_moves line = go (write_back_at line cache) refl
     where
-      go : (out : WriteBack) → write_back_at line cache ≡ out → written_back out cache ≡ cache
-      go Nothing is = refl
-      go (Line other) is =
+      go : (out : Option ℕ) → write_back_at line cache ≡ out → written_back out cache ≡ cache
+      go None is = refl
+      go (Some other) is =
           let was = put_out_lem plan state cache sound line other is in
           written_front other cache (front other was.0 (put_out_held line other cache is was.1))
 

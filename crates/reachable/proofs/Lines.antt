@@ -1,5 +1,6 @@
 -- A sound cache table while a domain runs: its length, the lines that L1 may hold, and sound sets. An access of a line
 -- that the domain may have leaves a sound table, and a table of zeros is sound. Assumes nothing.
+use Rattle.std.specs.Prelude.{Some}
 use Prim.Native.Nat.{ℕ, ◌+◌, ◌-◌, ◌≤◌, ◌<◌}
 use mathlib.Core.Bool.{Bool, true, false, cond, not}
 use mathlib.Core.List.{List}
@@ -9,7 +10,6 @@ use lib.Dec.{eqb, leb}
 use lib.ListN.{get_or, length, replicate}
 use borrow.Author.Tests.{eq-eqb, eqb-true, le-leb, leb-true, lt-leb, ltb-true, ne_eqb}
 use Rattle.plan.specs.declared.Plan.{Plan}
-use Rattle.cache.specs.declared.WriteBack.TheVariants.{Line}
 use Rattle.cache.specs.Access.{access_of, dirty_line, write_back_at}
 use Rattle.cache.specs.Lines.{clean_entry, dirty_entry, dirty_mark, is_dirty, l1_index, l1_length, most_line, set_count, set_index}
 use Rattle.cache.specs.Lines.{table_length}
@@ -58,7 +58,7 @@ dirty_line_lem plan state index entry sound dirty =
 -- so a line that an access puts out is one that the running domain may have in L1, and stood at the index of the line
 -- asked for
 pub put_out_lem : (plan : Plan) (state : State) (cache : List ℕ) → CacheValid plan state cache → (line other : ℕ)
-    → write_back_at line cache ≡ Line other
+    → write_back_at line cache ≡ Some other
     → (other ≤ most_line) × (l1_index other ≡ l1_index line) × (line_allowed plan (running_of plan state) other ≡ true)
 put_out_lem plan state cache sound line other out =
     let was = back_dirty line other cache out in

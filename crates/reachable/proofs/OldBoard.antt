@@ -1,5 +1,6 @@
 -- No run from a fresh start shows E7's write-back: along it every line of L1 is in front of its set, so that every step is
 -- document 01's own. Assumes nothing.
+use Rattle.std.specs.Prelude.{Option, Some, None}
 use Prim.Native.Nat.{ℕ, zero, suc, ◌<◌}
 use mathlib.Core.Bool.{Bool, true, false}
 use mathlib.Core.List.{List}
@@ -13,8 +14,6 @@ use Rattle.plan.specs.Windows.{windows_total}
 use Rattle.plan.proofs.Windows.{domains_most, owner_declared}
 use Rattle.script.specs.declared.Op.{Op}
 use Rattle.script.specs.Limits.{OpWithinLimits}
-use Rattle.script.specs.declared.ScriptItem.{ScriptItem}
-use Rattle.script.specs.declared.ScriptItem.TheVariants.{Op as Fetch, End}
 use Rattle.cache.specs.Lines.{table_length}
 use Rattle.cache.specs.Access.{old_access_of}
 use Rattle.records.specs.Records.{in_parts, part_records}
@@ -91,12 +90,12 @@ module _ (plan : Plan) (scripts : List ℕ) (quota log_length : ℕ) (possible :
 
   -- ---- the two boards
 
-  same_active : (world : World) → Fronted world → ended_of plan world.state ≡ false → (next : ScriptItem)
+  same_active : (world : World) → Fronted world → ended_of plan world.state ≡ false → (next : Option Op)
       → next_step_of scripts (turn_of plan quota world.state) ≡ next
       → active_step plan quota next world ≡ active_step_by old_access_of (in_parts quota) plan next world
   unfolding active_step_by op_step_by
-  same_active world f running End is = sym (switch_alike plan world)
-  same_active world f running (Fetch op) is =
+  same_active world f running None is = sym (switch_alike plan world)
+  same_active world f running (Some op) is =
       let next = op_next scripts _ op is in
       let begins : Begins plan scripts quota world op =
       record { in_a_window = in_window plan world.state running; in_time = next.in_time; room = next.room; next = next.next } in

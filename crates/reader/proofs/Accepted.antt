@@ -1,5 +1,6 @@
 -- Every accepted plan passes plan validity (12): what is known of the lines that were read, and of a draft that passes the last
 -- checks, is what it asks. Assumes nothing.
+use Rattle.std.specs.Prelude.{Ok, Err}
 use Prim.Native.Nat.{ℕ, ◌+◌, ◌-◌, ◌^◌, ◌≤◌, ◌<◌}
 use native.Mathlib.Omega.{arith}
 use mathlib.Core.Bool.{Bool, true, cond, not, ◌&&◌, ◌||◌, and-eq-true_iff}
@@ -21,8 +22,6 @@ use Rattle.plan.specs.Limits.{most_share, most_text_bytes, most_windows}
 use Rattle.script.specs.Limits.{scripts_length}
 use Rattle.refusal.specs.declared.Refusal.{Refusal}
 use Rattle.refusal.specs.declared.Refusal.TheVariants.{TextTooLong, WrongLength}
-use Rattle.refusal.specs.declared.Verdict.{Verdict}
-use Rattle.refusal.specs.declared.Verdict.TheVariants.{Accepted, Refused}
 use Rattle.syntax.proofs.Choices.{neither}
 use Rattle.lexer.proofs.Reached.{cond_holds}
 use Rattle.refusal.proofs.Passed.{both_passed, not_refused, unless_passed, when_passed}
@@ -33,6 +32,7 @@ use Rattle.reader.proofs.Walking.{lines_good}
 use Rattle.reader.specs.declared.Draft.{Draft}
 use Rattle.reader.specs.Final.{final_verdict, plan_with_masks}
 use Rattle.reader.specs.Read.{ReadOutcome, lines_of, read_of, read_verdict, read_with}
+use Rattle.refusal.specs.Verdict.{Verdict}
 
 -- ---- tests
 
@@ -140,24 +140,24 @@ module _ (draft : Draft) (good : GoodDraft draft) (fine : Passes draft) where
 
 -- what holds of every refusal, and of an acceptance whose checks all passed, holds of a reading
 pub read_holds : (Holds : ReadOutcome → Type 0) (text scripts : List ℕ)
-    → ((why : Refusal) → Holds (read_with (Refused why) (lines_of text) scripts))
-    → (length scripts ≡ scripts_length → final_verdict (length text) (lines_of text).draft ≡ Accepted
-    → Holds (read_with Accepted (lines_of text) scripts))
+    → ((why : Refusal) → Holds (read_with (Err why) (lines_of text) scripts))
+    → (length scripts ≡ scripts_length → final_verdict (length text) (lines_of text).draft ≡ Ok tt
+    → Holds (read_with (Ok tt) (lines_of text) scripts))
     → Holds (read_of text scripts)
 unfolding read_of read_verdict
 read_holds Holds text scripts refused accepted = go (read_verdict text scripts (lines_of text)) refl
   where
     go : (verdict : Verdict) → read_verdict text scripts (lines_of text) ≡ verdict → Holds (read_with verdict (lines_of text) scripts)
-    go (Refused why) is = refused why
-    go Accepted is =
+    go (Err why) is = refused why
+    go (Ok tt) is =
         let fits = unless_passed (eqb (length scripts) scripts_length) WrongLength _ is in
         let short = when_passed (ltb most_text_bytes (length text)) TextTooLong _ fits.1 in
         accepted (eqb-true _ _ fits.0) (both_passed (lines_of text).verdict _ short.1).1
 
 -- an accepted plan passes plan validity
-pub accepted_valid : (text scripts : List ℕ) → (read_of text scripts).verdict ≡ Accepted → plan_valid (read_of text scripts).plan ≡ true
+pub accepted_valid : (text scripts : List ℕ) → (read_of text scripts).verdict ≡ Ok tt → plan_valid (read_of text scripts).plan ≡ true
 accepted_valid text scripts =
-    read_holds (λ read. read.verdict ≡ Accepted → plan_valid read.plan ≡ true) text scripts
+    read_holds (λ read. read.verdict ≡ Ok tt → plan_valid read.plan ≡ true) text scripts
     (λ why e. absurd (not_refused why e))
     (λ fits final e. passing_valid (lines_of text).draft (lines_good text).0 (passes (length text) (lines_of text).draft final))
 

@@ -1,5 +1,6 @@
 -- A line that is taken up on the parts of a draft, an op line apart from the others: it is taken up
 -- as the line that it is. Assumes nothing.
+use Rattle.std.specs.Prelude.{Result, Ok, Err}
 use Prim.Native.Nat.{ℕ, ◌<◌}
 use mathlib.Core.Bool.{Bool, true, false, cond}
 use mathlib.Core.List.{List}
@@ -12,18 +13,12 @@ use Rattle.forms.specs.declared.Form.TheVariants.{Op as Script, Refused as Refus
 use Rattle.forms.specs.declared.OpLine.{OpLine}
 use Rattle.line.proofs.Plain.{IsPlain}
 use Rattle.line.specs.declared.Line.{Line}
-use Rattle.line.specs.declared.OpLineParse.{OpLineParse}
-use Rattle.line.specs.declared.OpLineParse.TheVariants.{Op as Took, Refused as RefusedOp}
 use Rattle.line.specs.Heads.{op_line_of, op_line_with}
 use Rattle.refusal.proofs.Passed.{not_refused}
 use Rattle.plan.specs.declared.Plan.{Plan}
 use Rattle.plan.specs.Limits.{most_windows}
 use Rattle.refusal.specs.declared.Refusal.{Refusal}
 use Rattle.refusal.specs.declared.Refusal.TheVariants.{RepeatedOrMissing, TooMany}
-use Rattle.refusal.specs.declared.Verdict.{Verdict}
-use Rattle.refusal.specs.declared.Verdict.TheVariants.{Accepted, Refused}
-use Rattle.syntax.specs.declared.TokenParse.{TokenParse}
-use Rattle.syntax.specs.declared.TokenParse.TheVariants.{To, Refused as RefusedToken}
 use Rattle.syntax.specs.Tokens.{then}
 use Rattle.reader.specs.declared.Draft.{Draft}
 use Rattle.reader.specs.Draft.{outcome_of, refused, taken, with_plan}
@@ -31,29 +26,30 @@ use Rattle.reader.specs.Draft.{take_domain, take_form, take_line, take_op, take_
 use Rattle.reader.specs.Draft.{take_window}
 use Rattle.reader.specs.DraftParts.{TakenOp, draft_with, form_verdict, outcome_with}
 use Rattle.reader.specs.DraftParts.{passed_verdict, plan_with_form}
+use Rattle.refusal.specs.Verdict.{Verdict}
 
 -- ---- a line other than an op
 
 module _ (bracket : ℕ) (draft : Draft) (marked store : List ℕ) where
   -- where nothing more is named, the draft is the one before with another plan
   with_plan_lem : (plan : Plan) → marked ≡ draft.named
-      → outcome_with Accepted (draft_with plan draft.counts marked) store
+      → outcome_with (Ok tt) (draft_with plan draft.counts marked) store
       ≡ outcome_of (taken (with_plan draft plan)) store
   with_plan_lem plan =
-      ap (λ (named : List ℕ). outcome_with Accepted (draft_with plan draft.counts named) store)
+      ap (λ (named : List ℕ). outcome_with (Ok tt) (draft_with plan draft.counts named) store)
 
   -- a test that accepts a form, and what is taken up if it does
   by_test_lem : (accepts : Bool) (plan : Plan) (why : Refusal) → marked ≡ draft.named
-      → cond accepts Accepted (Refused why) ≡ Accepted
-      → outcome_with Accepted (draft_with plan draft.counts marked) store
+      → cond accepts (Ok tt) (Err why) ≡ Ok tt
+      → outcome_with (Ok tt) (draft_with plan draft.counts marked) store
       ≡ outcome_of (cond accepts (taken (with_plan draft plan)) (refused why draft)) store
   by_test_lem true plan why same e = with_plan_lem plan same
   by_test_lem false plan why same e = absurd (not_refused why e)
 
   -- a test that refuses a form
   but_test : (refuses : Bool) (plan : Plan) (why : Refusal) → marked ≡ draft.named
-      → cond refuses (Refused why) Accepted ≡ Accepted
-      → outcome_with Accepted (draft_with plan draft.counts marked) store
+      → cond refuses (Err why) (Ok tt) ≡ Ok tt
+      → outcome_with (Ok tt) (draft_with plan draft.counts marked) store
       ≡ outcome_of (cond refuses (refused why draft) (taken (with_plan draft plan))) store
   but_test true plan why same e = absurd (not_refused why e)
   but_test false plan why same e = with_plan_lem plan same
@@ -62,8 +58,8 @@ module _ (bracket : ℕ) (draft : Draft) (marked store : List ℕ) where
   judged form =
       form_verdict form bracket draft.plan.pad draft.plan.run draft.plan.windows
 
-  pub plain_taken : (form : Form) → IsPlain draft.named marked form → judged form ≡ Accepted
-      → outcome_with Accepted
+  pub plain_taken : (form : Form) → IsPlain draft.named marked form → judged form ≡ Ok tt
+      → outcome_with (Ok tt)
       (draft_with (plan_with_form draft.plan form) draft.counts marked) store
       ≡ take_form form bracket marked draft store
   unfolding take_pad take_run take_domain take_window
@@ -79,27 +75,27 @@ module _ (bracket : ℕ) (draft : Draft) (marked store : List ℕ) where
   plain_taken (RefusedForm refusal) same e = absurd (not_refused refusal e)
 
   -- the same refusal leaves the same
-  as_refused : (why : Refusal) {other : Refusal} → Refused other ≡ Refused why
-      → outcome_with (Refused why) draft store ≡ outcome_of (refused other draft) store
+  as_refused : (why : Refusal) {other : Refusal} → Err other ≡ Err why
+      → outcome_with (Err why) draft store ≡ outcome_of (refused other draft) store
   as_refused why e = ap (λ (verdict : Verdict). outcome_with verdict draft store) (sym e)
 
   not_by_test : (accepts : Bool) (plan : Plan) (why other : Refusal)
-      → cond accepts Accepted (Refused other) ≡ Refused why
-      → outcome_with (Refused why) draft store
+      → cond accepts (Ok tt) (Err other) ≡ Err why
+      → outcome_with (Err why) draft store
       ≡ outcome_of (cond accepts (taken (with_plan draft plan)) (refused other draft)) store
   not_by_test true plan why other e = absurd (not_refused why (sym e))
   not_by_test false plan why other e = as_refused why e
 
   not_but_test : (refuses : Bool) (plan : Plan) (why other : Refusal)
-      → cond refuses (Refused other) Accepted ≡ Refused why
-      → outcome_with (Refused why) draft store
+      → cond refuses (Err other) (Ok tt) ≡ Err why
+      → outcome_with (Err why) draft store
       ≡ outcome_of (cond refuses (refused other draft) (taken (with_plan draft plan))) store
   not_but_test true plan why other e = as_refused why e
   not_but_test false plan why other e = absurd (not_refused why (sym e))
 
   pub plain_refused : (form : Form) → IsPlain draft.named marked form → {why : Refusal}
-      → judged form ≡ Refused why
-      → outcome_with (Refused why) draft store ≡ take_form form bracket marked draft store
+      → judged form ≡ Err why
+      → outcome_with (Err why) draft store ≡ take_form form bracket marked draft store
   unfolding take_pad take_run take_window
   plain_refused Blank same {why} e = absurd (not_refused why (sym e))
   plain_refused (Pad ticks) same {why} e =
@@ -114,57 +110,57 @@ module _ (bracket : ℕ) (draft : Draft) (marked store : List ℕ) where
 
 -- a window that is accepted has room
 pub window_room : (windows bracket : ℕ)
-    → cond (leb most_windows windows) (Refused (TooMany bracket)) Accepted ≡ Accepted
+    → cond (leb most_windows windows) (Err (TooMany bracket)) (Ok tt) ≡ Ok tt
     → windows < most_windows
 window_room windows bracket e = go (leb most_windows windows) refl e
   where
     go : (full : Bool) → leb most_windows windows ≡ full
-        → cond full (Refused (TooMany bracket)) Accepted ≡ Accepted → windows < most_windows
+        → cond full (Err (TooMany bracket)) (Ok tt) ≡ Ok tt → windows < most_windows
     go true is e = absurd (not_refused (TooMany bracket) e)
     go false is e = leb-false _ _ is
 
 -- ---- an op line
 
-to_end : (here end : ℕ) → To here ≡ To end → here ≡ end
-to_end here end same = ap (λ (passed : TokenParse). then passed (λ _. here) (λ at. at)) same
+to_end : (here end : ℕ) → Ok here ≡ Ok end → here ≡ end
+to_end here end same = ap (λ (passed : Result ℕ Refusal). then passed (λ _. here) (λ at. at)) same
 
-module _ (text : List ℕ) (declared bracket inside : ℕ) {parse : OpLineParse}
+module _ (text : List ℕ) (declared bracket inside : ℕ) {parse : Result (OpLine × ℕ) Refusal}
     (read : (bracket : ℕ) (named : List ℕ)
     → op_line_with bracket named parse ≡ op_line_of text declared named bracket inside) where
   -- what is shown of the line as it was read holds of the line
-  as_read : (P : Line → Type 0) (named : List ℕ) (kind : OpLineParse) → parse ≡ kind
+  as_read : (P : Line → Type 0) (named : List ℕ) (kind : Result (OpLine × ℕ) Refusal) → parse ≡ kind
       → P (op_line_with bracket named kind) → P (op_line_of text declared named bracket inside)
   as_read P named kind known =
       subst P (ap (op_line_with bracket named) (sym known) ∙ read bracket named)
 
-  pub not_read : {why : Refusal} → parse ≡ RefusedOp why
+  pub not_read : {why : Refusal} → parse ≡ Err why
       → (named : List ℕ) (draft : Draft) (store : List ℕ)
-      → TakenOp (RefusedToken why) (op_line_of text declared named bracket inside) draft store draft
+      → TakenOp (Err why) (op_line_of text declared named bracket inside) draft store draft
       store
   unfolding take_line
   not_read {why} known named draft store =
-      as_read (λ line. TakenOp (RefusedToken why) line draft store draft store) named _ known
+      as_read (λ line. TakenOp (Err why) line draft store draft store) named _ known
       (record { came = refl; ends = λ end same. absurd (not_refused why (ap passed_verdict same)) })
 
-  module _ {line : OpLine} {end : ℕ} (known : parse ≡ Took line end) {verdict : Verdict}
+  module _ {line : OpLine} {end : ℕ} (known : parse ≡ Ok (line, end)) {verdict : Verdict}
       (named : List ℕ) (draft : Draft) (store : List ℕ) (next : Draft) (filled : List ℕ)
       (came : outcome_with verdict next filled ≡ take_op line bracket draft store) where
-    pub op_taken : verdict ≡ Accepted
-        → TakenOp (To end) (op_line_of text declared named bracket inside) draft store next filled
+    pub op_taken : verdict ≡ Ok tt
+        → TakenOp (Ok end) (op_line_of text declared named bracket inside) draft store next filled
     unfolding take_line
     op_taken accepted =
-        as_read (λ line. TakenOp (To end) line draft store next filled) named _ known
+        as_read (λ line. TakenOp (Ok end) line draft store next filled) named _ known
         (record {
           came = ap (λ (v : Verdict). outcome_with v next filled) (sym accepted) ∙ came;
           ends = to_end end;
         })
 
-    pub op_not_taken : {why : Refusal} → verdict ≡ Refused why
-        → TakenOp (RefusedToken why) (op_line_of text declared named bracket inside) draft store next
+    pub op_not_taken : {why : Refusal} → verdict ≡ Err why
+        → TakenOp (Err why) (op_line_of text declared named bracket inside) draft store next
         filled
     unfolding take_line
     op_not_taken {why} refused =
-        as_read (λ line. TakenOp (RefusedToken why) line draft store next filled) named _ known
+        as_read (λ line. TakenOp (Err why) line draft store next filled) named _ known
         (record {
           came = ap (λ (v : Verdict). outcome_with v next filled) (sym refused) ∙ came;
           ends = λ end same. absurd (not_refused why (ap passed_verdict same));

@@ -1,5 +1,6 @@
 -- Laws of the checks after the last line: the first undeclared recipient, the first domain without a colour, and what a
 -- draft that passes is known to satisfy. Assumes nothing.
+use Rattle.std.specs.Prelude.{Ok, Err}
 use Prim.Native.Nat.{ℕ, zero, suc, ◌+◌, ◌-◌, ◌≤◌, ◌<◌}
 use native.Mathlib.Nat.{sub-zero}
 use native.Mathlib.Omega.{arith}
@@ -15,19 +16,18 @@ use Rattle.plan.specs.Windows.{ticks_total}
 use Rattle.plan.specs.Limits.{domain_colours, most_domains, most_run_ticks, most_shares}
 use Rattle.refusal.proofs.Passed.{both_passed, not_refused, when_passed}
 use Rattle.refusal.specs.declared.Refusal.TheVariants.{WrongDomain}
-use Rattle.refusal.specs.declared.Verdict.{Verdict}
-use Rattle.refusal.specs.declared.Verdict.TheVariants.{Accepted, Refused}
 use Rattle.syntax.proofs.Choices.{same_or_not}
 use Rattle.reader.specs.declared.Draft.{Draft}
 use Rattle.reader.specs.Final.{earlier_kept, final_verdict, first_colourless, first_of, lacking, may_verdict, mentions_from}
 use Rattle.reader.specs.Final.{shares_verdict, undeclared_mentions}
+use Rattle.refusal.specs.Verdict.{Verdict}
 
 -- ---- the first undeclared recipient
 
 -- the verdict where an offset was found before, kept plus one, and these mentions follow
 unfoldable pub may_after : ℕ → List ℕ → Verdict
 may_after zero mentions = may_verdict mentions
-may_after (suc offset) mentions = Refused (WrongDomain (first_of offset mentions))
+may_after (suc offset) mentions = Err (WrongDomain (first_of offset mentions))
 
 -- one mention more, kept plus one or 0 for none
 may_more : (found kept : ℕ) (rest : List ℕ)
@@ -42,7 +42,7 @@ may_more (suc found) (suc offset) rest =
   where
     go : (b : Bool) → leb found offset ≡ b
         → may_after (cond (leb (suc found) (suc offset)) (suc found) (suc offset)) rest
-        ≡ Refused (WrongDomain (first_of (cond b found offset) rest))
+        ≡ Err (WrongDomain (first_of (cond b found offset) rest))
     go true e = rw (le-leb (suc found) (suc offset) (omega (arith, leb-true found offset e)))
     go false e = rw (lt-leb (suc found) (suc offset) (omega (arith, leb-false found offset e)))
 
@@ -60,16 +60,16 @@ module _ (named : List ℕ) (declared found domain : ℕ)
   unfolding mentions_from
   may_end past = let none : most_domains - domain ≡ 0 = omega arith in rw none at so_far
 
-pub may_nothing : (found : ℕ) → found ≡ 0 → Accepted ≡ may_after found []
+pub may_nothing : (found : ℕ) → found ≡ 0 → (Ok tt) ≡ may_after found []
 unfolding may_after
 may_nothing found none = rw none
 
-pub may_found : (found : ℕ) → (found ≡ 0 → ⊥) → Refused (WrongDomain (found - 1)) ≡ may_after found []
+pub may_found : (found : ℕ) → (found ≡ 0 → ⊥) → Err (WrongDomain (found - 1)) ≡ may_after found []
 unfolding may_after first_of
 may_found zero some = absurd (some refl)
 may_found (suc offset) some = let back : suc offset - 1 ≡ offset = omega arith in rw back
 
-pub may_none : (mentions : List ℕ) → may_verdict mentions ≡ Accepted → mentions ≡ []
+pub may_none : (mentions : List ℕ) → may_verdict mentions ≡ Ok tt → mentions ≡ []
 may_none [] e = refl
 may_none (offset ∷ more) e = absurd (not_refused _ e)
 
@@ -145,7 +145,7 @@ pub record Passes (draft : Draft) : Type 0 where
   pub coloured : draft.plan.domains ≤ first_colourless draft.plan draft.plan.domains 0
   pub ticks : ticks_total draft.plan ≤ most_run_ticks
 
-pub passes : (text_length : ℕ) (draft : Draft) → final_verdict text_length draft ≡ Accepted → Passes draft
+pub passes : (text_length : ℕ) (draft : Draft) → final_verdict text_length draft ≡ Ok tt → Passes draft
 unfolding final_verdict shares_verdict
 passes text_length draft accepted =
     let first = when_passed _ _ _ accepted in

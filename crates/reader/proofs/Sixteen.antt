@@ -1,4 +1,5 @@
 -- When 16 is told. Assumes nothing.
+use Rattle.std.specs.Prelude.{Ok, Err}
 use Prim.Native.Nat.{ℕ, ◌<◌, ◌≤◌}
 use native.Mathlib.Omega.{arith}
 use mathlib.Core.Bool.{Bool}
@@ -17,14 +18,13 @@ use Rattle.refusal.specs.Checks.{when}
 use Rattle.refusal.specs.Code.{refusal_code}
 use Rattle.refusal.specs.declared.Refusal.{Refusal}
 use Rattle.refusal.specs.declared.Refusal.TheVariants.{ColoursOverFifteen, NoColour, RepeatedOrMissing, RunTooLong, SharesOverThousand}
-use Rattle.refusal.specs.declared.Verdict.TheVariants.{Accepted, Refused}
 use Rattle.reader.proofs.LastChecks.{may_none}
 use Rattle.reader.specs.declared.Draft.{Draft}
 use Rattle.reader.specs.Final.{final_verdict, first_colourless, may_verdict, shares_verdict, undeclared_mentions}
 use Rattle.reader.specs.Theorems.{OverFifteen, SixteenTold}
 
 told : (text_length : ℕ) (draft : Draft) → OverFifteen draft
-    → final_verdict text_length draft ≡ Refused (ColoursOverFifteen (colours_total draft.plan))
+    → final_verdict text_length draft ≡ Err (ColoursOverFifteen (colours_total draft.plan))
 unfolding final_verdict shares_verdict
 told text_length draft here =
     rw (
@@ -39,19 +39,19 @@ module _ (colours : ℕ) where
   abbrev sixteen : Refusal
   sixteen = ColoursOverFifteen colours
 
-  other_number : (why : Refusal) → ((refusal_code why).number ≡ 16 → ⊥) → Refused why ≡ Refused sixteen → ⊥
+  other_number : (why : Refusal) → ((refusal_code why).number ≡ 16 → ⊥) → Err why ≡ Err sixteen → ⊥
   other_number why differ e = differ (same_number why sixteen e)
 
-  not_may : (mentions : List ℕ) → may_verdict mentions ≡ Refused sixteen → ⊥
+  not_may : (mentions : List ℕ) → may_verdict mentions ≡ Err sixteen → ⊥
   not_may [] e = not_refused sixteen (sym e)
   not_may (offset ∷ more) e = other_number _ (λ n. omega arith) e
 
   -- the last of checks in a row
-  not_last : (test : Bool) (why : Refusal) → ((refusal_code why).number ≡ 16 → ⊥) → when test why Accepted ≡ Refused sixteen → ⊥
-  not_last test why differ e = not_refused sixteen (sym (when_behind sixteen test why Accepted (other_number why differ) e).1)
+  not_last : (test : Bool) (why : Refusal) → ((refusal_code why).number ≡ 16 → ⊥) → when test why (Ok tt) ≡ Err sixteen → ⊥
+  not_last test why differ e = not_refused sixteen (sym (when_behind sixteen test why (Ok tt) (other_number why differ) e).1)
 
   -- among the checks of the shares
-  of_shares : (plan : Plan) → shares_verdict plan ≡ Refused sixteen
+  of_shares : (plan : Plan) → shares_verdict plan ≡ Err sixteen
       → (shares_total plan plan.domains ≤ most_shares) × (domain_colours < colours_total plan) × (colours ≡ colours_total plan)
   unfolding shares_verdict
   of_shares plan e =
@@ -62,7 +62,7 @@ module _ (colours : ℕ) where
       let here = when_here sixteen _ (ColoursOverFifteen (colours_total plan)) _ after before.1 in
       (ltb-false _ _ before.0, ltb-true _ _ here.0, sym (same_companion (ColoursOverFifteen (colours_total plan)) sixteen here.1))
 
-  only : (text_length : ℕ) (draft : Draft) → final_verdict text_length draft ≡ Refused sixteen
+  only : (text_length : ℕ) (draft : Draft) → final_verdict text_length draft ≡ Err sixteen
       → OverFifteen draft × (colours ≡ colours_total draft.plan)
   unfolding final_verdict
   only text_length draft e =

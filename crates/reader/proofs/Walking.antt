@@ -1,4 +1,5 @@
 -- The walk over the lines of a text: from one line to the next, to a refusal, and to the end. Assumes nothing.
+use Rattle.std.specs.Prelude.{Result, Ok, Err}
 use Prim.Native.Nat.{ℕ, zero, suc, ◌+◌, ◌≤◌, ◌<◌}
 use native.Mathlib.Omega.{arith}
 use mathlib.Core.Bool.{Bool, true, false}
@@ -22,11 +23,7 @@ use Rattle.line.specs.declared.PlainHead.{PlainHead}
 use Rattle.line.specs.Heads.{head_at, head_line, line_of, op_line_of}
 use Rattle.refusal.proofs.Passed.{not_refused}
 use Rattle.refusal.specs.declared.Refusal.{Refusal}
-use Rattle.refusal.specs.declared.Verdict.{Verdict}
-use Rattle.refusal.specs.declared.Verdict.TheVariants.{Accepted, Refused}
 use Rattle.plan.specs.Limits.{most_domains, most_windows}
-use Rattle.syntax.specs.declared.TokenParse.{TokenParse}
-use Rattle.syntax.specs.declared.TokenParse.TheVariants.{To, Refused as RefusedToken}
 use Rattle.script.specs.Limits.{scripts_length}
 use Rattle.reader.proofs.DraftParts.{plain_refused, plain_taken, window_room}
 use Rattle.reader.proofs.GoodDraft.{GoodDraft, GoodOutcome, draft_first, line_taken}
@@ -36,6 +33,7 @@ use Rattle.reader.specs.Draft.{DraftOutcome, no_draft, no_ops, outcome_of, take_
 use Rattle.reader.specs.DraftParts.{TakenOp, draft_with, form_verdict, outcome_with}
 use Rattle.reader.specs.DraftParts.{passed_verdict, plan_with_form}
 use Rattle.reader.specs.Read.{draft_line, lines_of, walk_from}
+use Rattle.refusal.specs.Verdict.{Verdict}
 
 -- ---- a line that is taken up
 
@@ -46,7 +44,7 @@ next_good text at draft so_far below =
 
 -- it reaches at least as far as it began
 taken_reaches : (form : Form) (declared bracket at end : ℕ) (named marked : List ℕ) (draft : Draft) (store : List ℕ)
-    → GoodForm declared named marked at end form → (take_form form bracket marked draft store).verdict ≡ Accepted → at ≤ end
+    → GoodForm declared named marked at end form → (take_form form bracket marked draft store).verdict ≡ Ok tt → at ≤ end
 taken_reaches Blank declared bracket at end named marked draft store h e = h
 taken_reaches (Pad ticks) declared bracket at end named marked draft store h e = h.2
 taken_reaches (Run times) declared bracket at end named marked draft store h e = h.2
@@ -61,8 +59,8 @@ taken_reaches (RefusedForm refusal) declared bracket at end named marked draft s
 abbrev pub after_line : List ℕ → ℕ → Line → DraftOutcome → DraftOutcome
 after_line text lines line outcome =
     elim outcome.verdict as (λ _. DraftOutcome) [
-      | Accepted ↦ walk_from lines text (line.end + 1) outcome.draft outcome.store
-      | Refused refusal ↦ outcome
+      | Ok tt ↦ walk_from lines text (line.end + 1) outcome.draft outcome.store
+      | Err refusal ↦ outcome
     ]
 
 pub walk_line : (lines : ℕ) (text : List ℕ) (at : ℕ) (draft : Draft) (store : List ℕ) (line : Line) (outcome : DraftOutcome)
@@ -74,17 +72,17 @@ walk_line lines text at draft store line outcome below is came =
     (ap (λ (l : Line). after_line text lines l (take_line l draft store)) (sym is) ∙ ap (after_line text lines line) (sym came))
 
 module _ (text : List ℕ) (lines : ℕ) (line : Line) (draft : Draft) (store : List ℕ) where
-  after_accepted : (verdict : Verdict) → verdict ≡ Accepted
+  after_accepted : (verdict : Verdict) → verdict ≡ Ok tt
       → walk_from lines text (line.end + 1) draft store
       ≡ after_line text lines line (record { verdict = verdict; draft = draft; store = store })
-  after_accepted Accepted known = refl
-  after_accepted (Refused why) known = absurd (not_refused why known)
+  after_accepted (Ok tt) known = refl
+  after_accepted (Err why) known = absurd (not_refused why known)
 
-  after_refused : (verdict : Verdict) (why : Refusal) → verdict ≡ Refused why
+  after_refused : (verdict : Verdict) (why : Refusal) → verdict ≡ Err why
       → record { verdict = verdict; draft = draft; store = store }
       ≡ after_line text lines line (record { verdict = verdict; draft = draft; store = store })
-  after_refused Accepted why known = absurd (not_refused why (sym known))
-  after_refused (Refused other) why known = refl
+  after_refused (Ok tt) why known = absurd (not_refused why (sym known))
+  after_refused (Err other) why known = refl
 
 -- what the whole walk comes to is good
 walk_good : (lines : ℕ) (text : List ℕ) (at : ℕ) (draft : Draft) (store : List ℕ) → GoodDraft draft
@@ -101,8 +99,8 @@ walk_good (suc lines) text at draft store good =
     by_line : (verdict : Verdict) (next : Draft) (filled : List ℕ) → GoodDraft next × (length filled ≡ length store) → Again
         → GoodOutcome (length store)
         (after_line text lines (draft_line text at draft) (record { verdict = verdict; draft = next; store = filled }))
-    by_line Accepted next filled here again = rw (← here.1) (again next filled here.0)
-    by_line (Refused refusal) next filled here again = here
+    by_line (Ok tt) next filled here again = rw (← here.1) (again next filled here.0)
+    by_line (Err refusal) next filled here again = here
 
     by_end : (test : Bool) → ltb at (length text) ≡ test → Again
         → GoodOutcome (length store)
@@ -174,7 +172,7 @@ module _ {text : List ℕ} {at : ℕ} {draft : Draft} {store : List ℕ} {whole 
       enough_left zero enough same = absurd (omega arith)
       enough_left (suc lines) enough same = (lines, refl, same)
 
-      turn_refused : (why : Refusal) → result.verdict ≡ Refused why
+      turn_refused : (why : Refusal) → result.verdict ≡ Err why
           → outcome_of result filled ≡ whole
       turn_refused why known =
           let more = enough_left left.lines left.enough left.same in
@@ -182,14 +180,14 @@ module _ {text : List ℕ} {at : ℕ} {draft : Draft} {store : List ℕ} {whole 
           ∙ sym (turned more.0)
           ∙ more.2
 
-      turn_reach : result.verdict ≡ Accepted → at ≤ line.end
+      turn_reach : result.verdict ≡ Ok tt → at ≤ line.end
       unfolding take_line
       turn_reach known =
           taken_reaches line.form _ line.bracket at line.end draft.named line.named
           draft store good_line.form
           (ap (λ (outcome : DraftOutcome). outcome.verdict) (sym came) ∙ known)
 
-      turn_next : result.verdict ≡ Accepted
+      turn_next : result.verdict ≡ Ok tt
           → LinesLeft text (line.end + 1) result.draft filled whole
       turn_next known =
           let more = enough_left left.lines left.enough left.same in
@@ -239,7 +237,7 @@ module _ {text : List ℕ} {at : ℕ} {draft : Draft} {store : List ℕ} {whole 
             (subst (PlainLine draft.named) (sym of)
             (plain_line text draft.plan.domains draft.named plain)).form
 
-        pub other_refused : {why : Refusal} → verdict ≡ Refused why
+        pub other_refused : {why : Refusal} → verdict ≡ Err why
             → outcome_with verdict draft store ≡ whole
         unfolding take_line
         other_refused {why} known =
@@ -249,7 +247,7 @@ module _ {text : List ℕ} {at : ℕ} {draft : Draft} {store : List ℕ} {whole 
             (sym found ∙ known))
             why known
 
-        module _ (known : verdict ≡ Accepted) where
+        module _ (known : verdict ≡ Ok tt) where
           pub other_window : (window : WindowLine) → line.form ≡ Window window
               → draft.plan.windows < most_windows
           other_window window is-window =
@@ -278,7 +276,7 @@ module _ {text : List ℕ} {at : ℕ} {draft : Draft} {store : List ℕ} {whole 
 
     -- ---- and is an op line
 
-    module _ {bracket inside : ℕ} (opens : head ≡ Op bracket inside) {passed : TokenParse}
+    module _ {bracket inside : ℕ} (opens : head ≡ Op bracket inside) {passed : Result ℕ Refusal}
         {next : Draft} {filled : List ℕ}
         (taken : TakenOp passed
         (op_line_of text draft.plan.domains draft.named bracket inside) draft store next
@@ -292,13 +290,13 @@ module _ {text : List ℕ} {at : ℕ} {draft : Draft} {store : List ℕ} {whole 
       abbrev op_result : DraftResult
       op_result = record { verdict = passed_verdict passed; draft = next }
 
-      pub op_refused : {why : Refusal} → passed ≡ RefusedToken why
-          → outcome_with (Refused why) next filled ≡ whole
+      pub op_refused : {why : Refusal} → passed ≡ Err why
+          → outcome_with (Err why) next filled ≡ whole
       op_refused {why} known =
-          ap (λ (to : TokenParse). outcome_with (passed_verdict to) next filled) (sym known)
+          ap (λ (to : Result ℕ Refusal). outcome_with (passed_verdict to) next filled) (sym known)
           ∙ turn_refused below is_op_line op_result filled taken.came why (ap passed_verdict known)
 
-      module _ {end : ℕ} (known : passed ≡ To end) where
+      module _ {end : ℕ} (known : passed ≡ Ok end) where
         pub op_within : end ≤ length text
         op_within = omega (arith, turn_within below is_op_line, taken.ends end known)
 

@@ -1,4 +1,5 @@
 -- What reading a whole text answers, by what its steps gave. Assumes nothing.
+use Rattle.std.specs.Prelude.{Ok, Err}
 use Prim.Native.Nat.{ℕ, ◌≤◌, ◌<◌}
 use mathlib.Core.List.{List}
 use mathlib.Core.Path.{◌≡◌, refl, sym, subst, ap, ◌∙◌}
@@ -10,8 +11,6 @@ use Rattle.plan.specs.declared.Plan.{Plan}
 use Rattle.refusal.specs.Checks.{and_then}
 use Rattle.refusal.specs.declared.Refusal.{Refusal}
 use Rattle.refusal.specs.declared.Refusal.TheVariants.{TextTooLong, WrongLength}
-use Rattle.refusal.specs.declared.Verdict.{Verdict}
-use Rattle.refusal.specs.declared.Verdict.TheVariants.{Accepted, Refused}
 use Rattle.script.specs.Limits.{scripts_length}
 use Rattle.reader.proofs.GoodDraft.{GoodDraft, GoodOutcome}
 use Rattle.reader.proofs.Walking.{lines_good}
@@ -19,6 +18,7 @@ use Rattle.reader.specs.declared.DraftResult.{DraftResult}
 use Rattle.reader.specs.Draft.{outcome_of}
 use Rattle.reader.specs.Final.{final_verdict, plan_with_masks}
 use Rattle.reader.specs.Read.{ReadOutcome, lines_of, read_of, read_verdict, read_with}
+use Rattle.refusal.specs.Verdict.{Verdict}
 
 -- an answer that is the definition's, part by part
 abbrev pub Answers : ReadOutcome → Verdict → Plan → List ℕ → Type 0
@@ -35,20 +35,20 @@ module _ (text scripts : List ℕ) where
   unfolding read_of
   read_by verdict is = ap (λ (v : Verdict). read_with v (lines_of text) scripts) is
 
-  refused_by : (why : Refusal) (verdict : Verdict) (plan : Plan) → read_verdict text scripts (lines_of text) ≡ Refused why
-      → verdict ≡ Refused why → plan ≡ no_plan → Answers (read_of text scripts) verdict plan scripts
-  refused_by why verdict plan is v p = rw (read_by (Refused why) is) (v, p, refl)
+  refused_by : (why : Refusal) (verdict : Verdict) (plan : Plan) → read_verdict text scripts (lines_of text) ≡ Err why
+      → verdict ≡ Err why → plan ≡ no_plan → Answers (read_of text scripts) verdict plan scripts
+  refused_by why verdict plan is v p = rw (read_by (Err why) is) (v, p, refl)
 
   -- ---- 11, then 1
 
   pub read_wrong_length : (verdict : Verdict) (plan : Plan) → (length scripts ≡ scripts_length → ⊥)
-      → verdict ≡ Refused WrongLength → plan ≡ no_plan → Answers (read_of text scripts) verdict plan scripts
+      → verdict ≡ Err WrongLength → plan ≡ no_plan → Answers (read_of text scripts) verdict plan scripts
   unfolding read_verdict
   read_wrong_length verdict plan wrong = refused_by WrongLength verdict plan (rw (ne_eqb _ _ wrong))
 
   module _ (fits : length scripts ≡ scripts_length) where
     pub read_too_long : (verdict : Verdict) (plan : Plan) → most_text_bytes < length text
-        → verdict ≡ Refused TextTooLong → plan ≡ no_plan → Answers (read_of text scripts) verdict plan scripts
+        → verdict ≡ Err TextTooLong → plan ≡ no_plan → Answers (read_of text scripts) verdict plan scripts
     unfolding read_verdict
     read_too_long verdict plan long = refused_by TextTooLong verdict plan (rw (eq-eqb _ _ fits, lt-ltb _ _ long))
 
@@ -60,20 +60,20 @@ module _ (text scripts : List ℕ) where
       unfolding read_verdict
       checked = rw (← walked, eq-eqb _ _ fits, le-ltb _ _ short)
 
-      pub read_refused : (why : Refusal) (verdict : Verdict) (plan : Plan) → result.verdict ≡ Refused why
-          → verdict ≡ Refused why → plan ≡ no_plan → Answers (read_of text scripts) verdict plan scripts
+      pub read_refused : (why : Refusal) (verdict : Verdict) (plan : Plan) → result.verdict ≡ Err why
+          → verdict ≡ Err why → plan ≡ no_plan → Answers (read_of text scripts) verdict plan scripts
       read_refused why verdict plan known =
           refused_by why verdict plan (checked ∙ ap (λ (v : Verdict). and_then v (final_verdict (length text) result.draft)) known)
 
-      module _ (good : result.verdict ≡ Accepted) (last : Verdict) (final : last ≡ final_verdict (length text) result.draft) where
+      module _ (good : result.verdict ≡ Ok tt) (last : Verdict) (final : last ≡ final_verdict (length text) result.draft) where
         judged : (verdict : Verdict) → last ≡ verdict → read_verdict text scripts (lines_of text) ≡ verdict
         judged verdict known =
             checked ∙ ap (λ (v : Verdict). and_then v (final_verdict (length text) result.draft)) good ∙ sym final ∙ known
 
-        pub read_unfit : (why : Refusal) (verdict : Verdict) (plan : Plan) → last ≡ Refused why
-            → verdict ≡ Refused why → plan ≡ no_plan → Answers (read_of text scripts) verdict plan scripts
-        read_unfit why verdict plan known = refused_by why verdict plan (judged (Refused why) known)
+        pub read_unfit : (why : Refusal) (verdict : Verdict) (plan : Plan) → last ≡ Err why
+            → verdict ≡ Err why → plan ≡ no_plan → Answers (read_of text scripts) verdict plan scripts
+        read_unfit why verdict plan known = refused_by why verdict plan (judged (Err why) known)
 
-        pub read_accepted : (verdict : Verdict) (plan : Plan) (filled : List ℕ) → last ≡ Accepted → verdict ≡ Accepted
+        pub read_accepted : (verdict : Verdict) (plan : Plan) (filled : List ℕ) → last ≡ Ok tt → verdict ≡ Ok tt
             → plan ≡ plan_with_masks result.draft.plan → filled ≡ store → Answers (read_of text scripts) verdict plan filled
-        read_accepted verdict plan filled known v p s = rw (read_by Accepted (judged Accepted known), ← walked) (v, p, s)
+        read_accepted verdict plan filled known v p s = rw (read_by (Ok tt) (judged (Ok tt) known), ← walked) (v, p, s)

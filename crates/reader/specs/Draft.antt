@@ -1,6 +1,6 @@
 -- Document 01, "The plan text": what a good line adds to the plan and the scripts; at a line's end 5 and
 -- 10. A refused line adds nothing. Assumes nothing.
-use Rattle.std.specs.Prelude.{ℕ, ◌+◌, ◌*◌, cond, List, eqb, leb, get_or, replicate, set}
+use Rattle.std.specs.Prelude.{ℕ, ◌+◌, ◌*◌, cond, List, eqb, leb, get_or, replicate, set, Ok, Err}
 use Rattle.forms.specs.declared.DomainLine.{DomainLine}
 use Rattle.forms.specs.declared.Form.{Form}
 use Rattle.forms.specs.declared.Form.TheVariants.{Blank, Pad, Run, Domain, Window, Op, Refused as RefusedForm}
@@ -13,12 +13,11 @@ use Rattle.plan.specs.Parts.{with_domain, with_pad, with_run, with_window}
 use Rattle.plan.specs.Zeros.{no_plan}
 use Rattle.refusal.specs.declared.Refusal.{Refusal}
 use Rattle.refusal.specs.declared.Refusal.TheVariants.{RepeatedOrMissing, TooMany}
-use Rattle.refusal.specs.declared.Verdict.{Verdict}
-use Rattle.refusal.specs.declared.Verdict.TheVariants.{Accepted, Refused}
 use Rattle.script.specs.Limits.{most_ops, scripts_length}
 use Rattle.script.specs.Stored.{stored_of}
 use Rattle.reader.specs.declared.Draft.{Draft}
 use Rattle.reader.specs.declared.DraftResult.{DraftResult}
+use Rattle.refusal.specs.Verdict.{Verdict}
 
 -- before the first line
 unfoldable pub no_draft : Draft
@@ -36,11 +35,11 @@ with_plan draft plan = record { plan = plan; counts = draft.counts; named = draf
 
 -- a line is taken up, and this is the draft with it
 abbrev pub taken : Draft → DraftResult
-taken draft = record { verdict = Accepted; draft = draft }
+taken draft = record { verdict = Ok tt; draft = draft }
 
 -- a line is refused, and the draft is as it was before
 abbrev pub refused : Refusal → Draft → DraftResult
-refused refusal draft = record { verdict = Refused refusal; draft = draft }
+refused refusal draft = record { verdict = Err refusal; draft = draft }
 
 -- what lines come to: on refusal draft and store are those before the refused line
 pub record DraftOutcome : Type 0 where

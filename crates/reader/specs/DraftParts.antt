@@ -2,7 +2,7 @@
 -- others: nothing here is of the paper. What is held against a form, and what it adds, stand here
 -- once more, apart from each other: the same tests as Draft's and the same plans, by `plain_taken`
 -- and `plain_refused` of proofs/DraftParts. Assumes nothing.
-use Rattle.std.specs.Prelude.{ℕ, cond, List, ◌≡◌, eqb, leb}
+use Rattle.std.specs.Prelude.{ℕ, cond, List, ◌≡◌, eqb, leb, Result, Ok, Err}
 use Rattle.forms.specs.declared.Form.{Form}
 use Rattle.forms.specs.declared.Form.TheVariants.{Blank, Pad, Run, Domain, Window, Op}
 use Rattle.forms.specs.declared.Form.TheVariants.{Refused as RefusedForm}
@@ -11,12 +11,10 @@ use Rattle.plan.specs.declared.Plan.{Plan}
 use Rattle.plan.specs.Limits.{most_windows}
 use Rattle.plan.specs.Parts.{with_domain, with_pad, with_run, with_window}
 use Rattle.refusal.specs.declared.Refusal.TheVariants.{RepeatedOrMissing, TooMany}
-use Rattle.refusal.specs.declared.Verdict.{Verdict}
-use Rattle.refusal.specs.declared.Verdict.TheVariants.{Accepted, Refused}
-use Rattle.syntax.specs.declared.TokenParse.{TokenParse}
-use Rattle.syntax.specs.declared.TokenParse.TheVariants.{To, Refused as RefusedToken}
 use Rattle.reader.specs.declared.Draft.{Draft}
 use Rattle.reader.specs.Draft.{DraftOutcome, take_line}
+use Rattle.refusal.specs.declared.Refusal.{Refusal}
+use Rattle.refusal.specs.Verdict.{Verdict}
 
 -- a draft of its parts
 abbrev pub draft_with : Plan → List ℕ → List ℕ → Draft
@@ -31,16 +29,16 @@ outcome_with verdict draft store = record { verdict = verdict; draft = draft; st
 -- what is held against a form, with the pad, the run and the number of windows before it; an op is
 -- judged elsewhere
 abbrev pub form_verdict : Form → ℕ → ℕ → ℕ → ℕ → Verdict
-form_verdict Blank bracket pad run windows = Accepted
+form_verdict Blank bracket pad run windows = Ok tt
 form_verdict (Pad ticks) bracket pad run windows =
-    cond (eqb pad 0) Accepted (Refused (RepeatedOrMissing bracket))
+    cond (eqb pad 0) (Ok tt) (Err (RepeatedOrMissing bracket))
 form_verdict (Run times) bracket pad run windows =
-    cond (eqb run 0) Accepted (Refused (RepeatedOrMissing bracket))
-form_verdict (Domain line) bracket pad run windows = Accepted
+    cond (eqb run 0) (Ok tt) (Err (RepeatedOrMissing bracket))
+form_verdict (Domain line) bracket pad run windows = Ok tt
 form_verdict (Window line) bracket pad run windows =
-    cond (leb most_windows windows) (Refused (TooMany bracket)) Accepted
-form_verdict (Op line) bracket pad run windows = Accepted
-form_verdict (RefusedForm refusal) bracket pad run windows = Refused refusal
+    cond (leb most_windows windows) (Err (TooMany bracket)) (Ok tt)
+form_verdict (Op line) bracket pad run windows = Ok tt
+form_verdict (RefusedForm refusal) bracket pad run windows = Err refusal
 
 -- a plan with what a form adds to it
 abbrev pub plan_with_form : Plan → Form → Plan
@@ -55,13 +53,13 @@ plan_with_form plan (RefusedForm refusal) = plan
 -- ---- an op line
 
 -- the verdict of a line that was passed, or not
-abbrev pub passed_verdict : TokenParse → Verdict
-passed_verdict (To end) = Accepted
-passed_verdict (RefusedToken refusal) = Refused refusal
+abbrev pub passed_verdict : Result ℕ Refusal → Verdict
+passed_verdict (Ok end) = Ok tt
+passed_verdict (Err refusal) = Err refusal
 
 -- the line was taken up, from the first draft and store to the next, and what was answered is its
 -- end or its refusal
-pub record TakenOp (passed : TokenParse) (line : Line) (draft : Draft) (store : List ℕ)
+pub record TakenOp (passed : Result ℕ Refusal) (line : Line) (draft : Draft) (store : List ℕ)
     (next : Draft) (filled : List ℕ) : Type 0 where
   pub came : outcome_with (passed_verdict passed) next filled ≡ take_line line draft store
-  pub ends : (end : ℕ) → passed ≡ To end → line.end ≡ end
+  pub ends : (end : ℕ) → passed ≡ Ok end → line.end ≡ end

@@ -1,6 +1,6 @@
 -- Document 01, "The plan text": the checks of a whole text, once no line of it was refused, in their order;
 -- with 16 of document 02's E2 among them. Assumes nothing.
-use Rattle.std.specs.Prelude.{ℕ, zero, suc, ◌+◌, ◌-◌, Bool, true, false, cond, ◌||◌, List, [], ◌∷◌, eqb, leb, ltb, get_or}
+use Rattle.std.specs.Prelude.{ℕ, zero, suc, ◌+◌, ◌-◌, Bool, true, false, cond, ◌||◌, List, [], ◌∷◌, eqb, leb, ltb, get_or, Ok, Err}
 use Rattle.plan.specs.declared.Plan.{Plan}
 use Rattle.plan.specs.Colours.{colours_at, colours_total, masks_from, shares_total}
 use Rattle.plan.specs.Limits.{domain_colours, most_domains, most_run_ticks, most_shares}
@@ -10,9 +10,8 @@ use Rattle.refusal.specs.Checks.{and_then, when}
 use Rattle.refusal.specs.declared.Refusal.TheVariants.{ColoursOverFifteen, NoColour}
 use Rattle.refusal.specs.declared.Refusal.TheVariants.{RepeatedOrMissing, RunTooLong}
 use Rattle.refusal.specs.declared.Refusal.TheVariants.{SharesOverThousand, WrongDomain}
-use Rattle.refusal.specs.declared.Verdict.{Verdict}
-use Rattle.refusal.specs.declared.Verdict.TheVariants.{Accepted, Refused}
 use Rattle.reader.specs.declared.Draft.{Draft}
+use Rattle.refusal.specs.Verdict.{Verdict}
 
 -- 5: no pad, domain, window or run
 abbrev pub lacking : Plan → Bool
@@ -39,8 +38,8 @@ first_of offset (other ∷ more) = first_of (cond (leb offset other) offset othe
 
 -- 4: an undeclared recipient, the first in the text
 abbrev pub may_verdict : List ℕ → Verdict
-may_verdict [] = Accepted
-may_verdict (offset ∷ more) = Refused (WrongDomain (first_of offset more))
+may_verdict [] = Ok tt
+may_verdict (offset ∷ more) = Err (WrongDomain (first_of offset more))
 
 -- the earlier of two offsets as a draft keeps them, plus one or 0 for none
 abbrev pub earlier_kept : ℕ → ℕ → ℕ
@@ -64,7 +63,7 @@ shares_verdict plan =
     let colourless = first_colourless plan plan.domains 0 in
     when (ltb most_shares shares) (SharesOverThousand shares)
     (when (ltb domain_colours colours) (ColoursOverFifteen colours)
-    (when (ltb colourless plan.domains) (NoColour colourless) Accepted))
+    (when (ltb colourless plan.domains) (NoColour colourless) (Ok tt)))
 
 -- the checks after the last line, in their order: 5, 4, then 7, 16 and 6, then 9
 unfoldable pub final_verdict : ℕ → Draft → Verdict
@@ -73,7 +72,7 @@ final_verdict text_length draft =
     when (lacking plan) (RepeatedOrMissing text_length)
     (and_then (may_verdict (undeclared_mentions draft.named plan.domains))
     (and_then (shares_verdict plan)
-    (when (ltb most_run_ticks (ticks_total plan)) RunTooLong Accepted)))
+    (when (ltb most_run_ticks (ticks_total plan)) RunTooLong (Ok tt))))
 
 -- an accepted plan keeps its colour masks
 unfoldable pub plan_with_masks : Plan → Plan

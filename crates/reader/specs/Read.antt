@@ -1,6 +1,6 @@
 -- Document 01, "The plan text": reading a plan. 11, then 1; then line by line; then the checks after the
 -- last line. Assumes nothing.
-use Rattle.std.specs.Prelude.{ℕ, zero, suc, ◌+◌, true, false, List, eqb, ltb, length}
+use Rattle.std.specs.Prelude.{ℕ, zero, suc, ◌+◌, true, false, List, eqb, ltb, length, Ok, Err}
 use Rattle.script.specs.Limits.{scripts_length}
 use Rattle.line.specs.declared.Line.{Line}
 use Rattle.line.specs.Lines.{line_at}
@@ -9,11 +9,10 @@ use Rattle.plan.specs.Limits.{most_text_bytes}
 use Rattle.plan.specs.Zeros.{no_plan}
 use Rattle.refusal.specs.Checks.{and_then, unless, when}
 use Rattle.refusal.specs.declared.Refusal.TheVariants.{TextTooLong, WrongLength}
-use Rattle.refusal.specs.declared.Verdict.{Verdict}
-use Rattle.refusal.specs.declared.Verdict.TheVariants.{Accepted, Refused}
 use Rattle.reader.specs.declared.Draft.{Draft}
 use Rattle.reader.specs.Draft.{DraftOutcome, no_draft, no_ops, outcome_of, take_line, taken}
 use Rattle.reader.specs.Final.{final_verdict, plan_with_masks}
+use Rattle.refusal.specs.Verdict.{Verdict}
 
 -- the line at an offset, after the lines that gave a draft
 abbrev pub draft_line : List ℕ → ℕ → Draft → Line
@@ -29,8 +28,8 @@ walk_from (suc lines) text at draft store =
           let line = draft_line text at draft in
           let outcome = take_line line draft store in
           elim outcome.verdict [
-            | Accepted ↦ walk_from lines text (line.end + 1) outcome.draft outcome.store
-            | Refused refusal ↦ outcome
+            | Ok tt ↦ walk_from lines text (line.end + 1) outcome.draft outcome.store
+            | Err refusal ↦ outcome
           ]
       | false ↦ outcome_of (taken draft) store
     ]
@@ -55,10 +54,10 @@ pub record ReadOutcome : Type 0 where
 
 -- an accepted text gives its plan and its scripts; a refusal has a plan of zeros and leaves the store as lent
 abbrev pub read_with : Verdict → DraftOutcome → List ℕ → ReadOutcome
-read_with Accepted lines scripts =
-    record { verdict = Accepted; plan = plan_with_masks lines.draft.plan; scripts = lines.store }
-read_with (Refused refusal) lines scripts =
-    record { verdict = Refused refusal; plan = no_plan; scripts = scripts }
+read_with (Ok tt) lines scripts =
+    record { verdict = Ok tt; plan = plan_with_masks lines.draft.plan; scripts = lines.store }
+read_with (Err refusal) lines scripts =
+    record { verdict = Err refusal; plan = no_plan; scripts = scripts }
 
 -- a text read into a script store
 unfoldable pub read_of : List ℕ → List ℕ → ReadOutcome

@@ -1,10 +1,9 @@
 -- Document 02, E2: when 16 is told, said of what the lines of a text gave. Assumes nothing.
-use Rattle.std.specs.Prelude.{ℕ, ◌<◌, ◌≤◌, false, [], ◌≡◌}
+use Rattle.std.specs.Prelude.{ℕ, ◌<◌, ◌≤◌, false, [], ◌≡◌, Err}
 use Rattle.plan.specs.Colours.{colours_total, shares_total}
 use Rattle.plan.specs.Limits.{domain_colours, most_domains, most_shares}
 use Rattle.plan.specs.Theorems.{most_colours_total}
 use Rattle.refusal.specs.declared.Refusal.TheVariants.{ColoursOverFifteen}
-use Rattle.refusal.specs.declared.Verdict.TheVariants.{Refused}
 use Rattle.reader.specs.declared.Draft.{Draft}
 use Rattle.reader.specs.Final.{final_verdict, lacking, undeclared_mentions}
 
@@ -20,15 +19,15 @@ pub record OverFifteen (draft : Draft) : Type 0 where
 pub record SixteenExactly (text_length : ℕ) (draft : Draft) : Type 0 where
   pub told :
       OverFifteen draft
-      → final_verdict text_length draft ≡ Refused (ColoursOverFifteen (colours_total draft.plan))
+      → final_verdict text_length draft ≡ Err (ColoursOverFifteen (colours_total draft.plan))
   pub only :
       (colours : ℕ)
-      → final_verdict text_length draft ≡ Refused (ColoursOverFifteen colours)
+      → final_verdict text_length draft ≡ Err (ColoursOverFifteen colours)
       → OverFifteen draft × (colours ≡ colours_total draft.plan)
   pub at_most :
       (colours : ℕ)
       → draft.plan.domains ≤ most_domains
-      → final_verdict text_length draft ≡ Refused (ColoursOverFifteen colours)
+      → final_verdict text_length draft ≡ Err (ColoursOverFifteen colours)
       → colours ≤ most_colours_total
 
 abbrev pub SixteenTold : Type 0

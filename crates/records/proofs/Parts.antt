@@ -1,5 +1,6 @@
 -- The parts that a log is divided into: they lie within it and beside each other, and a record that is stored in the log
 -- is stored in its domain's part alike. Assumes nothing.
+use Rattle.std.specs.Prelude.{Some}
 use Prim.Native.Nat.{ℕ, ◌+◌, ◌*◌, ◌/◌, ◌≤◌, ◌<◌}
 use mathlib.Core.List.{List}
 use mathlib.Core.Path.{◌≡◌, ap, ◌∙◌}
@@ -13,7 +14,6 @@ use Rattle.lists.proofs.Agree.{InRange, agree_sym, part_alike, sets_away}
 use Rattle.lists.proofs.Parts.{part_sets_within}
 use Rattle.plan.specs.declared.Plan.{Plan}
 use Rattle.records.specs.declared.Observation.{Observation}
-use Rattle.records.specs.declared.Place.TheVariants.{From}
 use Rattle.records.specs.Records.{in_parts, log_part, part_records, record_bytes, record_index, record_size, stored_at}
 
 -- the parts of all declared domains lie within the log
@@ -32,7 +32,7 @@ parts_follow quota lower higher h = omega (arith, mul-le-mul_left quota h)
 module _ (quota domain : ℕ) (number : ℕ) (room : number < quota) (seen : Observation) (clock : ℕ) (log : List ℕ) where
   -- a record of that domain is stored in its part alike
   pub part_kept : log_part quota domain quota (stored_at (in_parts quota domain) number seen clock log)
-      ≡ stored_at (From 0) number seen clock (log_part quota domain quota log)
+      ≡ stored_at (Some 0) number seen clock (log_part quota domain quota log)
   unfolding log_part stored_at record_bytes
   part_kept =
       let from : record_index quota domain number ≡ record_index quota domain 0 + record_size * (0 + number) = omega arith in

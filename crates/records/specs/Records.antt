@@ -1,6 +1,6 @@
 -- Document 01, "What a domain sees", and document 02, E8: the kinds and values of records, their
 -- bytes, the parts of the log, and where a record goes. Assumes nothing.
-use Rattle.std.specs.Prelude.{ℕ, ◌+◌, ◌*◌, ◌/◌, ◌%◌, cond, List, [], ◌∷◌, eqb}
+use Rattle.std.specs.Prelude.{ℕ, ◌+◌, ◌*◌, ◌/◌, ◌%◌, cond, List, [], ◌∷◌, eqb, Option, Some, None}
 use Rattle.std.proofs.lemmas.List.Edits.{sets}
 use Rattle.lists.specs.Part.{part}
 use Rattle.plan.specs.declared.Plan.{Plan}
@@ -9,8 +9,6 @@ use Rattle.records.specs.declared.Keep.TheVariants.{Every, One}
 use Rattle.records.specs.declared.Observation.{Observation}
 use Rattle.records.specs.declared.Observation.TheVariants.{Hit1, Hit2, Miss, Sent, Got}
 use Rattle.records.specs.declared.Observation.TheVariants.{Empty, Denied, Ran, Barred}
-use Rattle.records.specs.declared.Place.{Place}
-use Rattle.records.specs.declared.Place.TheVariants.{From, Nowhere}
 
 -- each kind of record has a number, 1 to 9
 abbrev pub record_kind : Observation → ℕ
@@ -69,30 +67,30 @@ abbrev pub record_index : ℕ → ℕ → ℕ → ℕ
 record_index quota domain number = record_size * (quota * domain + number)
 
 -- where a domain's records go in a log that keeps every domain's: into its part
-abbrev pub in_parts : ℕ → ℕ → Place
-in_parts quota domain = From (quota * domain)
+abbrev pub in_parts : ℕ → ℕ → Option ℕ
+in_parts quota domain = Some (quota * domain)
 
 -- where they go in a buffer that keeps those of one named domain: the named domain's from the
 -- buffer's start on, another's nowhere
-unfoldable pub only_of : ℕ → ℕ → Place
-only_of named domain = cond (eqb domain named) (From 0) Nowhere
+unfoldable pub only_of : ℕ → ℕ → Option ℕ
+only_of named domain = cond (eqb domain named) (Some 0) None
 
 -- either, by what is kept, where a part holds `quota` records
-abbrev pub places_of : Keep → ℕ → ℕ → Place
+abbrev pub places_of : Keep → ℕ → ℕ → Option ℕ
 places_of Every quota = in_parts quota
 places_of (One named) quota = only_of named
 
 -- how many bytes a log must have for the first records of a place: none where they go nowhere
-abbrev pub place_end : Place → ℕ → ℕ
-place_end (From first) count = record_size * (first + count)
-place_end Nowhere count = 0
+abbrev pub place_end : Option ℕ → ℕ → ℕ
+place_end (Some first) count = record_size * (first + count)
+place_end None count = 0
 
 -- a log with one record stored at a place, by its number there; as it was where the record goes
 -- nowhere
-unfoldable pub stored_at : Place → ℕ → Observation → ℕ → List ℕ → List ℕ
-stored_at (From first) number seen clock log =
+unfoldable pub stored_at : Option ℕ → ℕ → Observation → ℕ → List ℕ → List ℕ
+stored_at (Some first) number seen clock log =
     sets log (record_size * (first + number)) (record_bytes seen clock)
-stored_at Nowhere number seen clock log = log
+stored_at None number seen clock log = log
 
 -- a domain's own log: the bytes of the records that it has so far, from the start of its part
 unfoldable pub log_part : ℕ → ℕ → ℕ → List ℕ → List ℕ

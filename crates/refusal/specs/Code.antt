@@ -2,16 +2,15 @@
 -- its companion, the table's second item; and document 02's 15, 0 (E1), 16 with the colours'
 -- total (E2), 17 with the length needed (E4) and 18 with the domain (E6).
 -- Assumes nothing.
-use Rattle.std.specs.Prelude.{ℕ}
+use Rattle.std.specs.Prelude.{ℕ, Ok, Err}
 use Rattle.refusal.specs.declared.Code.{Code}
-use Rattle.refusal.specs.declared.Verdict.{Verdict}
-use Rattle.refusal.specs.declared.Verdict.TheVariants.{Accepted, Refused}
 use Rattle.refusal.specs.declared.Refusal.{Refusal}
 use Rattle.refusal.specs.declared.Refusal.TheVariants.{TextTooLong, BrokenShape, NumberOutOfLimits, WrongDomain, RepeatedOrMissing}
 use Rattle.refusal.specs.declared.Refusal.TheVariants.{NoColour, SharesOverThousand, BadRecipient, RunTooLong, TooMany}
 use Rattle.refusal.specs.declared.Refusal.TheVariants.{WrongLength, ImpossiblePlan, DamagedTable, ImpossibleState}
 use Rattle.refusal.specs.declared.Refusal.TheVariants.{FrameOutOfLimits, ColoursOverFifteen, BufferTooShort}
 use Rattle.refusal.specs.declared.Refusal.TheVariants.{LatestOutOfLimits}
+use Rattle.refusal.specs.Verdict.{Verdict}
 
 -- a number with its companion
 abbrev pub code_with : ℕ → ℕ → Code
@@ -40,5 +39,5 @@ refusal_code (LatestOutOfLimits domain) = code_with 18 domain
 
 -- "Acceptance is 0, 0"; a refusal has its own pair
 abbrev pub code_of : Verdict → Code
-code_of Accepted = code_with 0 0
-code_of (Refused refusal) = refusal_code refusal
+code_of (Ok tt) = code_with 0 0
+code_of (Err refusal) = refusal_code refusal

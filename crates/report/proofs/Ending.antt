@@ -5,7 +5,6 @@ use native.Mathlib.Omega.{arith}
 use lib.ListN.{length, length-replicate}
 use Rattle.script.specs.Limits.{scripts_length}
 use Rattle.bound.proofs.Largest.{bounded}
-use Rattle.refusal.specs.declared.Verdict.{Verdict}
 use Rattle.reader.specs.Draft.{no_ops}
 use Rattle.reader.specs.Read.{read_of}
 use Rattle.reader.proofs.Accepted.{accepted_valid, read_store}
@@ -15,6 +14,7 @@ use Rattle.engine.proofs.FreshRuns.{fresh_run_accepted, fresh_run_ends}
 use Rattle.report.specs.Limits.{largest_limit}
 use Rattle.report.specs.Planrun.{lent_log}
 use Rattle.report.specs.Theorems.{PlanrunEnds}
+use Rattle.refusal.specs.Verdict.{Verdict}
 
 pub planrun_ends : PlanrunEnds
 unfolding no_ops run_call_of ran_from

@@ -1,4 +1,5 @@
 -- All that the program prints has room in its buffer. Assumes nothing.
+use Rattle.std.specs.Prelude.{Ok, Err}
 use Prim.Native.Nat.{ℕ, ◌≤◌}
 use mathlib.Core.Bool.{true}
 use mathlib.Core.List.{List}
@@ -13,8 +14,6 @@ use Rattle.records.specs.Records.{part_records}
 use Rattle.records.proofs.Parts.{parts_fit}
 use Rattle.state.specs.declared.State.{State}
 use Rattle.state.specs.StateValidity.{state_valid}
-use Rattle.refusal.specs.declared.Verdict.{Verdict}
-use Rattle.refusal.specs.declared.Verdict.TheVariants.{Accepted, Refused}
 use Rattle.refusal.specs.Code.{refusal_code}
 use Rattle.reader.specs.Draft.{no_ops}
 use Rattle.reader.specs.Read.{ReadOutcome, read_of}
@@ -25,6 +24,7 @@ use Rattle.report.specs.Lines.{end_line, refusal_line, run_lines}
 use Rattle.report.specs.Planrun.{lent_log, planrun_of, planrun_run, ran_lines, read_lines}
 use Rattle.report.specs.Theorems.{PlanrunFits}
 use Rattle.report.proofs.LineLengths.{domains_limit, pair_limit}
+use Rattle.refusal.specs.Verdict.{Verdict}
 
 -- the lines of a run
 run_limit :
@@ -52,9 +52,9 @@ planrun_fits text = go (read_of text no_ops).verdict refl
     read = read_of text no_ops
 
     go : (verdict : Verdict) → read.verdict ≡ verdict → length (read_lines verdict read) ≤ most_printed
-    go (Refused refusal) is =
+    go (Err refusal) is =
         omega (arith, pair_limit (bytes_of "(refused ") (refusal_code refusal).number (refusal_code refusal).companion)
-    go Accepted is =
+    go (Ok tt) is =
         let valid = accepted_valid text no_ops is in
         let left = run_left read.plan read.scripts lent_log largest_limit valid in
         let long = length-replicate {A = ℕ} planrun_log 0 in

@@ -1,4 +1,5 @@
 -- How long the lines are at most. Assumes nothing.
+use Rattle.std.specs.Prelude.{Ok, Err}
 use Prim.Native.Nat.{ℕ, zero, suc, ◌+◌, ◌*◌, ◌/◌, ◌≤◌, ◌<◌}
 use Prim.Native.String.{String}
 use mathlib.Core.Bool.{Bool, true, false, cond, ◌&&◌}
@@ -23,13 +24,12 @@ use Rattle.records.specs.Records.{log_part, part_records, record_index, record_s
 use Rattle.state.specs.declared.State.{State}
 use Rattle.state.specs.StateValidity.{clock_valid, domain_counts_valid, state_valid}
 use Rattle.state.specs.World.{position_at, records_at}
-use Rattle.refusal.specs.declared.Verdict.{Verdict}
-use Rattle.refusal.specs.declared.Verdict.TheVariants.{Accepted, Refused}
 use Rattle.engine.specs.Checks.{log_verdict}
 use Rattle.engine.specs.LogQuery.{log_from, log_query_of}
 use Rattle.report.specs.Limits.{most_decimal, most_kind_word, most_seen_line}
 use Rattle.report.specs.Lines.{clock_at, domain_lines, kind_and_value, kind_at, kind_word, pair_line, record_lines}
 use Rattle.report.specs.Lines.{seen_line, seen_lines, value_at}
+use Rattle.refusal.specs.Verdict.{Verdict}
 
 -- ---- one line
 
@@ -122,8 +122,8 @@ module _ (plan : Plan) (state : State) (log : List ℕ)
       quota = part_records plan (length log)
 
       go : (verdict : Verdict) → length (log_from verdict plan state log domain) / record_size ≤ quota
-      go (Refused refusal) = omega arith
-      go Accepted =
+      go (Err refusal) = omega arith
+      go (Ok tt) =
           rw (length-take (record_size * records_at state domain) (drop (record_index quota domain 0) log))
           (omega (
             arith,

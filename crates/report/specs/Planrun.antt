@@ -1,9 +1,7 @@
 -- Document 01, "Settled numbers": what the program *planrun* prints for a text. Assumes nothing.
-use Rattle.std.specs.Prelude.{ℕ, List, replicate}
+use Rattle.std.specs.Prelude.{ℕ, List, replicate, Ok, Err}
 use Rattle.plan.specs.declared.Plan.{Plan}
 use Rattle.state.specs.World.{World}
-use Rattle.refusal.specs.declared.Verdict.{Verdict}
-use Rattle.refusal.specs.declared.Verdict.TheVariants.{Accepted, Refused}
 use Rattle.refusal.specs.Code.{refusal_code}
 use Rattle.reader.specs.Draft.{no_ops}
 use Rattle.reader.specs.Read.{ReadOutcome, read_of}
@@ -11,6 +9,7 @@ use Rattle.machine.specs.Fresh.{fresh_world}
 use Rattle.engine.specs.Running.{RunOutcome, run_call_of}
 use Rattle.report.specs.Limits.{largest_limit, planrun_log}
 use Rattle.report.specs.Lines.{refusal_line, run_lines}
+use Rattle.refusal.specs.Verdict.{Verdict}
 
 -- the log that it lends
 abbrev pub lent_log : List ℕ
@@ -26,8 +25,8 @@ ran_lines plan world = run_lines plan world.state world.log
 
 -- what is printed after a reading, by its verdict: the lines of the run, or the refusal's
 abbrev pub read_lines : Verdict → ReadOutcome → List ℕ
-read_lines Accepted read = ran_lines read.plan (planrun_run read.plan read.scripts).world
-read_lines (Refused refusal) read = refusal_line (refusal_code refusal)
+read_lines (Ok tt) read = ran_lines read.plan (planrun_run read.plan read.scripts).world
+read_lines (Err refusal) read = refusal_line (refusal_code refusal)
 
 -- from a plan's text to the printed lines
 unfoldable pub planrun_of : List ℕ → List ℕ

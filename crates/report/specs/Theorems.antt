@@ -1,8 +1,7 @@
 -- Document 01, "Settled numbers": what is proved of the program *planrun* for every text. Assumes
 -- nothing.
-use Rattle.std.specs.Prelude.{ℕ, ◌≤◌, List, ◌≡◌, length}
+use Rattle.std.specs.Prelude.{ℕ, ◌≤◌, List, ◌≡◌, length, Ok}
 use Rattle.plan.specs.declared.Plan.{Plan}
-use Rattle.refusal.specs.declared.Verdict.TheVariants.{Accepted}
 use Rattle.reader.specs.Draft.{no_ops}
 use Rattle.reader.specs.Read.{read_of}
 use Rattle.engine.specs.declared.Ending.TheVariants.{Ended}
@@ -12,14 +11,14 @@ use Rattle.lists.specs.Writing.{Wrote}
 
 -- the program's run of a plan comes to its end: it is not refused, and it answers *ended*
 pub record RunsToTheEnd (plan : Plan) (scripts : List ℕ) : Type 0 where
-  pub accepted : (planrun_run plan scripts).verdict ≡ Accepted
+  pub accepted : (planrun_run plan scripts).verdict ≡ Ok tt
   pub ended : (planrun_run plan scripts).ending ≡ Ended
 
 -- it runs every accepted plan to *ended*. Proved in proofs/Ending.antt.
 abbrev pub PlanrunEnds : Type 0
 PlanrunEnds =
     (text : List ℕ)
-    → (read_of text no_ops).verdict ≡ Accepted
+    → (read_of text no_ops).verdict ≡ Ok tt
     → RunsToTheEnd (read_of text no_ops).plan (read_of text no_ops).scripts
 
 -- all that it prints for any text has room in its buffer. Proved in proofs/Length.antt.

@@ -1,5 +1,6 @@
 -- A store that holds the ops of its scripts alone has zeros past each script's end, and in the parts of undeclared domains. A store
 -- without an op is such a store. Assumes nothing.
+use Rattle.std.specs.Prelude.{None}
 use Prim.Native.Nat.{ℕ, ◌+◌, ◌*◌, ◌/◌, ◌%◌, ◌≤◌, ◌<◌}
 use native.Mathlib.Omega.{arith}
 use mathlib.Core.Bool.{true}
@@ -12,7 +13,6 @@ use Rattle.lists.proofs.Tests.{second_passes}
 use Rattle.plan.specs.declared.Plan.{Plan}
 use Rattle.plan.specs.Limits.{most_domains}
 use Rattle.plan.proofs.Sums.{all_below_lem, below_all}
-use Rattle.script.specs.declared.ScriptItem.TheVariants.{End}
 use Rattle.script.specs.Fetch.{decode_of, fetch_of, op_of}
 use Rattle.script.specs.Limits.{most_ops, scripts_length}
 use Rattle.script.specs.ScriptEnd.{stored_ops}
@@ -74,5 +74,5 @@ none_alone plan =
 pub none_stored : (domain : ℕ) → stored_ops no_ops domain ≡ 0
 unfolding fetch_of decode_of op_of
 none_stored domain =
-    let first : fetch_of no_ops domain 0 ≡ End = ap decode_of (no_op_there domain 0) in
+    let first : fetch_of no_ops domain 0 ≡ None = ap decode_of (no_op_there domain 0) in
     sym (passed_end no_ops domain 0 (passed_none no_ops domain) (omega arith) first)

@@ -1,4 +1,5 @@
 -- The text of a plan and its scripts is a list of bytes. Assumes nothing.
+use Rattle.std.specs.Prelude.{Option, Some, None}
 use Prim.Native.Nat.{ℕ, zero, suc, ◌+◌}
 use native.Mathlib.Omega.{arith}
 use mathlib.Core.Bool.{true, and-eq-true_iff}
@@ -15,8 +16,6 @@ use Rattle.lists.specs.Ascii.{bytes_of}
 use Rattle.plan.specs.declared.Plan.{Plan}
 use Rattle.script.specs.declared.Op.{Op}
 use Rattle.script.specs.declared.Op.TheVariants.{Read, Write, Send, Receive, Compute}
-use Rattle.script.specs.declared.ScriptItem.{ScriptItem}
-use Rattle.script.specs.declared.ScriptItem.TheVariants.{Op as Fetch, End}
 use Rattle.script.specs.Fetch.{fetch_of}
 use Rattle.script.specs.ScriptEnd.{stored_ops}
 use Rattle.roundtrip.specs.Accepted.{is_byte}
@@ -96,10 +95,10 @@ op_line_lem : (domain : ℕ) (op : Op) → Bytes (op_line domain op)
 unfolding op_line
 op_line_lem domain op = both _ _ (both _ _ (both _ _ words.7 (decimal _)) (op_words_lem op)) signs.1
 
-item_line_lem : (domain : ℕ) (item : ScriptItem) → Bytes (item_line domain item)
+item_line_lem : (domain : ℕ) (item : Option Op) → Bytes (item_line domain item)
 unfolding item_line
-item_line_lem domain (Fetch op) = op_line_lem domain op
-item_line_lem domain End = none
+item_line_lem domain (Some op) = op_line_lem domain op
+item_line_lem domain None = none
 
 script_line_lem : (scripts : List ℕ) (domain position : ℕ) → Bytes (script_line scripts domain position)
 unfolding script_line

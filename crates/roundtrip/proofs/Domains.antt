@@ -1,4 +1,5 @@
 -- The written line of a domain is read as its share and its rights, and names only declared domains as recipients. Assumes nothing.
+use Rattle.std.specs.Prelude.{Ok, Err}
 use Prim.Native.Nat.{ℕ, ◌+◌, ◌^◌, ◌≤◌, ◌<◌}
 use native.Mathlib.Omega.{arith}
 use mathlib.Core.Bool.{Bool, true, false, cond}
@@ -9,7 +10,6 @@ use borrow.Author.Tests.{eq-eqb}
 use Rattle.forms.specs.declared.DomainParse.{DomainParse}
 use Rattle.forms.specs.declared.Form.{Form}
 use Rattle.forms.specs.declared.Form.TheVariants.{Domain}
-use Rattle.forms.specs.declared.FormParse.TheVariants.{Form as Took}
 use Rattle.forms.specs.Forms.{domain_form, listed_domain, may_form, next_domain, refused_domain}
 use Rattle.line.specs.declared.Line.{Line}
 use Rattle.line.specs.Lines.{form_keywords, line_at, noted_line}
@@ -20,7 +20,6 @@ use Rattle.plan.specs.Limits.{least_share, most_domains, most_share}
 use Rattle.plan.specs.Rights.{rights_at}
 use Rattle.refusal.specs.declared.Refusal.TheVariants.{WrongDomain}
 use Rattle.script.specs.Limits.{last_domain}
-use Rattle.syntax.specs.declared.NumberParse.TheVariants.{Number as Is, Refused as RefusedNumber}
 use Rattle.syntax.specs.Tokens.{same_bytes}
 use Rattle.lexer.specs.Bytes.{ends_run}
 use Rattle.lexer.specs.Decimal.{decimal_of}
@@ -39,7 +38,7 @@ form share rights = Domain (record { share = share; rights = rights })
 record Declares (text rest : List ℕ) (total share rights : ℕ) (domain : DomainParse) : Type 0 where
   named : List ℕ
   end : ℕ
-  is : domain ≡ record { parse = Took (form share rights) end; named = named }
+  is : domain ≡ record { parse = Ok ((form share rights), end); named = named }
   left : drop end text ≡ rest
   quiet : Quiet total named
 
@@ -62,8 +61,8 @@ next_takes text at own rest below left ends =
       start = taken.start;
       end = taken.end;
       is =
-          then_takes taken RefusedNumber _
-          ∙ ap (λ (test : Bool). cond test (Is own taken.start taken.end) (RefusedNumber (WrongDomain taken.start))) (eq-eqb own own refl);
+          then_takes taken Err _
+          ∙ ap (λ (test : Bool). cond test (Ok (number_with own taken.start taken.end)) (Err (WrongDomain taken.start))) (eq-eqb own own refl);
       left = taken.left;
     }
 

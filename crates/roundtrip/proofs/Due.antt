@@ -1,5 +1,6 @@
 -- What is due stands next: where what is left of a text begins with a bracket, a word, a number after a space or a line's end, taking that thing goes
 -- on to what follows it. Each law hands on what is left from there, so that they chain. Assumes nothing.
+use Rattle.std.specs.Prelude.{Result, Ok, Err}
 use Prim.Native.Nat.{ℕ, ◌+◌, ◌-◌, ◌≤◌, ◌<◌}
 use native.Mathlib.Omega.{arith}
 use mathlib.Core.Bool.{true}
@@ -11,10 +12,6 @@ use borrow.Author.Tests.{eq-eqb, le-leb}
 use Rattle.lists.specs.Ascii.{bytes_of}
 use Rattle.lists.specs.Part.{part}
 use Rattle.refusal.specs.declared.Refusal.{Refusal}
-use Rattle.syntax.specs.declared.TokenParse.{TokenParse}
-use Rattle.syntax.specs.declared.TokenParse.TheVariants.{To, Refused}
-use Rattle.syntax.specs.declared.NumberParse.{NumberParse}
-use Rattle.syntax.specs.declared.NumberParse.TheVariants.{Number as Is, Refused as RefusedNumber}
 use Rattle.syntax.specs.Brackets.{bracketed_number, pass_head}
 use Rattle.syntax.specs.Tokens.{is_word, pass_close, pass_line_end, pass_open, pass_word, same_bytes, take_number, then, then_number}
 use Rattle.lexer.specs.Bytes.{ends_run, is_letter}
@@ -23,18 +20,19 @@ use Rattle.lexer.specs.Scan.{all_bytes}
 use Rattle.lexer.proofs.Scanned.{close_token, end_token, feed_token, left_next, left_past, open_token, stops_at, token_space}
 use Rattle.lexer.proofs.Spelled.{number_token, word_token}
 use Rattle.writer.specs.Canonical.{followed}
+use Rattle.syntax.specs.declared.Number.{Number}
 
 -- what was due was there, and this is left past it
-pub record Goes (text rest : List ℕ) (passed : TokenParse) : Type 0 where
+pub record Goes (text rest : List ℕ) (passed : Result ℕ Refusal) : Type 0 where
   pub end : ℕ
-  pub to : passed ≡ To end
+  pub to : passed ≡ Ok end
   pub left : drop end text ≡ rest
 
 -- a number was due, and this one was there
-pub record Takes (text rest : List ℕ) (value : ℕ) (taken : NumberParse) : Type 0 where
+pub record Takes (text rest : List ℕ) (value : ℕ) (taken : Result Number Refusal) : Type 0 where
   pub start : ℕ
   pub end : ℕ
-  pub is : taken ≡ Is value start end
+  pub is : taken ≡ Ok (number_with value start end)
   pub left : drop end text ≡ rest
 
 -- a word is the same as itself
@@ -108,14 +106,14 @@ module _ (text : List ℕ) (at : ℕ) where
 -- ---- going on from what was there
 
 pub then_goes :
-    {A : Type 0} {text rest : List ℕ} {passed : TokenParse} (due : Goes text rest passed) (refused : Refusal → A) (go : ℕ → A)
+    {A : Type 0} {text rest : List ℕ} {passed : Result ℕ Refusal} (due : Goes text rest passed) (refused : Refusal → A) (go : ℕ → A)
     → then passed refused go ≡ go due.end
-then_goes due refused go = ap (λ (passed : TokenParse). then passed refused go) due.to
+then_goes due refused go = ap (λ (passed : Result ℕ Refusal). then passed refused go) due.to
 
 pub then_takes :
-    {A : Type 0} {text rest : List ℕ} {value : ℕ} {taken : NumberParse} (due : Takes text rest value taken) (refused : Refusal → A) (go : ℕ → ℕ → ℕ → A)
+    {A : Type 0} {text rest : List ℕ} {value : ℕ} {taken : Result Number Refusal} (due : Takes text rest value taken) (refused : Refusal → A) (go : ℕ → ℕ → ℕ → A)
     → then_number taken refused go ≡ go value due.start due.end
-then_takes due refused go = ap (λ (taken : NumberParse). then_number taken refused go) due.is
+then_takes due refused go = ap (λ (taken : Result Number Refusal). then_number taken refused go) due.is
 
 -- ---- what stands in brackets of its own
 
@@ -125,7 +123,7 @@ module _ (text : List ℕ) (at : ℕ) (word rest : List ℕ) (some : 0 < length 
   head_goes left ends =
       let opened = open_goes text at (word ++ rest) left in
       let worded = word_goes text opened.end word rest opened.left some letters ends in
-      record { end = worded.end; to = then_goes opened Refused (pass_word text word) ∙ worded.to; left = worded.left }
+      record { end = worded.end; to = then_goes opened Err (pass_word text word) ∙ worded.to; left = worded.left }
 
 pub bracketed_takes :
     (text : List ℕ) (at : ℕ) (word : List ℕ) (low high number : ℕ) (rest : List ℕ)
@@ -144,6 +142,6 @@ bracketed_takes text at word low high number rest some letters left least most s
     record {
       start = taken.start;
       end = closed.end;
-      is = then_goes worded RefusedNumber _ ∙ then_takes taken RefusedNumber _ ∙ then_goes closed RefusedNumber _;
+      is = then_goes worded Err _ ∙ then_takes taken Err _ ∙ then_goes closed Err _;
       left = closed.left;
     }

@@ -1,4 +1,5 @@
 -- The checks after the last line pass for a valid plan, and the masks that its shares give are those that it keeps. Assumes nothing.
+use Rattle.std.specs.Prelude.{Ok}
 use Prim.Native.Nat.{ℕ, zero, suc, ◌+◌, ◌-◌, ◌≤◌, ◌<◌}
 use native.Mathlib.Numerals.{add-one}
 use native.Mathlib.Omega.{arith}
@@ -17,7 +18,6 @@ use Rattle.plan.proofs.MaskLists.{mask_alike}
 use Rattle.lists.proofs.Tests.{both}
 use Rattle.plan.proofs.ValidPlans.{counts, declared, parts, undeclared}
 use Rattle.plan.proofs.Sums.{all_below_lem}
-use Rattle.refusal.specs.declared.Verdict.TheVariants.{Accepted}
 use Rattle.plan.specs.Zeros.{no_plan}
 use Rattle.reader.specs.DraftParts.{draft_with}
 use Rattle.reader.specs.Final.{final_verdict, first_colourless, lacking, mentions_from, plan_with_masks, shares_verdict}
@@ -121,7 +121,7 @@ pub accepted :
     (plan : Plan) (counts named : List ℕ) (text_length : ℕ)
     → plan_valid plan ≡ true
     → Quiet plan.domains named
-    → final_verdict text_length (draft_with (unmasked plan) counts named) ≡ Accepted
+    → final_verdict text_length (draft_with (unmasked plan) counts named) ≡ Ok tt
 unfolding final_verdict shares_verdict shares_total first_colour ticks_total
 accepted plan counts named text_length valid quiet =
     let sound = parts plan valid in

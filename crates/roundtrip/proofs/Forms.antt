@@ -1,4 +1,5 @@
 -- The written lines of pad, run and windows are read as what they say. Assumes nothing.
+use Rattle.std.specs.Prelude.{Ok, Err}
 use Prim.Native.Nat.{ℕ, ◌≤◌, ◌<◌}
 use native.Mathlib.Omega.{arith}
 use mathlib.Core.Bool.{Bool, true, cond}
@@ -7,7 +8,6 @@ use mathlib.Core.Path.{◌≡◌, refl, ap, ◌∙◌}
 use lib.ListN.{drop, get_or}
 use borrow.Author.Tests.{lt-ltb}
 use Rattle.forms.specs.declared.Form.TheVariants.{Pad, Run, Window}
-use Rattle.forms.specs.declared.FormParse.TheVariants.{Refused as RefusedForm}
 use Rattle.forms.specs.Forms.{declared_domain, pad_form, run_form, window_form}
 use Rattle.line.specs.Lines.{form_keywords, line_at}
 use Rattle.lists.specs.Ascii.{bytes_of}
@@ -15,7 +15,6 @@ use Rattle.plan.specs.declared.Plan.{Plan}
 use Rattle.plan.specs.Limits.{least_length, least_pad, least_run, most_domains, most_length, most_pad, most_run}
 use Rattle.refusal.specs.declared.Refusal.TheVariants.{WrongDomain}
 use Rattle.script.specs.Limits.{last_domain}
-use Rattle.syntax.specs.declared.NumberParse.TheVariants.{Number as Is, Refused as RefusedNumber}
 use Rattle.syntax.specs.Tokens.{same_bytes}
 use Rattle.lexer.specs.Bytes.{ends_run}
 use Rattle.lexer.specs.Decimal.{decimal_of}
@@ -38,7 +37,7 @@ module _ (text : List ℕ) (at : ℕ) where
   unfolding pad_form
   pad_within ticks rest least most left =
       let taken = number_takes text at least_pad most_pad ticks (41 ∷ rest) left least most (omega arith) refl in
-      record { end = taken.end; is = then_takes taken RefusedForm _; left = taken.left }
+      record { end = taken.end; is = then_takes taken Err _; left = taken.left }
 
   run_within :
       (times : ℕ) (rest : List ℕ)
@@ -49,7 +48,7 @@ module _ (text : List ℕ) (at : ℕ) where
   unfolding run_form
   run_within times rest least most left =
       let taken = number_takes text at least_run most_run times (41 ∷ rest) left least most (omega arith) refl in
-      record { end = taken.end; is = then_takes taken RefusedForm _; left = taken.left }
+      record { end = taken.end; is = then_takes taken Err _; left = taken.left }
 
   pub declared_takes :
       (declared domain : ℕ) (rest : List ℕ)
@@ -65,8 +64,8 @@ module _ (text : List ℕ) (at : ℕ) where
         start = taken.start;
         end = taken.end;
         is =
-            then_takes taken RefusedNumber _
-            ∙ ap (λ (test : Bool). cond test (Is domain taken.start taken.end) (RefusedNumber (WrongDomain taken.start)))
+            then_takes taken Err _
+            ∙ ap (λ (test : Bool). cond test (Ok (number_with domain taken.start taken.end)) (Err (WrongDomain taken.start)))
             (lt-ltb domain declared below);
         left = taken.left;
       }
@@ -85,7 +84,7 @@ module _ (text : List ℕ) (at : ℕ) where
       let taken =
       bracketed_takes text numbered.end (bytes_of "length") least_length most_length ticks rest (omega arith) refl numbered.left least most
       (omega arith) in
-      record { end = taken.end; is = then_takes numbered RefusedForm _ ∙ then_takes taken RefusedForm _; left = taken.left }
+      record { end = taken.end; is = then_takes numbered Err _ ∙ then_takes taken Err _; left = taken.left }
 
 -- ---- the lines
 

@@ -1,13 +1,12 @@
 -- A line of a written text: its opening bracket, the word that opens its form, the form itself, its closing bracket and its end. What a form says is
 -- left to the form's own law. Assumes nothing.
+use Rattle.std.specs.Prelude.{Result, Ok}
 use Prim.Native.Nat.{ℕ, ◌+◌, ◌<◌}
 use mathlib.Core.Bool.{Bool, true, false}
 use mathlib.Core.List.{List, [], ◌∷◌, ◌++◌}
 use mathlib.Core.Path.{◌≡◌, refl, ap, subst⁻¹, ◌∙◌}
 use lib.ListN.{drop, length}
 use Rattle.forms.specs.declared.Form.{Form}
-use Rattle.forms.specs.declared.FormParse.{FormParse}
-use Rattle.forms.specs.declared.FormParse.TheVariants.{Form as Took}
 use Rattle.line.specs.declared.Line.{Line}
 use Rattle.line.specs.Lines.{closed_line, form_keywords, form_line, line_at, line_with, refused_line, token_line}
 use Rattle.refusal.specs.declared.Refusal.{Refusal}
@@ -22,9 +21,9 @@ use Rattle.writer.specs.Canonical.{followed}
 use Rattle.roundtrip.proofs.Due.{close_goes, line_end_goes, then_goes, word_compared}
 
 -- a form is parsed, and this is left past it
-pub record Within (text rest : List ℕ) (form : Form) (parse : FormParse) : Type 0 where
+pub record Within (text rest : List ℕ) (form : Form) (parse : Result (Form × ℕ) Refusal) : Type 0 where
   pub end : ℕ
-  pub is : parse ≡ Took form end
+  pub is : parse ≡ Ok (form, end)
   pub left : drop end text ≡ rest
 
 -- a line gives this form, and this is left from its end on
@@ -36,7 +35,7 @@ pub record Reads (text rest : List ℕ) (form : Form) (named : List ℕ) (line :
 
 -- a form and its closing bracket, up to the line's end
 pub closed_reads :
-    (text : List ℕ) (bracket : ℕ) (named : List ℕ) (form : Form) (parse : FormParse) (more : List (List ℕ))
+    (text : List ℕ) (bracket : ℕ) (named : List ℕ) (form : Form) (parse : Result (Form × ℕ) Refusal) (more : List (List ℕ))
     → Within text (41 ∷ followed more) form parse
     → Reads text (followed more) form named (closed_line text bracket named parse)
 unfolding closed_line

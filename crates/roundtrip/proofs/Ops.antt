@@ -1,4 +1,5 @@
 -- The written line of an op is read as that op, in the script of the domain that it names. Assumes nothing.
+use Rattle.std.specs.Prelude.{Result, Ok, Err}
 use Prim.Native.Nat.{ℕ, ◌+◌, ◌≤◌, ◌<◌}
 use native.Mathlib.Omega.{arith}
 use mathlib.Core.Bool.{true}
@@ -6,7 +7,6 @@ use mathlib.Core.List.{List, ◌∷◌, ◌++◌, append_assoc}
 use mathlib.Core.Path.{◌≡◌, refl, ap, ◌∙◌}
 use lib.ListN.{drop, length}
 use Rattle.forms.specs.declared.Form.TheVariants.{Op as Script}
-use Rattle.forms.specs.declared.FormParse.TheVariants.{Refused as RefusedForm}
 use Rattle.forms.specs.Forms.{op_form}
 use Rattle.line.specs.Lines.{form_keywords, line_at}
 use Rattle.lists.specs.Ascii.{bytes_of}
@@ -15,8 +15,6 @@ use Rattle.refusal.specs.declared.Refusal.{Refusal}
 use Rattle.script.specs.declared.Op.{Op}
 use Rattle.script.specs.declared.Op.TheVariants.{Read, Write, Send, Receive, Compute}
 use Rattle.script.specs.Limits.{OpWithinLimits, last_domain, least_ticks, most_number, most_ticks, most_word}
-use Rattle.syntax.specs.declared.OpParse.{OpParse}
-use Rattle.syntax.specs.declared.OpParse.TheVariants.{Op as Took, Refused as RefusedOp}
 use Rattle.syntax.specs.Brackets.{bracketed_op}
 use Rattle.syntax.specs.Ops.{number_op, op_at, op_keywords, send_op, then_op}
 use Rattle.syntax.specs.Tokens.{same_bytes}
@@ -31,15 +29,15 @@ use Rattle.roundtrip.proofs.Forms.{declared_takes}
 use Rattle.roundtrip.proofs.Lines.{Reads, Within, closed_reads, line_reads, one_of_selected, selected}
 
 -- an op was due, and this one was there
-record TakesOp (text rest : List ℕ) (op : Op) (taken : OpParse) : Type 0 where
+record TakesOp (text rest : List ℕ) (op : Op) (taken : Result (Op × ℕ) Refusal) : Type 0 where
   end : ℕ
-  is : taken ≡ Took op end
+  is : taken ≡ Ok (op, end)
   left : drop end text ≡ rest
 
 then_takes_op :
-    {A : Type 0} {text rest : List ℕ} {op : Op} {taken : OpParse} (due : TakesOp text rest op taken) (refused : Refusal → A) (go : Op → ℕ → A)
+    {A : Type 0} {text rest : List ℕ} {op : Op} {taken : Result (Op × ℕ) Refusal} (due : TakesOp text rest op taken) (refused : Refusal → A) (go : Op → ℕ → A)
     → then_op taken refused go ≡ go op due.end
-then_takes_op due refused go = ap (λ (taken : OpParse). then_op taken refused go) due.is
+then_takes_op due refused go = ap (λ (taken : Result (Op × ℕ) Refusal). then_op taken refused go) due.is
 
 -- ---- the numbers, past the word
 
@@ -54,7 +52,7 @@ number_takes_op :
 unfolding number_op
 number_takes_op text at low high op number rest left least most small ends =
     let taken = number_takes text at low high number rest left least most small ends in
-    record { end = taken.end; is = then_takes taken RefusedOp _; left = taken.left }
+    record { end = taken.end; is = then_takes taken Err _; left = taken.left }
 
 send_takes_op :
     (text : List ℕ) (at recipient word : ℕ) (rest : List ℕ)
@@ -67,7 +65,7 @@ unfolding send_op
 send_takes_op text at recipient word rest left low small ends =
     let first = number_takes text at 0 last_domain recipient _ left (omega arith) low (omega arith) refl in
     let second = number_takes_op text first.end 0 most_word (Send recipient) word rest first.left (omega arith) small (omega arith) ends in
-    record { end = second.end; is = then_takes first RefusedOp _ ∙ second.is; left = second.left }
+    record { end = second.end; is = then_takes first Err _ ∙ second.is; left = second.left }
 
 -- ---- the op in its brackets
 
@@ -81,19 +79,19 @@ module _ (text : List ℕ) (at : ℕ) (rest : List ℕ) where
       → stops_at ends_run inner ≡ true
       → ((start : ℕ)
       → drop (start + length word) text ≡ inner
-      → TakesOp text (41 ∷ rest) op (selected (op_keywords text) word start (start + length word) RefusedOp))
+      → TakesOp text (41 ∷ rest) op (selected (op_keywords text) word start (start + length word) Err))
       → TakesOp text rest op (bracketed_op text at)
   unfolding bracketed_op op_at
   worded_op word inner op left some letters ends follow =
       let opened = open_goes text at (word ++ inner) left in
       let start = opened.end in
       let taken = follow start (left_past text start word inner opened.left) in
-      let worded = one_of_selected text start word inner RefusedOp opened.left (op_keywords text) some letters ends in
+      let worded = one_of_selected text start word inner Err opened.left (op_keywords text) some letters ends in
       let closed = close_goes text taken.end rest taken.left in
       let found : TakesOp text (41 ∷ rest) op (op_at text start) = record { end = taken.end; is = worded ∙ taken.is; left = taken.left } in
       record {
         end = closed.end;
-        is = then_goes opened RefusedOp _ ∙ then_takes_op found RefusedOp _ ∙ then_goes closed RefusedOp _;
+        is = then_goes opened Err _ ∙ then_takes_op found Err _ ∙ then_goes closed Err _;
         left = closed.left;
       }
 
@@ -136,7 +134,7 @@ unfolding op_form
 op_within text at declared domain op rest few below within left =
     let numbered = declared_takes text at declared domain _ few below left (op_ends op (41 ∷ rest)) in
     let taken = op_bracketed text numbered.end rest op within numbered.left in
-    record { end = taken.end; is = then_takes numbered RefusedForm _ ∙ then_takes_op taken RefusedForm _; left = taken.left }
+    record { end = taken.end; is = then_takes numbered Err _ ∙ then_takes_op taken Err _; left = taken.left }
 
 -- ---- the line
 

@@ -1,4 +1,5 @@
 -- The text of a valid plan and its scripts is accepted, and gives that plan and those scripts back. Assumes nothing.
+use Rattle.std.specs.Prelude.{Ok}
 use Prim.Native.Nat.{ℕ, ◌≤◌}
 use native.Mathlib.Omega.{arith}
 use mathlib.Core.Bool.{true}
@@ -11,8 +12,6 @@ use Rattle.plan.specs.declared.Plan.{Plan}
 use Rattle.plan.specs.Validity.{plan_valid}
 use Rattle.plan.specs.Limits.{most_domains, most_text_bytes}
 use Rattle.plan.proofs.ValidPlans.{counts}
-use Rattle.refusal.specs.declared.Verdict.{Verdict}
-use Rattle.refusal.specs.declared.Verdict.TheVariants.{Accepted}
 use Rattle.reader.specs.Draft.{DraftOutcome, no_draft, outcome_of, taken}
 use Rattle.reader.specs.DraftParts.{draft_with}
 use Rattle.reader.proofs.GoodDraft.{zeros}
@@ -24,6 +23,7 @@ use Rattle.roundtrip.proofs.Final.{accepted, masks_kept, read_all, read_none, un
 use Rattle.roundtrip.proofs.Progress.{plan_stands, so_far}
 use Rattle.roundtrip.proofs.Scripts.{AllRead, scripts_stand}
 use Rattle.roundtrip.proofs.Walk.{Stands, before_ops, no_line}
+use Rattle.refusal.specs.Verdict.{Verdict}
 
 module _ (plan : Plan) (scripts : List ℕ) (shaped : Shaped plan) (valid : plan_valid plan ≡ true) where
   -- the walk over the written text
@@ -67,16 +67,16 @@ pub read_back :
     → length (canonical_text plan scripts) ≤ most_text_bytes
     → length scripts ≡ scripts_length
     → length store ≡ scripts_length
-    → read_of (canonical_text plan scripts) store ≡ record { verdict = Accepted; plan = plan; scripts = scripts }
+    → read_of (canonical_text plan scripts) store ≡ record { verdict = Ok tt; plan = plan; scripts = scripts }
 unfolding read_of read_verdict
 read_back plan scripts store shaped valid alone fits long lent =
     let text = canonical_text plan scripts in
     let all = last_line plan scripts shaped valid alone long in
     let read = no_line text (lines_of text) plan.domains (record { plan = unmasked plan; counts = all.counts; store = scripts }) all.stands in
     let lines = outcome_of (taken (draft_with (unmasked plan) all.counts read.named)) scripts in
-    let verdict : read_verdict text store lines ≡ Accepted =
+    let verdict : read_verdict text store lines ≡ Ok tt =
     rw (eq-eqb (length store) scripts_length lent, le-ltb most_text_bytes (length text) fits)
     (accepted plan all.counts read.named (length text) valid read.quiet) in
     (ap (λ (outcome : DraftOutcome). read_with (read_verdict text store outcome) outcome store) read.gave
     ∙ ap (λ (verdict : Verdict). read_with verdict lines store) verdict
-    ∙ ap (λ (plan : Plan). record { verdict = Accepted; plan = plan; scripts = scripts }) (masks_kept plan shaped valid))
+    ∙ ap (λ (plan : Plan). record { verdict = Ok tt; plan = plan; scripts = scripts }) (masks_kept plan shaped valid))

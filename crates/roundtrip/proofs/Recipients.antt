@@ -1,5 +1,6 @@
 -- A written list of recipients is read as the rights that it was written from. The recipients rise, so that each is new to those before it, and what
 -- is read before a domain are the rights below it. Assumes nothing.
+use Rattle.std.specs.Prelude.{Ok}
 use Prim.Native.Nat.{ℕ, zero, suc, ◌+◌, ◌%◌, ◌^◌, ◌≤◌, ◌<◌}
 use native.Mathlib.Nat.{mod-one, not-suc-le-zero}
 use native.Mathlib.Omega.{arith}
@@ -13,8 +14,6 @@ use borrow.Author.Tests.{le-leb, ne_eqb}
 use Rattle.lists.specs.Ascii.{bytes_of}
 use Rattle.plan.specs.Colours.{has_bit}
 use Rattle.script.specs.Limits.{last_domain}
-use Rattle.syntax.specs.declared.TokenParse.TheVariants.{To}
-use Rattle.syntax.specs.declared.RecipientParse.TheVariants.{Next, Done}
 use Rattle.syntax.specs.declared.RecipientList.{RecipientList}
 use Rattle.syntax.specs.Recipients.{mention, next_recipient, recipient_at, recipients_at, recipients_from}
 use Rattle.syntax.specs.Tokens.{pass_close, take_number}
@@ -46,7 +45,7 @@ mention_quiet declared recipient start named below quiet domain past = go (eqb (
 pub record Lists (text rest : List ℕ) (declared rights : ℕ) (list : RecipientList) : Type 0 where
   pub end : ℕ
   pub named : List ℕ
-  pub is : list ≡ record { passed = To end; rights = rights; named = named }
+  pub is : list ≡ record { passed = Ok end; rights = rights; named = named }
   pub left : drop end text ≡ rest
   pub quiet : Quiet declared named
 
@@ -74,7 +73,7 @@ module _ (text rest : List ℕ) (declared own rights : ℕ) (few : declared ≤ 
   last domain (suc turns) at named all enough left quiet =
       let eight : domain ≡ 8 = omega arith in
       let whole : rights % 2 ^ domain ≡ rights = rw eight (bits_all rights declared small few) in
-      let done : recipient_at text own (rights % 2 ^ domain) at ≡ Done (at + 1) = rw (close_token text at rest left) in
+      let done : recipient_at text own (rights % 2 ^ domain) at ≡ Ok (Done (at + 1)) = rw (close_token text at rest left) in
       record { end = at + 1; named = named; is = rw (done, recipients_from, whole); left = left_next text at 41 rest left; quiet = quiet }
 
   -- a recipient that is listed
@@ -83,7 +82,7 @@ module _ (text rest : List ℕ) (declared own rights : ℕ) (few : declared ≤ 
       → domain < 8
       → has_bit rights domain ≡ true
       → drop at text ≡ 32 ∷ (decimal_of domain ++ (spaced more ++ 41 ∷ rest))
-      → recipient_at text own (rights % 2 ^ domain) at ≡ Next domain (at + 1) (at + 1 + length (decimal_of domain))
+      → recipient_at text own (rights % 2 ^ domain) at ≡ Ok (Next domain (at + 1) (at + 1 + length (decimal_of domain)))
   unfolding recipient_at next_recipient pass_close take_number
   next_at domain at more below has left =
       let other : (domain ≡ own → ⊥) = λ same. false≢true (sym not_own ∙ (rw (← same) has)) in

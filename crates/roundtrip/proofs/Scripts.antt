@@ -1,5 +1,6 @@
 -- Reading the lines of the ops, after those of the plan: the store so far is the scripts' up to where they are read, with zeros
 -- elsewhere. Assumes nothing.
+use Rattle.std.specs.Prelude.{Option, Some, None}
 use Prim.Native.Nat.{ℕ, zero, suc, ◌+◌, ◌-◌, ◌*◌, ◌≤◌, ◌<◌}
 use native.Mathlib.Omega.{arith}
 use mathlib.Core.Bool.{true}
@@ -13,8 +14,6 @@ use Rattle.lists.specs.Ascii.{bytes_of}
 use Rattle.plan.specs.declared.Plan.{Plan}
 use Rattle.plan.specs.Limits.{most_domains}
 use Rattle.script.specs.declared.Op.{Op}
-use Rattle.script.specs.declared.ScriptItem.{ScriptItem}
-use Rattle.script.specs.declared.ScriptItem.TheVariants.{Op as Fetch, End}
 use Rattle.script.specs.Fetch.{decode_of, fetch_of}
 use Rattle.script.specs.Limits.{most_ops, scripts_length}
 use Rattle.script.specs.ScriptEnd.{stored_ops}
@@ -101,13 +100,13 @@ module _ (text : List ℕ) (whole : DraftOutcome) (plan : Plan) (scripts : List 
       (domain position : ℕ) (op : Op) (more : List (List ℕ))
       → domain < plan.domains
       → position < most_ops
-      → fetch_of scripts domain position ≡ Fetch op
+      → fetch_of scripts domain position ≡ Some op
       → Left (op_line domain op ∷ more) domain position
       → Left more domain (position + 1)
   unfolding op_line bytes_of fetch_of
   op_stands domain position op more below within here left =
       let number = get_or scripts (most_ops * domain + position) 0 in
-      let decoded : decode_of number ≡ Fetch op = rw (lt-ltb position most_ops within) at here in
+      let decoded : decode_of number ≡ Some op = rw (lt-ltb position most_ops within) at here in
       let counted = left.counted in
       record {
         counts = set left.counts domain (position + 1);
@@ -136,12 +135,12 @@ module _ (text : List ℕ) (whole : DraftOutcome) (plan : Plan) (scripts : List 
   unfolding script_line item_line
   line_stands domain position more below before left = go (fetch_of scripts domain position) refl left
     where
-      go : (item : ScriptItem)
+      go : (item : Option Op)
           → fetch_of scripts domain position ≡ item
           → Left (item_line domain item ∷ more) domain position
           → Left more domain (position + 1)
-      go (Fetch op) here left = op_stands domain position op more below (omega (arith, (ends_at scripts domain).within)) here left
-      go End here left = absurd ((ends_at scripts domain).before position before here)
+      go (Some op) here left = op_stands domain position op more below (omega (arith, (ends_at scripts domain).within)) here left
+      go None here left = absurd ((ends_at scripts domain).before position before here)
 
   -- ---- a whole script, and all of them
 

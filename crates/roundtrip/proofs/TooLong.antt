@@ -1,4 +1,5 @@
 -- A full store of the longest ops has a canonical text that is too long to be read, and so no text gives it. Assumes nothing.
+use Rattle.std.specs.Prelude.{Some}
 use Prim.Native.Nat.{ℕ, zero, suc, ◌+◌, ◌*◌, ◌≤◌, ◌<◌}
 use native.Mathlib.Nat.{mul-suc}
 use native.Mathlib.Omega.{arith}
@@ -16,7 +17,6 @@ use Rattle.plan.specs.Validity.{counts_valid, declared_valid, domain_valid, mask
 use Rattle.plan.specs.Windows.{ticks_total}
 use Rattle.plan.proofs.Sums.{below_all}
 use Rattle.script.specs.declared.Op.TheVariants.{Send}
-use Rattle.script.specs.declared.ScriptItem.TheVariants.{Op as Fetch}
 use Rattle.script.specs.Fetch.{decode_of, fetch_of, op_of}
 use Rattle.script.specs.Limits.{most_ops, scripts_length}
 use Rattle.script.specs.ScriptEnd.{stored_ops}
@@ -38,7 +38,7 @@ unfolding
     counts_valid declared_valid domain_valid mask_valid plan_valid undeclared_valid window_valid ticks_total
 eight_valid = refl
 
-send_there : (domain position : ℕ) → domain < most_domains → position < most_ops → fetch_of all_sends domain position ≡ Fetch (Send 7 65_535)
+send_there : (domain position : ℕ) → domain < most_domains → position < most_ops → fetch_of all_sends domain position ≡ Some (Send 7 65_535)
 unfolding all_sends fetch_of decode_of op_of stored_of
 send_there domain position declared below =
     rw (lt-ltb position most_ops below, get_or-replicate scripts_length (most_ops * domain + position) (stored_of (Send 7 65_535)) 0 (omega arith)) refl

@@ -1,5 +1,6 @@
 -- Writing and reading undo each other, there is one text for each plan with its scripts, past it the buffer stays, 17 is told where there
 -- is no room, and 12 exactly where no accepted text gives the pair. Assumes nothing.
+use Rattle.std.specs.Prelude.{Ok, Err}
 use Prim.Native.Nat.{ℕ, ◌≤◌, ◌<◌}
 use native.Mathlib.Omega.{arith}
 use mathlib.Core.Bool.{Bool, true, false}
@@ -15,8 +16,6 @@ use Rattle.reader.specs.Draft.{no_ops}
 use Rattle.reader.specs.Read.{ReadOutcome, read_of}
 use Rattle.refusal.specs.Checks.{when}
 use Rattle.refusal.specs.declared.Refusal.TheVariants.{BufferTooShort, ImpossiblePlan, WrongLength}
-use Rattle.refusal.specs.declared.Verdict.{Verdict}
-use Rattle.refusal.specs.declared.Verdict.TheVariants.{Accepted, Refused}
 use Rattle.refusal.proofs.Passed.{not_refused, unless_passed, when_passed}
 use Rattle.refusal.proofs.Told.{same_number}
 use Rattle.writer.specs.Canonical.{canonical_text}
@@ -28,6 +27,7 @@ use Rattle.roundtrip.specs.Theorems.{GivenBoth, OneText, ReadBack, Repeats, Rest
 use Rattle.roundtrip.proofs.Bytes.{text_bytes}
 use Rattle.roundtrip.proofs.ReadBack.{read_back}
 use Rattle.roundtrip.proofs.Writable.{Fine, fine_of, fine_writable, read_fine, read_shaped, verdict_is, wrote}
+use Rattle.refusal.specs.Verdict.{Verdict}
 
 -- the canonical text of what can be written is read back
 fine_back :
@@ -44,7 +44,7 @@ reads_back plan scripts out store shaped lent accepted =
     ap (λ (text : List ℕ). read_of text store) written.output_is ∙ fine_back plan scripts store shaped lent written.fine
 
 -- what can be written is written wherever there is room
-fine_written : (plan : Plan) (scripts out : List ℕ) → Fine plan scripts → length (canonical_text plan scripts) ≤ length out → (write_of plan scripts out).verdict ≡ Accepted
+fine_written : (plan : Plan) (scripts out : List ℕ) → Fine plan scripts → length (canonical_text plan scripts) ≤ length out → (write_of plan scripts out).verdict ≡ Ok tt
 unfolding write_verdict
 fine_written plan scripts out fine room =
     verdict_is plan scripts out
@@ -121,11 +121,11 @@ rest_kept plan scripts out = go (write_verdict plan scripts (length out)) refl
         → write_verdict plan scripts (length out) ≡ verdict
         → ((write_from verdict text out).bytes ≤ length out)
         × (drop (write_from verdict text out).bytes (write_from verdict text out).out ≡ drop (write_from verdict text out).bytes out)
-    go (Refused refusal) is = (omega arith, refl)
-    go Accepted is =
+    go (Err refusal) is = (omega arith, refl)
+    go (Ok tt) is =
         let first = unless_passed (eqb (length scripts) scripts_length) WrongLength _ is in
         let second = unless_passed (writable plan scripts) ImpossiblePlan _ first.1 in
-        let third = when_passed (ltb (length out) (length text)) (BufferTooShort (length text)) Accepted second.1 in
+        let third = when_passed (ltb (length out) (length text)) (BufferTooShort (length text)) (Ok tt) second.1 in
         (ltb-false _ _ third.0, drop-append_seam text (drop (length text) out))
 
 pub seventeen_told : SeventeenTold
@@ -134,7 +134,7 @@ seventeen_told plan scripts out enough accepted short =
     let fine = written.fine in
     let less : length out < length (canonical_text plan scripts) = omega (arith, written.bytes_are, short) in
     sym (too_short plan scripts out fine.store fine.valid fine.alone fine.fits less)
-    ∙ ap (λ (needed : ℕ). write_with (Refused (BufferTooShort needed)) 0 out) (sym written.bytes_are)
+    ∙ ap (λ (needed : ℕ). write_with (Err (BufferTooShort needed)) 0 out) (sym written.bytes_are)
 
 -- ---- 12
 
@@ -155,7 +155,7 @@ given_fine plan scripts given =
     subst (λ (read : ReadOutcome). Fine read.plan read.scripts) given.reads (read_fine given.text given.store accepted)
 
 -- past 11 and 12 stands 17 alone
-not_twelve : (short : Bool) (needed : ℕ) → when short (BufferTooShort needed) Accepted ≡ Refused ImpossiblePlan → ⊥
+not_twelve : (short : Bool) (needed : ℕ) → when short (BufferTooShort needed) (Ok tt) ≡ Err ImpossiblePlan → ⊥
 not_twelve true needed refused = let number : ◌≡◌ {A = ℕ} 17 12 = same_number (BufferTooShort needed) ImpossiblePlan refused in omega arith
 not_twelve false needed refused = not_refused ImpossiblePlan (sym refused)
 
@@ -164,15 +164,15 @@ told :
     → Shaped plan
     → length scripts ≡ scripts_length
     → (GivenBoth plan scripts → ⊥)
-    → (write_of plan scripts out).verdict ≡ Refused ImpossiblePlan
+    → (write_of plan scripts out).verdict ≡ Err ImpossiblePlan
 unfolding write_verdict
 told plan scripts out shaped store none = verdict_is plan scripts out ∙ go (writable plan scripts) refl
   where
-    go : (test : Bool) → writable plan scripts ≡ test → write_verdict plan scripts (length out) ≡ Refused ImpossiblePlan
+    go : (test : Bool) → writable plan scripts ≡ test → write_verdict plan scripts (length out) ≡ Err ImpossiblePlan
     go true is = absurd (none (fine_given plan scripts shaped (fine_of plan scripts store is)))
     go false is = rw (eq-eqb (length scripts) scripts_length store, is) refl
 
-only : (plan : Plan) (scripts out : List ℕ) → (write_of plan scripts out).verdict ≡ Refused ImpossiblePlan → GivenBoth plan scripts → ⊥
+only : (plan : Plan) (scripts out : List ℕ) → (write_of plan scripts out).verdict ≡ Err ImpossiblePlan → GivenBoth plan scripts → ⊥
 unfolding write_verdict
 only plan scripts out refused given =
     let fine = given_fine plan scripts given in

@@ -1,11 +1,10 @@
 -- Document 01, "Two lists of calls": an *accepted plan* is one that the reader gives with 0, 0, and 12
 -- refuses every other. Assumes nothing.
-use Rattle.std.specs.Prelude.{ℕ, Bool, true, List, ◌↔◌, ◌≡◌, ltb, length}
+use Rattle.std.specs.Prelude.{ℕ, Bool, true, List, ◌↔◌, ◌≡◌, ltb, length, Ok}
 use Rattle.lexer.specs.Scan.{all_bytes}
 use Rattle.plan.specs.declared.Plan.{Plan}
 use Rattle.plan.specs.Limits.{most_domains, most_windows}
 use Rattle.plan.specs.Validity.{plan_valid}
-use Rattle.refusal.specs.declared.Verdict.TheVariants.{Accepted}
 use Rattle.reader.specs.Read.{read_of}
 
 -- what a plan value is known to be by its type: its arrays have an entry for each domain, and one for
@@ -26,7 +25,7 @@ pub record Given (plan : Plan) : Type 0 where
   pub text : List ℕ
   pub bytes : all_bytes is_byte text ≡ true
   pub scripts : List ℕ
-  pub accepted : (read_of text scripts).verdict ≡ Accepted
+  pub accepted : (read_of text scripts).verdict ≡ Ok tt
   pub gives : (read_of text scripts).plan ≡ plan
 
 -- plan validity (12) both ways: the valid plans are the accepted ones, and none besides

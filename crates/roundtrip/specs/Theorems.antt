@@ -1,12 +1,11 @@
 -- Document 02, E4: what writing and reading are to each other, for every plan and scripts; what is left of the
 -- buffer; and when 12 and 17 are told. Assumes nothing.
-use Rattle.std.specs.Prelude.{ℕ, ◌≤◌, ◌<◌, true, List, ◌↔◌, ◌≡◌, drop, length, take}
+use Rattle.std.specs.Prelude.{ℕ, ◌≤◌, ◌<◌, true, List, ◌↔◌, ◌≡◌, drop, length, take, Ok, Err}
 use Rattle.lexer.specs.Scan.{all_bytes}
 use Rattle.plan.specs.declared.Plan.{Plan}
 use Rattle.script.specs.Limits.{scripts_length}
 use Rattle.reader.specs.Read.{ReadOutcome, read_of}
 use Rattle.refusal.specs.declared.Refusal.TheVariants.{BufferTooShort, ImpossiblePlan}
-use Rattle.refusal.specs.declared.Verdict.TheVariants.{Accepted, Refused}
 use Rattle.writer.specs.Write.{WriteOutcome, write_of, write_with}
 use Rattle.roundtrip.specs.Accepted.{Shaped, is_byte}
 
@@ -16,7 +15,7 @@ output written = take written.bytes written.out
 
 -- what reading gives where nothing is refused
 abbrev pub gave : Plan → List ℕ → ReadOutcome
-gave plan scripts = record { verdict = Accepted; plan = plan; scripts = scripts }
+gave plan scripts = record { verdict = Ok tt; plan = plan; scripts = scripts }
 
 -- ---- the output is read back
 
@@ -27,7 +26,7 @@ ReadBack =
     (plan : Plan) (scripts out store : List ℕ)
     → Shaped plan
     → length store ≡ scripts_length
-    → (write_of plan scripts out).verdict ≡ Accepted
+    → (write_of plan scripts out).verdict ≡ Ok tt
     → read_of (output (write_of plan scripts out)) store ≡ gave plan scripts
 
 -- ---- every accepted text is written back
@@ -36,9 +35,9 @@ ReadBack =
 abbrev pub WrittenBack : Type 0
 WrittenBack =
     (text store out : List ℕ)
-    → (read_of text store).verdict ≡ Accepted
+    → (read_of text store).verdict ≡ Ok tt
     → length text ≤ length out
-    → (write_of (read_of text store).plan (read_of text store).scripts out).verdict ≡ Accepted
+    → (write_of (read_of text store).plan (read_of text store).scripts out).verdict ≡ Ok tt
 
 -- ---- the buffer
 
@@ -54,16 +53,16 @@ RestKept =
 abbrev pub SeventeenTold : Type 0
 SeventeenTold =
     (plan : Plan) (scripts out enough : List ℕ)
-    → (write_of plan scripts enough).verdict ≡ Accepted
+    → (write_of plan scripts enough).verdict ≡ Ok tt
     → length out < (write_of plan scripts enough).bytes
-    → write_of plan scripts out ≡ write_with (Refused (BufferTooShort (write_of plan scripts enough).bytes)) 0 out
+    → write_of plan scripts out ≡ write_with (Err (BufferTooShort (write_of plan scripts enough).bytes)) 0 out
 
 -- ---- one text for each plan with its scripts
 
 -- a text was accepted, and what it gave was written
 pub record ReadAndWritten (text store out : List ℕ) : Type 0 where
-  pub read : (read_of text store).verdict ≡ Accepted
-  pub wrote : (write_of (read_of text store).plan (read_of text store).scripts out).verdict ≡ Accepted
+  pub read : (read_of text store).verdict ≡ Ok tt
+  pub wrote : (write_of (read_of text store).plan (read_of text store).scripts out).verdict ≡ Ok tt
 
 -- the bytes that were written for it
 abbrev pub rewritten : List ℕ → List ℕ → List ℕ → List ℕ
@@ -84,7 +83,7 @@ Repeats =
     (plan : Plan) (scripts out store out' : List ℕ)
     → Shaped plan
     → length store ≡ scripts_length
-    → (write_of plan scripts out).verdict ≡ Accepted
+    → (write_of plan scripts out).verdict ≡ Ok tt
     → (write_of plan scripts out).bytes ≤ length out'
     → ReadAndWritten (output (write_of plan scripts out)) store out'
     × (rewritten (output (write_of plan scripts out)) store out' ≡ output (write_of plan scripts out))
@@ -103,8 +102,8 @@ pub record TwelveExactly (plan : Plan) (scripts out : List ℕ) : Type 0 where
   pub told :
       length scripts ≡ scripts_length
       → (GivenBoth plan scripts → ⊥)
-      → (write_of plan scripts out).verdict ≡ Refused ImpossiblePlan
-  pub only : (write_of plan scripts out).verdict ≡ Refused ImpossiblePlan → GivenBoth plan scripts → ⊥
+      → (write_of plan scripts out).verdict ≡ Err ImpossiblePlan
+  pub only : (write_of plan scripts out).verdict ≡ Err ImpossiblePlan → GivenBoth plan scripts → ⊥
 
 abbrev pub TwelveTold : Type 0
 TwelveTold = (plan : Plan) (scripts out : List ℕ) → Shaped plan → TwelveExactly plan scripts out

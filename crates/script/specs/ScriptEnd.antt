@@ -1,6 +1,5 @@
 -- Document 02, E3: the stored ops of a script, which are those before its end. Assumes nothing.
-use Rattle.std.specs.Prelude.{ℕ, zero, suc, ◌+◌, List}
-use Rattle.script.specs.declared.ScriptItem.TheVariants.{Op as Fetch, End}
+use Rattle.std.specs.Prelude.{ℕ, zero, suc, ◌+◌, List, Some, None}
 use Rattle.script.specs.Fetch.{fetch_of}
 use Rattle.script.specs.Limits.{most_ops}
 
@@ -10,8 +9,8 @@ unfoldable pub ops_in_row : List ℕ → ℕ → ℕ → ℕ → ℕ
 ops_in_row scripts domain zero position = 0
 ops_in_row scripts domain (suc count) position =
     elim (fetch_of scripts domain position) [
-      | Fetch op ↦ ops_in_row scripts domain count (position + 1) + 1
-      | End ↦ 0
+      | Some op ↦ ops_in_row scripts domain count (position + 1) + 1
+      | None ↦ 0
     ]
 
 -- the ops of a script: those before the first number that no op gives, and all where there is none

@@ -1,6 +1,5 @@
 -- Document 02, E3: what the number of a script's ops is, said without counting. Assumes nothing.
-use Rattle.std.specs.Prelude.{ℕ, ◌≤◌, ◌<◌, List, ◌≡◌}
-use Rattle.script.specs.declared.ScriptItem.TheVariants.{End}
+use Rattle.std.specs.Prelude.{ℕ, ◌≤◌, ◌<◌, List, ◌≡◌, None}
 use Rattle.script.specs.ScriptEnd.{stored_ops}
 use Rattle.script.specs.Fetch.{fetch_of}
 use Rattle.script.specs.Limits.{most_ops}
@@ -8,8 +7,8 @@ use Rattle.script.specs.Limits.{most_ops}
 -- a script ends at a position: an op stands at each before it, and none there
 pub record EndsAt (scripts : List ℕ) (domain end : ℕ) : Type 0 where
   pub within : end ≤ most_ops
-  pub before : (position : ℕ) → position < end → fetch_of scripts domain position ≡ End → ⊥
-  pub there : fetch_of scripts domain end ≡ End
+  pub before : (position : ℕ) → position < end → fetch_of scripts domain position ≡ None → ⊥
+  pub there : fetch_of scripts domain end ≡ None
 
 -- every script has as many ops as positions before its end, and ends at no other
 pub record ScriptsEnd : Type 0 where

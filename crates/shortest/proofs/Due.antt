@@ -1,5 +1,6 @@
 -- How far taking what is due goes on in the text: a bracket a byte, a word its letters, and a number after a word or another number a space and the
 -- digits of its decimal form. Assumes nothing.
+use Rattle.std.specs.Prelude.{Result, Ok, Err}
 use Prim.Native.Nat.{ℕ, ◌+◌, ◌-◌, ◌≤◌, ◌<◌}
 use native.Mathlib.Omega.{arith}
 use mathlib.Core.Bool.{true, cond, true≢false, ◌&&◌}
@@ -12,10 +13,6 @@ use Rattle.lists.specs.Part.{part}
 use Rattle.lists.proofs.Parts.{part_limit}
 use Rattle.refusal.specs.declared.Refusal.{Refusal}
 use Rattle.refusal.specs.declared.Refusal.TheVariants.{BrokenShape, NumberOutOfLimits}
-use Rattle.syntax.specs.declared.TokenParse.{TokenParse}
-use Rattle.syntax.specs.declared.TokenParse.TheVariants.{To, Refused}
-use Rattle.syntax.specs.declared.NumberParse.{NumberParse}
-use Rattle.syntax.specs.declared.NumberParse.TheVariants.{Number as Is, Refused as RefusedNumber}
 use Rattle.syntax.specs.Brackets.{bracketed_number, pass_head}
 use Rattle.syntax.specs.Keywords.{Keyword, follows, one_of}
 use Rattle.syntax.specs.Tokens.{due, is_word, pass_close, pass_line_end, pass_open, pass_word, take_number, then, then_number}
@@ -26,6 +23,7 @@ use Rattle.lexer.specs.Tokens.{close_kind, line_end_kind, long_number_kind, numb
 use Rattle.lexer.proofs.Reached.{cond_holds, token_bounds}
 use Rattle.shortest.proofs.Runs.{RunOver}
 use Rattle.shortest.proofs.Tokens.{bracket_long, token_spans}
+use Rattle.syntax.specs.declared.Number.{Number}
 
 -- ---- by the next token
 
@@ -64,26 +62,26 @@ module _
 -- ---- a bracket, a line's end
 
 -- a fact of the offset that is reached, where what was due was there
-abbrev OfToken : (ℕ → Type 0) → TokenParse → Type 0
-OfToken Fact (To end) = Fact end
-OfToken Fact (Refused refusal) = Unit {0}
+abbrev OfToken : (ℕ → Type 0) → Result ℕ Refusal → Type 0
+OfToken Fact (Ok end) = Fact end
+OfToken Fact (Err refusal) = Unit {0}
 
-record Reaches (Fact : ℕ → Type 0) (passed : TokenParse) : Type 0 where
+record Reaches (Fact : ℕ → Type 0) (passed : Result ℕ Refusal) : Type 0 where
   reaches : OfToken Fact passed
 
 by_passed :
-    {A : Type 0} (P : A → Type 0) (Fact : ℕ → Type 0) (passed : TokenParse) (refused : Refusal → A) (go : ℕ → A)
+    {A : Type 0} (P : A → Type 0) (Fact : ℕ → Type 0) (passed : Result ℕ Refusal) (refused : Refusal → A) (go : ℕ → A)
     → OfToken Fact passed
     → ((refusal : Refusal) → P (refused refusal))
     → ((end : ℕ) → Fact end → P (go end))
     → P (then passed refused go)
-by_passed P Fact (To end) refused go fact none goes = goes end fact
-by_passed P Fact (Refused refusal) refused go fact none goes = none refusal
+by_passed P Fact (Ok end) refused go fact none goes = goes end fact
+by_passed P Fact (Err refusal) refused go fact none goes = none refusal
 
 module _ (text : List ℕ) (at : ℕ) where
-  bracket_reaches : (kind : ℕ) → 0 < kind → kind < word_kind → Reaches (λ end. at < end) (due kind (token_at text at) Refused λ start end. To end)
+  bracket_reaches : (kind : ℕ) → 0 < kind → kind < word_kind → Reaches (λ end. at < end) (due kind (token_at text at) Err λ start end. Ok end)
   bracket_reaches kind some few =
-      due_bracket (Reaches λ end. at < end) text at Refused (λ start end. To end) (λ _. record { reaches = tt }) kind some few
+      due_bracket (Reaches λ end. at < end) text at Err (λ start end. Ok end) (λ _. record { reaches = tt }) kind some few
       λ start end past long. record { reaches = omega arith }
 
   open_reaches : Reaches (λ end. at < end) (pass_open text at)
@@ -98,7 +96,7 @@ module _ (text : List ℕ) (at : ℕ) where
   unfolding pass_line_end
   line_end_reaches =
       let bounds = token_bounds text at in
-      due_kind (Reaches λ end. at ≤ end) text at Refused (λ start end. To end) (λ _. record { reaches = tt }) line_end_kind
+      due_kind (Reaches λ end. at ≤ end) text at Err (λ start end. Ok end) (λ _. record { reaches = tt }) line_end_kind
       λ is. record { reaches = omega (arith, bounds.least, bounds.order) }
 
 module _
@@ -133,9 +131,9 @@ word_reaches : (text word : List ℕ) (at : ℕ) → Reaches (Worded text at (le
 unfolding pass_word
 word_reaches text word at =
     let P = Reaches (Worded text at (length word)) in
-    due_word P text at Refused (λ start end. cond (is_word text start end word) (To end) (Refused (BrokenShape start))) (λ _. record { reaches = tt })
+    due_word P text at Err (λ start end. cond (is_word text start end word) (Ok end) (Err (BrokenShape start))) (λ _. record { reaches = tt })
     λ start end past order over.
-    cond_holds P (is_word text start end word) (To end) (Refused (BrokenShape start))
+    cond_holds P (is_word text start end word) (Ok end) (Err (BrokenShape start))
     (λ is. record { reaches = record { long = omega (arith, word_long text word start end order is); over = over } })
     (λ _. record { reaches = tt })
 
@@ -144,16 +142,16 @@ head_reaches : (text word : List ℕ) (at : ℕ) → Reaches (Worded text at (1 
 unfolding pass_head
 head_reaches text word at =
     let P = Reaches (Worded text at (1 + length word)) in
-    then_open P text at Refused (pass_word text word) (λ _. record { reaches = tt }) λ opened past.
+    then_open P text at Err (pass_word text word) (λ _. record { reaches = tt }) λ opened past.
     further (pass_word text word opened) (omega arith) (word_reaches text word opened).reaches
   where
     further :
-        {opened : ℕ} (passed : TokenParse)
+        {opened : ℕ} (passed : Result ℕ Refusal)
         → at < opened
         → OfToken (Worded text opened (length word)) passed
         → Reaches (Worded text at (1 + length word)) passed
-    further (To end) past worded = record { reaches = record { long = omega arith; over = worded.over } }
-    further (Refused refusal) past worded = record { reaches = tt }
+    further (Ok end) past worded = record { reaches = record { long = omega arith; over = worded.over } }
+    further (Err refusal) past worded = record { reaches = tt }
 
 pub then_head :
     {A : Type 0} (P : A → Type 0) (text word : List ℕ) (at : ℕ) (refused : Refusal → A) (go : ℕ → A)
@@ -198,21 +196,21 @@ pub record Spaced (text : List ℕ) (at value end : ℕ) : Type 0 where
   pub long : at + 1 + length (decimal_of value) ≤ end
   pub over : RunOver text end
 
-abbrev OfValue : (ℕ → ℕ → Type 0) → NumberParse → Type 0
-OfValue Fact (Is value start end) = Fact value end
-OfValue Fact (RefusedNumber refusal) = Unit {0}
+abbrev OfValue : (ℕ → ℕ → Type 0) → Result Number Refusal → Type 0
+OfValue Fact (Ok (number_with value start end)) = Fact value end
+OfValue Fact (Err refusal) = Unit {0}
 
-pub record Takes (Fact : ℕ → ℕ → Type 0) (taken : NumberParse) : Type 0 where
+pub record Takes (Fact : ℕ → ℕ → Type 0) (taken : Result Number Refusal) : Type 0 where
   pub takes : OfValue Fact taken
 
 pub by_taken :
-    {A : Type 0} (P : A → Type 0) (Fact : ℕ → ℕ → Type 0) (taken : NumberParse) (refused : Refusal → A) (go : ℕ → ℕ → ℕ → A)
+    {A : Type 0} (P : A → Type 0) (Fact : ℕ → ℕ → Type 0) (taken : Result Number Refusal) (refused : Refusal → A) (go : ℕ → ℕ → ℕ → A)
     → Takes Fact taken
     → ((refusal : Refusal) → P (refused refusal))
     → ((value start end : ℕ) → Fact value end → P (go value start end))
     → P (then_number taken refused go)
-by_taken P Fact (Is value start end) refused go fact none goes = goes value start end fact.takes
-by_taken P Fact (RefusedNumber refusal) refused go fact none goes = none refusal
+by_taken P Fact (Ok (number_with value start end)) refused go fact none goes = goes value start end fact.takes
+by_taken P Fact (Err refusal) refused go fact none goes = none refusal
 
 number_takes : (text : List ℕ) (low high at : ℕ) → RunOver text at → Takes (Spaced text at) (take_number text low high at)
 unfolding take_number
@@ -222,9 +220,9 @@ number_takes text low high at before =
     let spans = token_spans text at in
     let within = leb low (token_value token) && leb (token_value token) high in
     cond_holds P (eqb (token_kind token) long_number_kind) _ _ (λ _. record { takes = tt }) λ _.
-    due_kind P text at RefusedNumber (λ start end. cond within (Is (token_value token) start end) (RefusedNumber (NumberOutOfLimits start)))
+    due_kind P text at Err (λ start end. cond within (Ok (number_with (token_value token) start end)) (Err (NumberOutOfLimits start)))
     (λ _. record { takes = tt }) number_kind λ is.
-    cond_holds P within (Is (token_value token) (token_start token) (token_end token)) (RefusedNumber (NumberOutOfLimits (token_start token)))
+    cond_holds P within (Ok (number_with (token_value token) (token_start token) (token_end token))) (Err (NumberOutOfLimits (token_start token)))
     (λ _.
     let digits = spans.digits is in
     record { takes = record { long = omega (arith, digits.apart before, digits.enough); over = spans.over (omega arith) } })
@@ -246,7 +244,7 @@ bracketed_takes :
 unfolding bracketed_number
 bracketed_takes text word low high at =
     let P = Takes λ value end. at + 3 + length word + length (decimal_of value) ≤ end in
-    let none : (refusal : Refusal) → P (RefusedNumber refusal) = λ _. record { takes = tt } in
+    let none : (refusal : Refusal) → P (Err refusal) = λ _. record { takes = tt } in
     then_head P text word at _ _ none λ worded head.
     then_number_lem P text low high worded _ _ head.over none λ value start end spaced.
     then_close P text end _ _ none λ closed past.

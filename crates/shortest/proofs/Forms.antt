@@ -1,4 +1,5 @@
 -- A form that is taken is no shorter than its canonical spelling, the bracket that closes it left out. Assumes nothing.
+use Rattle.std.specs.Prelude.{Result, Ok, Err}
 use Prim.Native.Nat.{ℕ, ◌+◌, ◌≤◌}
 use native.Mathlib.Omega.{arith}
 use mathlib.Core.List.{List}
@@ -11,17 +12,12 @@ use Rattle.plan.specs.Limits.{least_length, least_pad, least_run, least_share, m
 use Rattle.refusal.specs.declared.Refusal.{Refusal}
 use Rattle.refusal.specs.declared.Refusal.TheVariants.{WrongDomain}
 use Rattle.script.specs.Limits.{last_domain}
-use Rattle.syntax.specs.declared.NumberParse.TheVariants.{Number as Is, Refused as RefusedNumber}
 use Rattle.syntax.specs.declared.RecipientList.{RecipientList}
-use Rattle.syntax.specs.declared.TokenParse.{TokenParse}
-use Rattle.syntax.specs.declared.TokenParse.TheVariants.{To, Refused}
 use Rattle.syntax.specs.Recipients.{recipients_at}
 use Rattle.syntax.specs.Tokens.{then}
 use Rattle.forms.specs.declared.DomainParse.{DomainParse}
 use Rattle.forms.specs.declared.Form.{Form}
 use Rattle.forms.specs.declared.Form.TheVariants.{Blank, Pad, Run, Domain, Window, Op as Script, Refused as NoForm}
-use Rattle.forms.specs.declared.FormParse.{FormParse}
-use Rattle.forms.specs.declared.FormParse.TheVariants.{Form as Took, Refused as RefusedForm}
 use Rattle.forms.specs.Forms.{declared_domain, domain_form, listed_domain, may_form, next_domain, op_form, pad_form, refused_domain, run_form, window_form}
 use Rattle.lexer.specs.Decimal.{decimal_of}
 use Rattle.lexer.proofs.Reached.{cond_holds}
@@ -43,11 +39,11 @@ CoversForm declared at (Script line) end = at + length (spelled declared (Script
 CoversForm declared at (NoForm refusal) end = Unit {0}
 
 -- the same of a form that is parsed up to its closing bracket
-abbrev OfForm : ℕ → ℕ → FormParse → Type 0
-OfForm declared at (Took form end) = CoversForm declared at form (end + 1)
-OfForm declared at (RefusedForm refusal) = Unit {0}
+abbrev OfForm : ℕ → ℕ → Result (Form × ℕ) Refusal → Type 0
+OfForm declared at (Ok (form, end)) = CoversForm declared at form (end + 1)
+OfForm declared at (Err refusal) = Unit {0}
 
-pub record CoversParse (declared at : ℕ) (parse : FormParse) : Type 0 where
+pub record CoversParse (declared at : ℕ) (parse : Result (Form × ℕ) Refusal) : Type 0 where
   pub covers : OfForm declared at parse
 
 pub record CoversDomain (declared at : ℕ) (domain : DomainParse) : Type 0 where
@@ -61,7 +57,7 @@ module _ (text : List ℕ) (declared at : ℕ) (before : RunOver text at) where
   declared_takes =
       let P = Takes (Spaced text at) in
       then_number_lem P text 0 last_domain at _ _ before (λ _. record { takes = tt }) λ domain start end apart.
-      cond_holds P (ltb domain declared) (Is domain start end) (RefusedNumber (WrongDomain start))
+      cond_holds P (ltb domain declared) (Ok (number_with domain start end)) (Err (WrongDomain start))
       (λ _. record { takes = apart })
       (λ _. record { takes = tt })
 
@@ -71,14 +67,14 @@ module _ (text : List ℕ) (declared at : ℕ) (before : RunOver text at) where
   next_takes =
       let P = Takes λ value end. (value ≡ declared) × Spaced text at value end in
       then_number_lem P text 0 last_domain at _ _ before (λ _. record { takes = tt }) λ domain start end apart.
-      cond_holds P (eqb domain declared) (Is domain start end) (RefusedNumber (WrongDomain start))
+      cond_holds P (eqb domain declared) (Ok (number_with domain start end)) (Err (WrongDomain start))
       (λ same. record { takes = (eqb-true domain declared same, apart) })
       (λ _. record { takes = tt })
 
 -- ---- the forms, past their words
 
 module _ (text : List ℕ) (declared at here : ℕ) (before : RunOver text here) where
-  none : (refusal : Refusal) → CoversParse declared at (RefusedForm refusal)
+  none : (refusal : Refusal) → CoversParse declared at (Err refusal)
   none refusal = record { covers = tt }
 
   pub pad_covers : at + 4 ≤ here → CoversParse declared at (pad_form text here)
@@ -121,13 +117,13 @@ module _ (text : List ℕ) (declared at here : ℕ) (before : RunOver text here)
   listed_covers share first list past = go list.passed
     where
       go :
-          (passed : TokenParse)
+          (passed : Result ℕ Refusal)
           → CoversPassed first list.rights passed
           → CoversDomain declared at
           (then passed (refused_domain list.named) λ end.
-          record { parse = Took (Domain (record { share = share; rights = list.rights })) end; named = list.named })
-      go (To end) long = record { parse = record { covers = simp length-append (omega arith) } }
-      go (Refused refusal) long = record { parse = record { covers = tt } }
+          record { parse = Ok ((Domain (record { share = share; rights = list.rights })), end); named = list.named })
+      go (Ok end) long = record { parse = record { covers = simp length-append (omega arith) } }
+      go (Err refusal) long = record { parse = record { covers = tt } }
 
   pub domain_covers : (named : List ℕ) → at + 7 ≤ here → CoversDomain declared at (domain_form text declared named here)
   unfolding domain_form may_form bytes_of

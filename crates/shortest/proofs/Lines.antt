@@ -1,4 +1,5 @@
 -- Document 02, E4: a line that is taken is no shorter than the canonical spelling of its form. Assumes nothing.
+use Rattle.std.specs.Prelude.{Result, Ok, Err}
 use Prim.Native.Nat.{ℕ, ◌+◌, ◌≤◌}
 use native.Mathlib.Omega.{arith}
 use mathlib.Core.List.{List}
@@ -6,8 +7,6 @@ use lib.Dec.{eqb}
 use Rattle.lists.specs.Ascii.{bytes_of}
 use Rattle.forms.specs.declared.Form.{Form}
 use Rattle.forms.specs.declared.Form.TheVariants.{Blank, Pad, Run, Domain, Window, Op as Script, Refused as NoForm}
-use Rattle.forms.specs.declared.FormParse.{FormParse}
-use Rattle.forms.specs.declared.FormParse.TheVariants.{Form as Took, Refused as RefusedForm}
 use Rattle.forms.specs.Forms.{domain_form}
 use Rattle.refusal.specs.declared.Refusal.{Refusal}
 use Rattle.line.specs.declared.Line.{Line}
@@ -40,10 +39,10 @@ module _ (text : List ℕ) (declared : ℕ) (named : List ℕ) (at : ℕ) where
   none bracket marked refusal = record { covers = tt }
 
   closed_covers :
-      (bracket : ℕ) (marked : List ℕ) (parse : FormParse) → CoversParse declared at parse → LineCovers declared at (closed_line text bracket marked parse)
+      (bracket : ℕ) (marked : List ℕ) (parse : Result (Form × ℕ) Refusal) → CoversParse declared at parse → LineCovers declared at (closed_line text bracket marked parse)
   unfolding closed_line
-  closed_covers bracket marked (RefusedForm refusal) parsed = none bracket marked refusal
-  closed_covers bracket marked (Took form end) parsed =
+  closed_covers bracket marked (Err refusal) parsed = none bracket marked refusal
+  closed_covers bracket marked (Ok (form, end)) parsed =
       let P = LineCovers declared at in
       then_close P text end _ _ (none bracket marked) λ closed past.
       then_line_end P text closed _ _ (none bracket marked) λ ended further.

@@ -1,5 +1,6 @@
 -- A list of recipients that is taken is no shorter than the canonical list of its rights: each recipient is new, and takes a space and its digits.
 -- Assumes nothing.
+use Rattle.std.specs.Prelude.{Result, Ok, Err}
 use Prim.Native.Nat.{ℕ, zero, suc, ◌+◌, ◌^◌, ◌≤◌, ◌<◌}
 use native.Mathlib.Omega.{arith}
 use mathlib.Core.Bool.{Bool, true, false, cond, ◌||◌}
@@ -12,10 +13,6 @@ use Rattle.plan.specs.Colours.{has_bit}
 use Rattle.plan.specs.Limits.{most_domains}
 use Rattle.refusal.specs.declared.Refusal.TheVariants.{BadRecipient}
 use Rattle.script.specs.Limits.{last_domain}
-use Rattle.syntax.specs.declared.TokenParse.{TokenParse}
-use Rattle.syntax.specs.declared.TokenParse.TheVariants.{To, Refused}
-use Rattle.syntax.specs.declared.RecipientParse.{RecipientParse}
-use Rattle.syntax.specs.declared.RecipientParse.TheVariants.{Next, Done, Refused as RefusedRecipient}
 use Rattle.syntax.specs.declared.RecipientList.{RecipientList}
 use Rattle.syntax.specs.Recipients.{mention, next_recipient, recipient_at, recipients_at, recipients_from}
 use Rattle.syntax.proofs.Choices.{neither, same_or_not}
@@ -25,6 +22,8 @@ use Rattle.lexer.proofs.Reached.{cond_holds}
 use Rattle.writer.specs.Lines.{recipients_of, rising_from, spaced}
 use Rattle.shortest.proofs.Due.{Spaced, then_close, then_number_lem}
 use Rattle.shortest.proofs.Runs.{RunOver}
+use Rattle.syntax.specs.declared.RecipientItem.{RecipientItem}
+use Rattle.refusal.specs.declared.Refusal.{Refusal}
 
 -- ---- the canonical list with one recipient more
 
@@ -96,12 +95,12 @@ module _ (rights recipient : ℕ) (unlisted : has_bit rights recipient ≡ false
 -- ---- the list that is read
 
 -- what stands next, after the recipients of `rights`
-abbrev NextFact : List ℕ → ℕ → ℕ → RecipientParse → Type 0
-NextFact text rights at (Next recipient start end) = (has_bit rights recipient ≡ false) × Spaced text at recipient end
-NextFact text rights at (Done end) = at < end
-NextFact text rights at (RefusedRecipient refusal) = Unit {0}
+abbrev NextFact : List ℕ → ℕ → ℕ → Result RecipientItem Refusal → Type 0
+NextFact text rights at (Ok (Next recipient start end)) = (has_bit rights recipient ≡ false) × Spaced text at recipient end
+NextFact text rights at (Ok (Done end)) = at < end
+NextFact text rights at (Err refusal) = Unit {0}
 
-record Listed (text : List ℕ) (rights at : ℕ) (next : RecipientParse) : Type 0 where
+record Listed (text : List ℕ) (rights at : ℕ) (next : Result RecipientItem Refusal) : Type 0 where
   fact : NextFact text rights at next
 
 next_listed : (text : List ℕ) (own rights at : ℕ) → RunOver text at → Listed text rights at (recipient_at text own rights at)
@@ -110,16 +109,16 @@ next_listed text own rights at before =
     let P = Listed text rights at in
     then_close P text at (λ _. next_recipient text own rights at) Done
     (λ _.
-    then_number_lem P text 0 last_domain at RefusedRecipient _ before (λ _. record { fact = tt }) λ recipient start end spaced.
-    cond_holds P (eqb recipient own || has_bit rights recipient) (RefusedRecipient (BadRecipient start)) (Next recipient start end)
+    then_number_lem P text 0 last_domain at Err _ before (λ _. record { fact = tt }) λ recipient start end spaced.
+    cond_holds P (eqb recipient own || has_bit rights recipient) (Err (BadRecipient start)) (Ok (Next recipient start end))
     (λ _. record { fact = tt })
     (λ free. record { fact = ((neither (eqb recipient own) (has_bit rights recipient) free).1, spaced) }))
     (λ end past. record { fact = past })
 
 -- a list from an offset on, with the bracket that closes it
-abbrev pub CoversPassed : ℕ → ℕ → TokenParse → Type 0
-CoversPassed first rights (To end) = first + length (spaced (recipients_of rights)) < end
-CoversPassed first rights (Refused refusal) = Unit {0}
+abbrev pub CoversPassed : ℕ → ℕ → Result ℕ Refusal → Type 0
+CoversPassed first rights (Ok end) = first + length (spaced (recipients_of rights)) < end
+CoversPassed first rights (Err refusal) = Unit {0}
 
 abbrev pub CoversList : ℕ → RecipientList → Type 0
 CoversList first list = CoversPassed first list.rights list.passed
@@ -138,7 +137,7 @@ rest_covers (suc turns) text own rights named first at before so_far =
     (omega (arith, from_added rights recipient unlisted most_domains 0))
   where
     go :
-        (next : RecipientParse)
+        (next : Result RecipientItem Refusal)
         → NextFact text rights at next
         → ((recipient start end : ℕ)
         → has_bit rights recipient ≡ false
@@ -146,13 +145,13 @@ rest_covers (suc turns) text own rights named first at before so_far =
         → CoversList first (recipients_from turns text own (rights + 2 ^ recipient) (mention named recipient start) end))
         → CoversList first
         (elim next [
-          | Next recipient start end ↦ recipients_from turns text own (rights + 2 ^ recipient) (mention named recipient start) end
-          | Done end ↦ record { passed = To end; rights = rights; named = named }
-          | RefusedRecipient refusal ↦ record { passed = Refused refusal; rights = rights; named = named }
+          | Ok (Next recipient start end) ↦ recipients_from turns text own (rights + 2 ^ recipient) (mention named recipient start) end
+          | Ok (Done end) ↦ record { passed = Ok end; rights = rights; named = named }
+          | Err refusal ↦ record { passed = Err refusal; rights = rights; named = named }
         ])
-    go (Next recipient start end) fact further = further recipient start end fact.0 fact.1
-    go (Done end) fact further = omega arith
-    go (RefusedRecipient refusal) fact further = tt
+    go (Ok (Next recipient start end)) fact further = further recipient start end fact.0 fact.1
+    go (Ok (Done end)) fact further = omega arith
+    go (Err refusal) fact further = tt
 
 pub list_covers : (text : List ℕ) (own : ℕ) (named : List ℕ) (at : ℕ) → RunOver text at → CoversList at (recipients_at text own named at)
 unfolding recipients_at recipients_of rising_from has_bit spaced

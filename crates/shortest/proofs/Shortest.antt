@@ -1,5 +1,6 @@
 -- Document 02, E4: no accepted text is shorter than the canonical text of what it gives, and the store that it leaves holds its ops
 -- alone. Assumes nothing.
+use Rattle.std.specs.Prelude.{Ok}
 use Prim.Native.Nat.{ℕ, zero, suc, ◌+◌, ◌≤◌, ◌<◌}
 use native.Mathlib.Omega.{arith}
 use mathlib.Core.Bool.{true, ◌||◌}
@@ -19,7 +20,6 @@ use Rattle.reader.specs.Final.{plan_with_masks}
 use Rattle.reader.specs.Read.{lines_of, read_of}
 use Rattle.reader.proofs.Accepted.{read_holds}
 use Rattle.reader.proofs.LastChecks.{Passes, passes}
-use Rattle.refusal.specs.declared.Verdict.TheVariants.{Accepted}
 use Rattle.refusal.proofs.Passed.{not_refused}
 use Rattle.syntax.proofs.Choices.{neither}
 use Rattle.writer.specs.Canonical.{canonical_lines, canonical_text, followed, joined, lines_from, op_lines_from, plan_lines, script_line, script_lines}
@@ -157,11 +157,11 @@ present draft fine =
 -- an accepted text is no shorter than the canonical text of what it gives
 no_longer :
     (text scripts : List ℕ)
-    → (read_of text scripts).verdict ≡ Accepted
+    → (read_of text scripts).verdict ≡ Ok tt
     → length (canonical_text (read_of text scripts).plan (read_of text scripts).scripts) ≤ length text
 no_longer text scripts =
     read_holds
-    (λ read. read.verdict ≡ Accepted → length (canonical_text read.plan read.scripts) ≤ length text) text scripts
+    (λ read. read.verdict ≡ Ok tt → length (canonical_text read.plan read.scripts) ≤ length text) text scripts
     (λ why accepted. absurd (not_refused why accepted))
     (λ fits final _.
     let lines = lines_of text in
@@ -178,12 +178,12 @@ none_shorter text scripts accepted = omega (arith, no_longer text scripts accept
 -- what an accepted text leaves in the store are its ops alone
 pub read_alone :
     (text scripts : List ℕ)
-    → (read_of text scripts).verdict ≡ Accepted
+    → (read_of text scripts).verdict ≡ Ok tt
     → ops_alone (read_of text scripts).plan (read_of text scripts).scripts ≡ true
 unfolding plan_with_masks with_masks
 read_alone text scripts =
     read_holds
-    (λ read. read.verdict ≡ Accepted → ops_alone read.plan read.scripts ≡ true) text scripts
+    (λ read. read.verdict ≡ Ok tt → ops_alone read.plan read.scripts ≡ true) text scripts
     (λ why accepted. absurd (not_refused why accepted))
     (λ fits final _.
     let lines = lines_of text in

@@ -1,5 +1,6 @@
 -- What the script store is known to hold while lines are read: an op at each position that is counted, and zeros past them; kept by each
 -- op that is taken. Assumes nothing.
+use Rattle.std.specs.Prelude.{Some, None}
 use Prim.Native.Nat.{ℕ, ◌+◌, ◌*◌, ◌≤◌, ◌<◌}
 use native.Mathlib.Omega.{arith}
 use mathlib.Core.Bool.{Bool, true, false}
@@ -14,7 +15,6 @@ use Rattle.plan.specs.declared.Plan.{Plan}
 use Rattle.plan.specs.Limits.{most_domains}
 use Rattle.plan.proofs.Sums.{below_all}
 use Rattle.script.specs.declared.Op.{Op}
-use Rattle.script.specs.declared.ScriptItem.TheVariants.{Op as Fetch, End}
 use Rattle.script.specs.Fetch.{decode_of, fetch_of, op_of}
 use Rattle.script.specs.Limits.{OpWithinLimits, most_ops, scripts_length}
 use Rattle.script.specs.ScriptEnd.{stored_ops}
@@ -32,7 +32,7 @@ pub record Stored (domains : ℕ) (counts store : List ℕ) : Type 0 where
   counts_size : length counts ≡ most_domains
   store_size : length store ≡ scripts_length
   few : (domain : ℕ) → get_or counts domain 0 ≤ most_ops
-  ops : (domain position : ℕ) → position < get_or counts domain 0 → fetch_of store domain position ≡ End → ⊥
+  ops : (domain position : ℕ) → position < get_or counts domain 0 → fetch_of store domain position ≡ None → ⊥
   zero : (domain position : ℕ) → position < most_ops → get_or counts domain 0 ≤ position → get_or store (most_ops * domain + position) 0 ≡ 0
   none : (domain : ℕ) → domains ≤ domain → get_or counts domain 0 ≡ 0
 
@@ -110,7 +110,7 @@ module _ (domains : ℕ) (counts store : List ℕ) (domain : ℕ) (op : Op) (sto
       go true test = rw (entry_other other position (ltb-true position most_ops test) differs)
       go false test = rw test
 
-  pub fetch_here : fetch_of (store_with counts store domain op) domain (get_or counts domain 0) ≡ Fetch op
+  pub fetch_here : fetch_of (store_with counts store domain op) domain (get_or counts domain 0) ≡ Some op
   unfolding fetch_of
   fetch_here =
       let space = room.room in
@@ -142,7 +142,7 @@ module _ (domains : ℕ) (counts store : List ℕ) (domain : ℕ) (op : Op) (sto
       }
     where
       here : (position : ℕ) → position < get_or (counts_with counts domain) domain 0
-          → fetch_of (store_with counts store domain op) domain position ≡ End → ⊥
+          → fetch_of (store_with counts store domain op) domain position ≡ None → ⊥
       here position below ends = same_or_not position (get_or counts domain 0)
           (λ same. end_is_none op (sym ends ∙ ap (fetch_of (store_with counts store domain op) domain) same ∙ fetch_here))
           (λ differs. stored.ops domain position (omega (arith, count_here)) (sym (fetch_other domain position (λ _ same. differs same)) ∙ ends))
@@ -156,11 +156,11 @@ module _ (domains : ℕ) (counts store : List ℕ) (domain : ℕ) (op : Op) (sto
 -- ---- the scripts
 
 module _ (plan : Plan) (counts store : List ℕ) (stored : Stored plan.domains counts store) where
-  there : (domain : ℕ) → fetch_of store domain (get_or counts domain 0) ≡ End
+  there : (domain : ℕ) → fetch_of store domain (get_or counts domain 0) ≡ None
   unfolding fetch_of decode_of op_of
   there domain = go (ltb (get_or counts domain 0) most_ops) refl
     where
-      go : (inside : Bool) → ltb (get_or counts domain 0) most_ops ≡ inside → fetch_of store domain (get_or counts domain 0) ≡ End
+      go : (inside : Bool) → ltb (get_or counts domain 0) most_ops ≡ inside → fetch_of store domain (get_or counts domain 0) ≡ None
       go true test =
           let within = ltb-true (get_or counts domain 0) most_ops test in
           rw (test, stored.zero domain (get_or counts domain 0) within (omega arith))

@@ -1,5 +1,6 @@
 -- The walk over the lines of a text: the canonical lines of what was read never have more bytes than the lines that gave it. Assumes
 -- nothing.
+use Rattle.std.specs.Prelude.{Ok, Err}
 use Prim.Native.Nat.{ℕ, zero, suc, ◌+◌, ◌≤◌, ◌<◌}
 use native.Mathlib.Omega.{arith}
 use mathlib.Core.Bool.{Bool, true, false}
@@ -14,8 +15,6 @@ use Rattle.line.specs.declared.Line.{Line}
 use Rattle.line.proofs.GoodLine.{GoodLine, line_good}
 use Rattle.plan.specs.Sums.{sum_to}
 use Rattle.plan.specs.Zeros.{no_plan}
-use Rattle.refusal.specs.declared.Verdict.{Verdict}
-use Rattle.refusal.specs.declared.Verdict.TheVariants.{Accepted, Refused}
 use Rattle.refusal.proofs.Passed.{not_refused}
 use Rattle.reader.specs.declared.Draft.{Draft}
 use Rattle.reader.specs.Draft.{DraftOutcome, no_draft, no_ops, outcome_of, take_form, take_line, taken}
@@ -28,6 +27,7 @@ use Rattle.shortest.proofs.Lines.{line_covers}
 use Rattle.shortest.proofs.Potential.{Grown, bytes_so_far, form_grows, op_bytes, pad_bytes, run_bytes}
 use Rattle.shortest.proofs.Store.{Stored, stored_first}
 use Rattle.shortest.proofs.Within.{line_within}
+use Rattle.refusal.specs.Verdict.{Verdict}
 
 -- a draft and its store, with this many bytes at most in the canonical lines of both
 pub record Holds (draft : Draft) (store : List ℕ) (bytes : ℕ) : Type 0 where
@@ -43,7 +43,7 @@ module _ (declared at end bytes after : ℕ) (before : bytes ≤ at) where
       (form : Form) (bracket : ℕ) (draft : Draft) (marked store : List ℕ)
       → CoversForm declared at form end
       → after ≤ bytes + (length (spelled declared form) + 1)
-      → (take_form form bracket marked draft store).verdict ≡ Accepted
+      → (take_form form bracket marked draft store).verdict ≡ Ok tt
       → after ≤ end + 1
   taken_fits Blank bracket draft marked store covers grown accepted = omega arith
   taken_fits (Pad ticks) bracket draft marked store covers grown accepted = omega arith
@@ -73,7 +73,7 @@ module _ (declared at end bytes after : ℕ) (before : bytes ≤ at) where
 -- what a line came to
 record LineHolds (end size : ℕ) (outcome : DraftOutcome) : Type 0 where
   all : Holds outcome.draft outcome.store (size + 1)
-  accepted : outcome.verdict ≡ Accepted → bytes_so_far outcome.draft outcome.store ≤ end + 1
+  accepted : outcome.verdict ≡ Ok tt → bytes_so_far outcome.draft outcome.store ≤ end + 1
 
 module _ (text : List ℕ) (at : ℕ) (draft : Draft) (store : List ℕ) (so_far : Holds draft store at) (below : at < length text) where
   abbrev line : Line
@@ -139,9 +139,9 @@ walk_holds (suc lines) text at draft store so_far within =
         → line.end ≤ length text
         → Again
         → OutcomeHolds text (after_line text lines line (record { verdict = verdict; draft = next; store = filled }))
-    by_line Accepted next filled here ends again =
+    by_line (Ok tt) next filled here ends again =
         again next filled (record { good = here.all.good; stored = here.all.stored; most = here.accepted refl }) (omega arith)
-    by_line (Refused refusal) next filled here ends again = here.all
+    by_line (Err refusal) next filled here ends again = here.all
 
     by_end :
         (test : Bool)

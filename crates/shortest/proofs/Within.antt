@@ -1,10 +1,9 @@
 -- The numbers of an op that a line gives are within their limits. Assumes nothing.
+use Rattle.std.specs.Prelude.{Result, Ok, Err}
 use Prim.Native.Nat.{ℕ, ◌≤◌}
 use mathlib.Core.List.{List}
 use Rattle.forms.specs.declared.Form.{Form}
 use Rattle.forms.specs.declared.Form.TheVariants.{Blank, Pad, Run, Domain, Window, Op as Script, Refused as NoForm}
-use Rattle.forms.specs.declared.FormParse.{FormParse}
-use Rattle.forms.specs.declared.FormParse.TheVariants.{Form as Took, Refused as RefusedForm}
 use Rattle.forms.specs.Forms.{declared_domain, op_form}
 use Rattle.line.specs.declared.Head.{Head}
 use Rattle.line.specs.declared.Head.TheVariants.{Op as OpHead, Plain}
@@ -17,26 +16,23 @@ use Rattle.refusal.specs.declared.Refusal.{Refusal}
 use Rattle.script.specs.declared.Op.{Op}
 use Rattle.script.specs.declared.Op.TheVariants.{Read, Write, Send, Receive, Compute}
 use Rattle.script.specs.Limits.{OpWithinLimits, last_domain, least_ticks, most_number, most_ticks, most_word}
-use Rattle.syntax.specs.declared.NumberParse.{NumberParse}
-use Rattle.syntax.specs.declared.NumberParse.TheVariants.{Number as Is, Refused as RefusedNumber}
-use Rattle.syntax.specs.declared.OpParse.{OpParse}
-use Rattle.syntax.specs.declared.OpParse.TheVariants.{Op as TookOp, Refused as RefusedOp}
 use Rattle.syntax.specs.Brackets.{bracketed_op}
 use Rattle.syntax.specs.Ops.{number_op, op_at, op_keywords, send_op, then_op}
 use Rattle.syntax.specs.Tokens.{then_number}
 use Rattle.syntax.proofs.Advance.{then_close, then_line_end, then_number_lem, then_open}
 use Rattle.syntax.proofs.ByKeyword.{one_of_holds}
+use Rattle.syntax.specs.declared.Number.{Number}
 
 -- ---- an op
 
-abbrev OfOp : OpParse → Type 0
-OfOp (TookOp op end) = OpWithinLimits op
-OfOp (RefusedOp refusal) = Unit {0}
+abbrev OfOp : Result (Op × ℕ) Refusal → Type 0
+OfOp (Ok (op, end)) = OpWithinLimits op
+OfOp (Err refusal) = Unit {0}
 
-record WithinOp (taken : OpParse) : Type 0 where
+record WithinOp (taken : Result (Op × ℕ) Refusal) : Type 0 where
   limits : OfOp taken
 
-no_op : (refusal : Refusal) → WithinOp (RefusedOp refusal)
+no_op : (refusal : Refusal) → WithinOp (Err refusal)
 no_op refusal = record { limits = tt }
 
 number_within_lem :
@@ -50,7 +46,7 @@ number_within_lem text low high at op fits =
 op_within : (text : List ℕ) (at : ℕ) → WithinOp (op_at text at)
 unfolding op_at op_keywords send_op OpWithinLimits
 op_within text at =
-    one_of_holds WithinOp (op_keywords text) text at RefusedOp no_op (
+    one_of_holds WithinOp (op_keywords text) text at Err no_op (
       λ here _. number_within_lem text 0 most_number here Read λ line _ most. most,
       (
         λ here _. number_within_lem text 0 most_number here Write λ line _ most. most,
@@ -67,13 +63,13 @@ op_within text at =
     )
 
 by_op :
-    {A : Type 0} (P : A → Type 0) (taken : OpParse) (refused : Refusal → A) (go : Op → ℕ → A)
+    {A : Type 0} (P : A → Type 0) (taken : Result (Op × ℕ) Refusal) (refused : Refusal → A) (go : Op → ℕ → A)
     → WithinOp taken
     → ((refusal : Refusal) → P (refused refusal))
     → ((op : Op) (end : ℕ) → OpWithinLimits op → P (go op end))
     → P (then_op taken refused go)
-by_op P (TookOp op end) refused go within none goes = goes op end within.limits
-by_op P (RefusedOp refusal) refused go within none goes = none refusal
+by_op P (Ok (op, end)) refused go within none goes = goes op end within.limits
+by_op P (Err refusal) refused go within none goes = none refusal
 
 bracketed_within : (text : List ℕ) (at : ℕ) → WithinOp (bracketed_op text at)
 unfolding bracketed_op
@@ -94,11 +90,11 @@ OpFits (Window line) = Unit {0}
 OpFits (Script line) = OpWithinLimits line.op
 OpFits (NoForm refusal) = Unit {0}
 
-abbrev OfForm : FormParse → Type 0
-OfForm (Took form end) = OpFits form
-OfForm (RefusedForm refusal) = Unit {0}
+abbrev OfForm : Result (Form × ℕ) Refusal → Type 0
+OfForm (Ok (form, end)) = OpFits form
+OfForm (Err refusal) = Unit {0}
 
-record WithinForm (parse : FormParse) : Type 0 where
+record WithinForm (parse : Result (Form × ℕ) Refusal) : Type 0 where
   limits : OfForm parse
 
 record WithinLine (line : Line) : Type 0 where
@@ -109,13 +105,13 @@ unfolding op_form
 form_within text declared at = go (declared_domain text declared at)
   where
     go :
-        (taken : NumberParse)
-        → WithinForm (then_number taken RefusedForm λ domain start end.
-        then_op (bracketed_op text end) RefusedForm λ op closed. Took (Script (record { domain = domain; op = op })) closed)
-    go (Is domain start end) =
+        (taken : Result Number Refusal)
+        → WithinForm (then_number taken Err λ domain start end.
+        then_op (bracketed_op text end) Err λ op closed. Ok ((Script (record { domain = domain; op = op })), closed))
+    go (Ok (number_with domain start end)) =
         by_op WithinForm (bracketed_op text end) _ _ (bracketed_within text end) (λ _. record { limits = tt }) λ op closed within.
         record { limits = within }
-    go (RefusedNumber refusal) = record { limits = tt }
+    go (Err refusal) = record { limits = tt }
 
 -- a form other than an op has nothing to keep
 plain_fits : (named marked : List ℕ) (form : Form) → IsPlain named marked form → OpFits form
@@ -128,10 +124,10 @@ plain_fits named marked (Script line) plain = absurd plain
 plain_fits named marked (NoForm refusal) plain = tt
 
 module _ (text : List ℕ) (declared : ℕ) (named : List ℕ) where
-  closed_within : (bracket : ℕ) (parse : FormParse) → WithinForm parse → WithinLine (closed_line text bracket named parse)
+  closed_within : (bracket : ℕ) (parse : Result (Form × ℕ) Refusal) → WithinForm parse → WithinLine (closed_line text bracket named parse)
   unfolding closed_line
-  closed_within bracket (RefusedForm refusal) within = record { limits = tt }
-  closed_within bracket (Took form end) within =
+  closed_within bracket (Err refusal) within = record { limits = tt }
+  closed_within bracket (Ok (form, end)) within =
       then_close WithinLine text end _ _ (λ _. record { limits = tt }) λ closed _ inside.
       then_line_end WithinLine text closed _ _ inside (λ _. record { limits = tt }) λ ended _ _. record { limits = within.limits }
 

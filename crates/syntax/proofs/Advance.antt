@@ -1,4 +1,5 @@
 -- How far taking what is due goes on in the text, and the limits of a number that was taken. Assumes nothing.
+use Rattle.std.specs.Prelude.{Result, Ok, Err}
 use Prim.Native.Nat.{ℕ, ◌≤◌, ◌<◌}
 use native.Mathlib.Omega.{arith}
 use mathlib.Core.Bool.{cond, ◌&&◌}
@@ -14,10 +15,6 @@ use Rattle.lexer.proofs.Reached.{Reached, cond_holds, token_bounds, token_reache
 use Rattle.lexer.specs.declared.Token.{Token}
 use Rattle.lexer.specs.declared.Token.TheVariants.{LineEnd, Open, Close, Word, Number, LongNumber, Other}
 use Rattle.lexer.specs.Tokens.{close_kind, line_end_kind, open_kind, token_at, token_end, token_kind, token_start, word_kind}
-use Rattle.syntax.specs.declared.TokenParse.{TokenParse}
-use Rattle.syntax.specs.declared.TokenParse.TheVariants.{To, Refused}
-use Rattle.syntax.specs.declared.NumberParse.{NumberParse}
-use Rattle.syntax.specs.declared.NumberParse.TheVariants.{Number as Is, Refused as RefusedNumber}
 use Rattle.syntax.specs.Brackets.{bracketed_number, pass_head}
 use Rattle.syntax.specs.Tokens.{due, is_word, number_within, pass_close, pass_line_end, pass_open, pass_word, take_number, then, then_number}
 
@@ -37,14 +34,14 @@ due_holds P text kind at refused go line f g =
     (λ _. f (BrokenShape (token_start token)))
 
 -- what was due ends at or past the offset, and within the text
-abbrev pub Past : List ℕ → ℕ → TokenParse → Type 0
-Past text at (To end) = (at ≤ end) × (end ≤ length text)
-Past text at (Refused refusal) = Unit {0}
+abbrev pub Past : List ℕ → ℕ → Result ℕ Refusal → Type 0
+Past text at (Ok end) = (at ≤ end) × (end ≤ length text)
+Past text at (Err refusal) = Unit {0}
 
 kind_past : (text : List ℕ) (kind at : ℕ) → (kind ≡ line_end_kind → at ≤ length text)
-    → Past text at (due kind (token_at text at) Refused λ start end. To end)
+    → Past text at (due kind (token_at text at) Err λ start end. Ok end)
 kind_past text kind at line =
-    due_holds (Past text at) text kind at Refused (λ start end. To end) line (λ _. tt) (λ start end least order inside. (omega arith, inside))
+    due_holds (Past text at) text kind at Err (λ start end. Ok end) line (λ _. tt) (λ start end least order inside. (omega arith, inside))
 
 open_past : (text : List ℕ) (at : ℕ) → Past text at (pass_open text at)
 unfolding pass_open
@@ -61,19 +58,19 @@ line_end_past text at within = kind_past text line_end_kind at (λ _. within)
 word_past : (text word : List ℕ) (first at : ℕ) → first ≤ at → Past text first (pass_word text word at)
 unfolding pass_word
 word_past text word first at past =
-    due_holds (Past text first) text word_kind at Refused (λ start end. cond (is_word text start end word) (To end) (Refused (BrokenShape start)))
+    due_holds (Past text first) text word_kind at Err (λ start end. cond (is_word text start end word) (Ok end) (Err (BrokenShape start)))
     (λ none. absurd (omega arith)) (λ _. tt) λ start end least order inside.
-    cond_holds (Past text first) (is_word text start end word) (To end) (Refused (BrokenShape start)) (λ _. (omega arith, inside)) (λ _. tt)
+    cond_holds (Past text first) (is_word text start end word) (Ok end) (Err (BrokenShape start)) (λ _. (omega arith, inside)) (λ _. tt)
 
 -- ---- a number
 
 -- a fact of a number and its two offsets, where there is one
-abbrev pub OfNumber : (ℕ → ℕ → ℕ → Type 0) → NumberParse → Type 0
-OfNumber Fact (Is value start end) = Fact value start end
-OfNumber Fact (RefusedNumber refusal) = Unit {0}
+abbrev pub OfNumber : (ℕ → ℕ → ℕ → Type 0) → Result Number Refusal → Type 0
+OfNumber Fact (Ok (number_with value start end)) = Fact value start end
+OfNumber Fact (Err refusal) = Unit {0}
 
 -- it is within its limits, and ends past the offset and within the text
-abbrev pub Limited : List ℕ → ℕ → ℕ → ℕ → NumberParse → Type 0
+abbrev pub Limited : List ℕ → ℕ → ℕ → ℕ → Result Number Refusal → Type 0
 Limited text low high at =
     OfNumber λ value start end. (low ≤ value) × (value ≤ high) × (at ≤ start) × (start < end) × (end ≤ length text)
 
@@ -83,7 +80,7 @@ number_of_limited text low high at (Open offset) h = tt
 number_of_limited text low high at (Close offset) h = tt
 number_of_limited text low high at (Word start end) h = tt
 number_of_limited text low high at (Number start end value) h =
-    cond_holds (Limited text low high at) (leb low value && leb value high) (Is value start end) (RefusedNumber (NumberOutOfLimits start))
+    cond_holds (Limited text low high at) (leb low value && leb value high) (Ok (number_with value start end)) (Err (NumberOutOfLimits start))
     (λ within. let both = limits low high value within in (both.0, both.1, h.0, h.1, h.2))
     (λ _. tt)
 number_of_limited text low high at (LongNumber start end) h = tt
@@ -94,22 +91,22 @@ unfolding take_number
 number_limited text low high at = number_of_limited text low high at (token_at text at) (token_reached text at)
 
 -- the same of an answer that is known to be of some kind
-pub limited : (text : List ℕ) (low high at : ℕ) {taken kind : NumberParse} → taken ≡ take_number text low high at → taken ≡ kind
+pub limited : (text : List ℕ) (low high at : ℕ) {taken kind : Result Number Refusal} → taken ≡ take_number text low high at → taken ≡ kind
     → Limited text low high at kind
 limited text low high at next known = subst (Limited text low high at) (sym next ∙ known) (number_limited text low high at)
 
 -- ---- going on from what was due, or handing the refusal on
 
 -- what the code answers to the number that it took, where that is the number that is due
-pub number_answer : {A : Type 0} (refused : Refusal → A) (go : ℕ → ℕ → ℕ → A) {taken kind wanted : NumberParse} {answer : A}
+pub number_answer : {A : Type 0} (refused : Refusal → A) (go : ℕ → ℕ → ℕ → A) {taken kind wanted : Result Number Refusal} {answer : A}
     → taken ≡ wanted → taken ≡ kind → answer ≡ then_number kind refused go → answer ≡ then_number wanted refused go
-number_answer refused go due known answered = answered ∙ ap (λ (parse : NumberParse). then_number parse refused go) (sym known ∙ due)
+number_answer refused go due known answered = answered ∙ ap (λ (parse : Result Number Refusal). then_number parse refused go) (sym known ∙ due)
 
 module _ {A : Type 0} (P : A → Type 0) (text : List ℕ) where
-  by_passed : (at : ℕ) (passed : TokenParse) (refused : Refusal → A) (go : ℕ → A) → Past text at passed → ((refusal : Refusal) → P (refused refusal))
+  by_passed : (at : ℕ) (passed : Result ℕ Refusal) (refused : Refusal → A) (go : ℕ → A) → Past text at passed → ((refusal : Refusal) → P (refused refusal))
       → ((end : ℕ) → at ≤ end → end ≤ length text → P (go end)) → P (then passed refused go)
-  by_passed at (To end) refused go h f g = g end h.0 h.1
-  by_passed at (Refused refusal) refused go h f g = f refusal
+  by_passed at (Ok end) refused go h f g = g end h.0 h.1
+  by_passed at (Err refusal) refused go h f g = f refusal
 
   pub then_open : (at : ℕ) (refused : Refusal → A) (go : ℕ → A) → ((refusal : Refusal) → P (refused refusal))
       → ((end : ℕ) → at ≤ end → end ≤ length text → P (go end)) → P (then (pass_open text at) refused go)
@@ -123,11 +120,11 @@ module _ {A : Type 0} (P : A → Type 0) (text : List ℕ) where
       → ((end : ℕ) → at ≤ end → end ≤ length text → P (go end)) → P (then (pass_line_end text at) refused go)
   then_line_end at refused go within = by_passed at (pass_line_end text at) refused go (line_end_past text at within)
 
-  pub by_number : (Fact : ℕ → ℕ → ℕ → Type 0) (taken : NumberParse) (refused : Refusal → A) (go : ℕ → ℕ → ℕ → A) → OfNumber Fact taken
+  pub by_number : (Fact : ℕ → ℕ → ℕ → Type 0) (taken : Result Number Refusal) (refused : Refusal → A) (go : ℕ → ℕ → ℕ → A) → OfNumber Fact taken
       → ((refusal : Refusal) → P (refused refusal)) → ((value start end : ℕ) → Fact value start end → P (go value start end))
       → P (then_number taken refused go)
-  by_number Fact (Is value start end) refused go h f g = g value start end h
-  by_number Fact (RefusedNumber refusal) refused go h f g = f refusal
+  by_number Fact (Ok (number_with value start end)) refused go h f g = g value start end h
+  by_number Fact (Err refusal) refused go h f g = f refusal
 
   pub then_number_lem : (low high at : ℕ) (refused : Refusal → A) (go : ℕ → ℕ → ℕ → A) → ((refusal : Refusal) → P (refused refusal))
       → ((value start end : ℕ) → low ≤ value → value ≤ high → at ≤ end → P (go value start end))
@@ -139,7 +136,7 @@ module _ {A : Type 0} (P : A → Type 0) (text : List ℕ) where
 head_past : (text word : List ℕ) (at : ℕ) → Past text at (pass_head text word at)
 unfolding pass_head
 head_past text word at =
-    then_open (Past text at) text at Refused (pass_word text word) (λ _. tt) λ opened past _. word_past text word at opened past
+    then_open (Past text at) text at Err (pass_word text word) (λ _. tt) λ opened past _. word_past text word at opened past
 
 module _ {A : Type 0} (P : A → Type 0) (text : List ℕ) where
   pub then_head : (word : List ℕ) (at : ℕ) (refused : Refusal → A) (go : ℕ → A) → ((refusal : Refusal) → P (refused refusal))
@@ -147,17 +144,17 @@ module _ {A : Type 0} (P : A → Type 0) (text : List ℕ) where
   then_head word at refused go = by_passed P text at (pass_head text word at) refused go (head_past text word at)
 
 -- a number in brackets of its own
-abbrev Bracketed : ℕ → ℕ → ℕ → NumberParse → Type 0
+abbrev Bracketed : ℕ → ℕ → ℕ → Result Number Refusal → Type 0
 Bracketed low high at = OfNumber λ value start end. (low ≤ value) × (value ≤ high) × (at ≤ end)
 
-record IsBracketed (low high at : ℕ) (taken : NumberParse) : Type 0 where
+record IsBracketed (low high at : ℕ) (taken : Result Number Refusal) : Type 0 where
   is : Bracketed low high at taken
 
 bracketed_limited : (text word : List ℕ) (low high at : ℕ) → IsBracketed low high at (bracketed_number text word low high at)
 unfolding bracketed_number
 bracketed_limited text word low high at =
     let P = IsBracketed low high at in
-    let none : (refusal : Refusal) → P (RefusedNumber refusal) = λ _. record { is = tt } in
+    let none : (refusal : Refusal) → P (Err refusal) = λ _. record { is = tt } in
     then_head P text word at _ _ none λ worded w _.
     then_number_lem P text low high worded _ _ none λ value start end least most n.
     then_close P text end _ _ none λ closed c _.

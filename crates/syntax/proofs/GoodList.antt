@@ -1,5 +1,6 @@
 -- A list of recipients that is read to its end: other domains than the own one, each within the domain numbers, and each noted where it was
 -- first named. Assumes nothing.
+use Rattle.std.specs.Prelude.{Result, Ok, Err}
 use Prim.Native.Nat.{ℕ, zero, suc, ◌+◌, ◌^◌, ◌≤◌, ◌<◌}
 use native.Mathlib.Omega.{arith}
 use mathlib.Core.Bool.{true, false, false≢true}
@@ -16,12 +17,10 @@ use Rattle.lexer.proofs.Reached.{cond_holds}
 use Rattle.syntax.proofs.Choices.{is_false, same_or_not}
 use Rattle.syntax.proofs.Listing.{Fresh, Listed, recipient_listed}
 use Rattle.syntax.proofs.NewBit.{new_bit_most, new_bit_other}
-use Rattle.syntax.specs.declared.TokenParse.{TokenParse}
-use Rattle.syntax.specs.declared.TokenParse.TheVariants.{To, Refused}
-use Rattle.syntax.specs.declared.RecipientParse.{RecipientParse}
-use Rattle.syntax.specs.declared.RecipientParse.TheVariants.{Next, Done, Refused as RefusedRecipient}
 use Rattle.syntax.specs.declared.RecipientList.{RecipientList}
 use Rattle.syntax.specs.Recipients.{mention, recipient_at, recipients_at, recipients_from}
+use Rattle.syntax.specs.declared.RecipientItem.{RecipientItem}
+use Rattle.refusal.specs.declared.Refusal.{Refusal}
 
 -- ---- where domains are named
 
@@ -95,9 +94,9 @@ recorded_next text own rights at recipient start end named marked eight fresh so
     }
 
 -- a list that is read to its end, at or past an offset, with what it recorded
-abbrev pub GoodPassed : ℕ → ℕ → List ℕ → ℕ → List ℕ → TokenParse → Type 0
-GoodPassed own at named rights marked (To end) = (at ≤ end) × Recorded own rights named marked
-GoodPassed own at named rights marked (Refused refusal) = Unit {0}
+abbrev pub GoodPassed : ℕ → ℕ → List ℕ → ℕ → List ℕ → Result ℕ Refusal → Type 0
+GoodPassed own at named rights marked (Ok end) = (at ≤ end) × Recorded own rights named marked
+GoodPassed own at named rights marked (Err refusal) = Unit {0}
 
 abbrev pub GoodList : ℕ → ℕ → List ℕ → RecipientList → Type 0
 GoodList own at named list = GoodPassed own at named list.rights list.named list.passed
@@ -117,17 +116,17 @@ rest_good (suc turns) text own rights first at named marked eight past so_far =
     Rest recipient start end =
         GoodList own first named (recipients_from turns text own (rights + 2 ^ recipient) (mention marked recipient start) end)
 
-    go : (next : RecipientParse) → Listed text own rights at next
+    go : (next : Result RecipientItem Refusal) → Listed text own rights at next
         → ((recipient start end : ℕ) → Fresh text own rights at recipient start end → Rest recipient start end)
         → GoodList own first named
         (elim next [
-          | Next recipient start end ↦ recipients_from turns text own (rights + 2 ^ recipient) (mention marked recipient start) end
-          | Done end ↦ record { passed = To end; rights = rights; named = marked }
-          | RefusedRecipient refusal ↦ record { passed = Refused refusal; rights = rights; named = marked }
+          | Ok (Next recipient start end) ↦ recipients_from turns text own (rights + 2 ^ recipient) (mention marked recipient start) end
+          | Ok (Done end) ↦ record { passed = Ok end; rights = rights; named = marked }
+          | Err refusal ↦ record { passed = Err refusal; rights = rights; named = marked }
         ])
-    go (Next recipient start end) fresh again = again recipient start end fresh
-    go (Done end) h again = (omega arith, so_far)
-    go (RefusedRecipient refusal) h again = tt
+    go (Ok (Next recipient start end)) fresh again = again recipient start end fresh
+    go (Ok (Done end)) h again = (omega arith, so_far)
+    go (Err refusal) h again = tt
 
 pub list_good : (text : List ℕ) (own : ℕ) (named : List ℕ) (at : ℕ) → length named ≡ most_domains → GoodList own at named (recipients_at text own named at)
 unfolding recipients_at

@@ -1,4 +1,5 @@
 -- The list of recipients: what is known of the next one, and the walk from one to the next. Assumes nothing.
+use Rattle.std.specs.Prelude.{Result, Ok, Err}
 use Prim.Native.Nat.{ℕ, zero, suc, ◌+◌, ◌*◌, ◌%◌, ◌^◌, ◌≤◌, ◌<◌}
 use native.Mathlib.Omega.{arith}
 use mathlib.Core.Bool.{cond, false, ◌||◌, false≢true}
@@ -15,14 +16,12 @@ use Rattle.refusal.specs.declared.Refusal.TheVariants.{BadRecipient, BrokenShape
 use Rattle.script.specs.Limits.{last_domain}
 use Rattle.lexer.proofs.Reached.{cond_holds, token_past}
 use Rattle.syntax.proofs.Advance.{by_number, number_limited, then_close}
-use Rattle.syntax.specs.declared.TokenParse.TheVariants.{To, Refused}
-use Rattle.syntax.specs.declared.RecipientParse.{RecipientParse}
-use Rattle.syntax.specs.declared.RecipientParse.TheVariants.{Next, Done, Refused as RefusedRecipient}
 use Rattle.syntax.specs.declared.RecipientList.{RecipientList}
 use Rattle.syntax.proofs.Choices.{neither}
 use Rattle.syntax.proofs.NewBit.{new_bit_most}
 use Rattle.syntax.specs.Recipients.{mention, next_recipient, recipient_at, recipients_at, recipients_from}
 use Rattle.syntax.specs.Tokens.{pass_close, take_number}
+use Rattle.syntax.specs.declared.RecipientItem.{RecipientItem}
 
 -- ---- the next one
 
@@ -35,20 +34,20 @@ pub record Fresh (text : List ℕ) (own rights at recipient start end : ℕ) : T
   pub some : start < end
   pub most : end ≤ length text
 
-abbrev pub Listed : List ℕ → ℕ → ℕ → ℕ → RecipientParse → Type 0
-Listed text own rights at (Next recipient start end) = Fresh text own rights at recipient start end
-Listed text own rights at (Done end) = (at ≤ end) × (end ≤ length text)
-Listed text own rights at (RefusedRecipient refusal) = Unit {0}
+abbrev pub Listed : List ℕ → ℕ → ℕ → ℕ → Result RecipientItem Refusal → Type 0
+Listed text own rights at (Ok (Next recipient start end)) = Fresh text own rights at recipient start end
+Listed text own rights at (Ok (Done end)) = (at ≤ end) × (end ≤ length text)
+Listed text own rights at (Err refusal) = Unit {0}
 
 next_listed : (text : List ℕ) (own rights at : ℕ) → Listed text own rights at (next_recipient text own rights at)
 unfolding next_recipient
 next_listed text own rights at =
     let Good = Listed text own rights at in
-    by_number Good text _ (take_number text 0 last_domain at) RefusedRecipient
+    by_number Good text _ (take_number text 0 last_domain at) Err
     (λ recipient start end.
-    cond (eqb recipient own || has_bit rights recipient) (RefusedRecipient (BadRecipient start)) (Next recipient start end))
+    cond (eqb recipient own || has_bit rights recipient) (Err (BadRecipient start)) (Ok (Next recipient start end)))
     (number_limited text 0 last_domain at) (λ _. tt) λ recipient start end h.
-    cond_holds Good (eqb recipient own || has_bit rights recipient) (RefusedRecipient (BadRecipient start)) (Next recipient start end)
+    cond_holds Good (eqb recipient own || has_bit rights recipient) (Err (BadRecipient start)) (Ok (Next recipient start end))
     (λ _. tt)
     (λ free.
     let parts = neither (eqb recipient own) (has_bit rights recipient) free in
@@ -64,11 +63,11 @@ next_listed text own rights at =
 pub recipient_listed : (text : List ℕ) (own rights at : ℕ) → Listed text own rights at (recipient_at text own rights at)
 unfolding recipient_at
 recipient_listed text own rights at =
-    then_close (Listed text own rights at) text at (λ _. next_recipient text own rights at) Done (λ _. next_listed text own rights at)
+    then_close (Listed text own rights at) text at (λ _. next_recipient text own rights at) Ok (Done (λ _. next_listed text own rights at))
     (λ end past within. (past, within))
 
 -- the same of an answer that is known to be of some kind
-pub listed : (text : List ℕ) (own rights at : ℕ) {next kind : RecipientParse} → next ≡ recipient_at text own rights at → next ≡ kind
+pub listed : (text : List ℕ) (own rights at : ℕ) {next kind : Result RecipientItem Refusal} → next ≡ recipient_at text own rights at → next ≡ kind
     → Listed text own rights at kind
 listed text own rights at next known = subst (Listed text own rights at) (sym next ∙ known) (recipient_listed text own rights at)
 
@@ -85,15 +84,15 @@ unfolding recipients_at
 left_first text own named at = record { turns = length text; enough = omega arith; same = refl }
 
 -- past the text's end the list is refused
-past_end : (text : List ℕ) (own rights at : ℕ) → length text ≤ at → recipient_at text own rights at ≡ RefusedRecipient (BrokenShape at)
+past_end : (text : List ℕ) (own rights at : ℕ) → length text ≤ at → recipient_at text own rights at ≡ Err (BrokenShape at)
 unfolding recipient_at next_recipient pass_close take_number
 past_end text own rights at past = rw (token_past text at past)
 
 module _ (text : List ℕ) (own rights : ℕ) (named : List ℕ) (at : ℕ) (whole : RecipientList) (left : Left text own rights named at whole) where
   -- a turn is left, unless the list is refused where the text ends
-  turn : (next : RecipientParse) → recipient_at text own rights at ≡ next → (P : Type 0)
+  turn : (next : Result RecipientItem Refusal) → recipient_at text own rights at ≡ next → (P : Type 0)
       → ((turns : ℕ) → length text ≤ at + suc turns → recipients_from (suc turns) text own rights named at ≡ whole → P)
-      → (next ≡ RefusedRecipient (BrokenShape at) → record { passed = Refused (BrokenShape at); rights = rights; named = named } ≡ whole → P)
+      → (next ≡ Err (BrokenShape at) → record { passed = Err (BrokenShape at); rights = rights; named = named } ≡ whole → P)
       → P
   unfolding recipients_from
   turn next is P more ended = go left.turns left.enough left.same
@@ -102,7 +101,7 @@ module _ (text : List ℕ) (own rights : ℕ) (named : List ℕ) (at : ℕ) (who
       go zero enough same = ended (sym is ∙ past_end text own rights at (omega arith)) same
       go (suc turns) enough same = more turns enough same
 
-  pub left_next : (recipient start end : ℕ) → recipient_at text own rights at ≡ Next recipient start end
+  pub left_next : (recipient start end : ℕ) → recipient_at text own rights at ≡ Ok (Next recipient start end)
       → Left text own (rights + 2 ^ recipient) (mention named recipient start) end whole
   unfolding recipients_from
   left_next recipient start end next =
@@ -111,13 +110,13 @@ module _ (text : List ℕ) (own rights : ℕ) (named : List ℕ) (at : ℕ) (who
       (λ turns enough same. record { turns = turns; enough = omega arith; same = rw (recipients_from, next) at same })
       (λ end _. let z : ◌≡◌ {A = ℕ} 0 1 = cc in absurd (omega arith))
 
-  pub left_done : (end : ℕ) → recipient_at text own rights at ≡ Done end → record { passed = To end; rights = rights; named = named } ≡ whole
+  pub left_done : (end : ℕ) → recipient_at text own rights at ≡ Ok (Done end) → record { passed = Ok end; rights = rights; named = named } ≡ whole
   unfolding recipients_from
   left_done end next =
       turn _ next _ (λ turns enough same. rw (recipients_from, next) at same) (λ end _. let z : ◌≡◌ {A = ℕ} 0 1 = cc in absurd (omega arith))
 
-  pub left_refused : (refusal : Refusal) → recipient_at text own rights at ≡ RefusedRecipient refusal
-      → record { passed = Refused refusal; rights = rights; named = named } ≡ whole
+  pub left_refused : (refusal : Refusal) → recipient_at text own rights at ≡ Err refusal
+      → record { passed = Err refusal; rights = rights; named = named } ≡ whole
   unfolding recipients_from
   left_refused refusal next =
       turn _ next _

@@ -1,5 +1,6 @@
 -- Where a number is due, a run that is none may count as neither word nor number: the answer is the
 -- same. Assumes nothing.
+use Rattle.std.specs.Prelude.{Result}
 use Prim.Native.Nat.{ℕ}
 use mathlib.Core.List.{List}
 use mathlib.Core.Path.{◌≡◌, refl, ap, ◌∙◌}
@@ -8,8 +9,8 @@ use Rattle.lexer.specs.declared.Token.TheVariants.{LineEnd, Open, Close, Word, N
 use Rattle.lexer.specs.declared.Token.TheVariants.{Other}
 use Rattle.lexer.specs.Lookaheads.{as_number}
 use Rattle.lexer.specs.Tokens.{token_at}
-use Rattle.syntax.specs.declared.NumberParse.{NumberParse}
 use Rattle.syntax.specs.Tokens.{number_within, take_number}
+use Rattle.refusal.specs.declared.Refusal.{Refusal}
 
 as_number_within : (low high : ℕ) (token : Token)
     → number_within low high (as_number token) ≡ number_within low high token
@@ -23,7 +24,7 @@ as_number_within low high (LongNumber start end) = refl
 as_number_within low high (Other start end) = refl
 
 -- what is answered to that token is what is answered to the next one
-pub number_taken : (text : List ℕ) (low high at : ℕ) {token : Token} {answer : NumberParse}
+pub number_taken : (text : List ℕ) (low high at : ℕ) {token : Token} {answer : Result Number Refusal}
     → token ≡ as_number (token_at text at)
     → answer ≡ number_within low high token → answer ≡ take_number text low high at
 unfolding take_number

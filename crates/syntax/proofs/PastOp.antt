@@ -1,4 +1,5 @@
 -- How far an op goes on in the text: its word, its numbers and its brackets end at or past the offset that it is read from. Assumes nothing.
+use Rattle.std.specs.Prelude.{Result, Ok, Err}
 use Prim.Native.Nat.{ℕ, ◌≤◌}
 use native.Mathlib.Omega.{arith}
 use mathlib.Core.List.{List}
@@ -8,19 +9,17 @@ use Rattle.script.specs.declared.Op.TheVariants.{Read, Write, Send, Receive, Com
 use Rattle.script.specs.Limits.{last_domain, least_ticks, most_number, most_ticks, most_word}
 use Rattle.syntax.proofs.Advance.{then_close, then_number_lem, then_open}
 use Rattle.syntax.proofs.ByKeyword.{one_of_holds}
-use Rattle.syntax.specs.declared.OpParse.{OpParse}
-use Rattle.syntax.specs.declared.OpParse.TheVariants.{Op as Took, Refused as RefusedOp}
 use Rattle.syntax.specs.Brackets.{bracketed_op}
 use Rattle.syntax.specs.Ops.{number_op, op_at, op_keywords, send_op, then_op}
 
-abbrev Ends : ℕ → OpParse → Type 0
-Ends at (Took op end) = at ≤ end
-Ends at (RefusedOp refusal) = Unit {0}
+abbrev Ends : ℕ → Result (Op × ℕ) Refusal → Type 0
+Ends at (Ok (op, end)) = at ≤ end
+Ends at (Err refusal) = Unit {0}
 
-record PastOp (at : ℕ) (taken : OpParse) : Type 0 where
+record PastOp (at : ℕ) (taken : Result (Op × ℕ) Refusal) : Type 0 where
   ends : Ends at taken
 
-none : (at : ℕ) (refusal : Refusal) → PastOp at (RefusedOp refusal)
+none : (at : ℕ) (refusal : Refusal) → PastOp at (Err refusal)
 none at refusal = record { ends = tt }
 
 number_op_past : (text : List ℕ) (low high at here : ℕ) (op : ℕ → Op) → at ≤ here → PastOp at (number_op text low high op here)
@@ -31,7 +30,7 @@ number_op_past text low high at here op past =
 op_past : (text : List ℕ) (first at : ℕ) → first ≤ at → PastOp first (op_at text at)
 unfolding op_at op_keywords send_op
 op_past text first at from =
-    one_of_holds (PastOp first) (op_keywords text) text at RefusedOp (none first) (
+    one_of_holds (PastOp first) (op_keywords text) text at Err (none first) (
       λ here past. number_op_past text 0 most_number first here Read (omega arith),
       (
         λ here past. number_op_past text 0 most_number first here Write (omega arith),
@@ -47,10 +46,10 @@ op_past text first at from =
       ),
     )
 
-by_op : {A : Type 0} (P : A → Type 0) (at : ℕ) (taken : OpParse) (refused : Refusal → A) (go : Op → ℕ → A) → Ends at taken
+by_op : {A : Type 0} (P : A → Type 0) (at : ℕ) (taken : Result (Op × ℕ) Refusal) (refused : Refusal → A) (go : Op → ℕ → A) → Ends at taken
     → ((refusal : Refusal) → P (refused refusal)) → ((op : Op) (end : ℕ) → at ≤ end → P (go op end)) → P (then_op taken refused go)
-by_op P at (Took op end) refused go h f g = g op end h
-by_op P at (RefusedOp refusal) refused go h f g = f refusal
+by_op P at (Ok (op, end)) refused go h f g = g op end h
+by_op P at (Err refusal) refused go h f g = f refusal
 
 bracketed_op_past : (text : List ℕ) (at : ℕ) → PastOp at (bracketed_op text at)
 unfolding bracketed_op

@@ -1,4 +1,5 @@
 -- Where a word is due, what the code finds first says which token stands next. Assumes nothing.
+use Rattle.std.specs.Prelude.{Result, Ok, Err}
 use Prim.Native.Nat.{ℕ, ◌≤◌}
 use mathlib.Core.Bool.{false}
 use mathlib.Core.List.{List}
@@ -12,12 +13,10 @@ use Rattle.lexer.specs.declared.Token.TheVariants.{Other}
 use Rattle.lexer.specs.Tokens.{token_at, token_kind, token_start, word_kind}
 use Rattle.refusal.specs.declared.Refusal.{Refusal}
 use Rattle.refusal.specs.declared.Refusal.TheVariants.{BrokenShape}
-use Rattle.syntax.specs.declared.WordParse.{WordParse}
-use Rattle.syntax.specs.declared.WordParse.TheVariants.{Word as Found, Refused}
 use Rattle.syntax.specs.Tokens.{due, word_at}
 
 -- a word that was found is the token
-is_found : (token : Token) {start end : ℕ} → due word_kind token Refused Found ≡ Found start end
+is_found : (token : Token) {start end : ℕ} → due word_kind token Err Found ≡ Ok (word_with start end)
     → token ≡ Word start end
 is_found (LineEnd at) e = cc
 is_found (Open at) e = cc
@@ -33,7 +32,7 @@ pub record NoWord (token : Token) (refusal : Refusal) : Type 0 where
   pub told : refusal ≡ BrokenShape (token_start token)
 
 is_refused_lem : (token : Token) {refusal : Refusal}
-    → due word_kind token Refused Found ≡ Refused refusal → NoWord token refusal
+    → due word_kind token Err Found ≡ Err refusal → NoWord token refusal
 is_refused_lem (LineEnd at) e = record { other = refl; told = cc }
 is_refused_lem (Open at) e = record { other = refl; told = cc }
 is_refused_lem (Close at) e = record { other = refl; told = cc }
@@ -42,15 +41,15 @@ is_refused_lem (Number start end value) e = record { other = refl; told = cc }
 is_refused_lem (LongNumber start end) e = record { other = refl; told = cc }
 is_refused_lem (Other start end) e = record { other = refl; told = cc }
 
-module _ (text : List ℕ) (at : ℕ) {found : WordParse} (asked : found ≡ word_at text at) where
-  pub word_found : {start end : ℕ} → found ≡ Found start end → token_at text at ≡ Word start end
+module _ (text : List ℕ) (at : ℕ) {found : Result Word Refusal} (asked : found ≡ word_at text at) where
+  pub word_found : {start end : ℕ} → found ≡ Ok (word_with start end) → token_at text at ≡ Word start end
   unfolding word_at
   word_found known = is_found (token_at text at) (sym asked ∙ known)
 
-  pub word_bytes : {start end : ℕ} → found ≡ Found start end → (start ≤ end) × (end ≤ length text)
+  pub word_bytes : {start end : ℕ} → found ≡ Ok (word_with start end) → (start ≤ end) × (end ≤ length text)
   word_bytes known = word_within text at refl (word_found known)
 
-  pub word_refused : {refusal : Refusal} → found ≡ Refused refusal
+  pub word_refused : {refusal : Refusal} → found ≡ Err refusal
       → NoWord (token_at text at) refusal
   unfolding word_at
   word_refused known = is_refused_lem (token_at text at) (sym asked ∙ known)

@@ -1,4 +1,5 @@
 -- The examples of the plan written back: what is computed from the texts, and what the laws give from there. Assumes nothing.
+use Rattle.std.specs.Prelude.{Ok}
 use Prim.Native.Nat.{ℕ, ◌+◌, ◌*◌, ◌≤◌, ◌<◌}
 use native.Mathlib.Omega.{arith}
 use mathlib.Core.Bool.{false}
@@ -22,7 +23,6 @@ use Rattle.lexer.specs.Decimal.{decimal_of, digits_of}
 use Rattle.engine.proofs.Computing.{computing}
 use Rattle.reader.specs.Draft.{no_ops}
 use Rattle.refusal.specs.declared.Refusal.TheVariants.{BufferTooShort, ImpossiblePlan}
-use Rattle.refusal.specs.declared.Verdict.TheVariants.{Accepted}
 use Rattle.writer.specs.Canonical.{canonical_lines, canonical_text, followed, item_line, joined, lines_from, op_lines_from, plan_lines, script_line, script_lines}
 use Rattle.writer.specs.Lines.{domain_line, op_line, op_text, pad_line, recipients_of, rising_from, run_line, spaced, window_line}
 use Rattle.writer.specs.Scripts.{op_or_zero, ops_alone, written_ops}
@@ -47,7 +47,7 @@ text_is = refl
 
 -- ---- the example's text is accepted, so what it gives can be written
 
-accepted_text : example_read.verdict ≡ Accepted
+accepted_text : example_read.verdict ≡ Ok tt
 unfolding computing reading text_of
 accepted_text = refl
 
@@ -64,11 +64,11 @@ needed = ap length text_is ∙ long
 -- where there is room, and where there is not
 there :
     (out : List ℕ) → 203 ≤ length out
-    → written_with example_read.scripts out ≡ write_with Accepted 203 (canonical_example ++ drop 203 out)
+    → written_with example_read.scripts out ≡ write_with (Ok tt) 203 (canonical_example ++ drop 203 out)
 there out enough =
     sym (accepted example_read.plan example_read.scripts out fine.store fine.valid fine.alone fine.fits (omega (arith, needed, enough)))
-    ∙ ap (λ (text : List ℕ). write_with Accepted (length text) (text ++ drop (length text) out)) text_is
-    ∙ ap (λ (bytes : ℕ). write_with Accepted bytes (canonical_example ++ drop bytes out)) long
+    ∙ ap (λ (text : List ℕ). write_with (Ok tt) (length text) (text ++ drop (length text) out)) text_is
+    ∙ ap (λ (bytes : ℕ). write_with (Ok tt) bytes (canonical_example ++ drop bytes out)) long
 
 not_there :
     (out : List ℕ) → length out < 203

@@ -1,6 +1,6 @@
 -- Document 02, E3: a run that takes as many steps as its bound, with a window that takes as many as
 -- its length and one; runs that take fewer; and what is refused. Assumes nothing.
-use Rattle.std.specs.Prelude.{ℕ, ◌+◌, ◌*◌, List, [], ◌∷◌, ◌≡◌, replicate, set, take}
+use Rattle.std.specs.Prelude.{ℕ, ◌+◌, ◌*◌, List, [], ◌∷◌, ◌≡◌, replicate, set, take, Ok, Err}
 use Rattle.plan.specs.Windows.{window_length}
 use Rattle.plan.specs.Zeros.{no_plan}
 use Rattle.script.specs.declared.Op.TheVariants.{Compute}
@@ -9,7 +9,6 @@ use Rattle.script.specs.Stored.{stored_of}
 use Rattle.bound.specs.Bound.{bound_answer_of, bound_answer_with}
 use Rattle.machine.specs.Fresh.{fresh_world}
 use Rattle.refusal.specs.declared.Refusal.TheVariants.{ImpossiblePlan, WrongLength}
-use Rattle.refusal.specs.declared.Verdict.TheVariants.{Accepted, Refused}
 use Rattle.engine.specs.declared.Ending.TheVariants.{Ended, Stopped}
 use Rattle.engine.specs.Running.{RunOutcome}
 use Rattle.engine.specs.Theorems.{run_from_fresh, steps_in_window}
@@ -59,7 +58,7 @@ sharp_steps window = steps_in_window sharp.plan sharp.scripts (fresh_world ten_e
 
 pub record BoundExamples : Type 0 where
   -- seven ops, and two windows twice
-  pub bound : bound_answer_of sharp.plan sharp.scripts ≡ bound_answer_with Accepted 11
+  pub bound : bound_answer_of sharp.plan sharp.scripts ≡ bound_answer_with (Ok tt) 11
   -- the run takes as many steps: with one less it is stopped, and with more it takes no more
   pub short : ((sharp_run ten_each 10).steps ≡ 10) × ((sharp_run ten_each 10).ending ≡ Stopped)
   pub enough : ((sharp_run ten_each 11).steps ≡ 11) × ((sharp_run ten_each 11).ending ≡ Ended)
@@ -70,21 +69,21 @@ pub record BoundExamples : Type 0 where
   -- without a log no op is run, and only the switches are left
   pub no_log : ((sharp_run [] 11).steps ≡ 4) × ((sharp_run [] 11).ending ≡ Ended)
   -- an op more at the end of a script counts, and one behind the end does not
-  pub at_end : bound_answer_of sharp.plan (with_op_at 1 2) ≡ bound_answer_with Accepted 12
-  pub behind_end : bound_answer_of sharp.plan (with_op_at 1 3) ≡ bound_answer_with Accepted 11
+  pub at_end : bound_answer_of sharp.plan (with_op_at 1 2) ≡ bound_answer_with (Ok tt) 12
+  pub behind_end : bound_answer_of sharp.plan (with_op_at 1 3) ≡ bound_answer_with (Ok tt) 11
   -- that of an undeclared domain counts too, though no run takes it
-  pub undeclared : bound_answer_of sharp.plan (with_op_at 7 0) ≡ bound_answer_with Accepted 12
+  pub undeclared : bound_answer_of sharp.plan (with_op_at 7 0) ≡ bound_answer_with (Ok tt) 12
   pub undeclared_run : (run_from_fresh sharp.plan (with_op_at 7 0) ten_each 12).steps ≡ 11
   -- the plan that document 01 runs has five ops and two windows, and takes as many steps
   pub worked :
-      (bound_answer_of example_read.plan example_read.scripts ≡ bound_answer_with Accepted 7)
+      (bound_answer_of example_read.plan example_read.scripts ≡ bound_answer_with (Ok tt) 7)
       × ((run_from_fresh example_read.plan example_read.scripts ten_each 7).steps ≡ 7)
       × ((run_from_fresh example_read.plan example_read.scripts ten_each 7).ending ≡ Ended)
   -- a store of one number less is refused, also beside an impossible plan; and such a plan is
   pub short_store :
       bound_answer_of sharp.plan (take 2_047 sharp.scripts)
-      ≡ bound_answer_with (Refused WrongLength) 0
+      ≡ bound_answer_with (Err WrongLength) 0
   pub store_first :
-      bound_answer_of no_plan (take 2_047 sharp.scripts) ≡ bound_answer_with (Refused WrongLength) 0
+      bound_answer_of no_plan (take 2_047 sharp.scripts) ≡ bound_answer_with (Err WrongLength) 0
   pub impossible :
-      bound_answer_of no_plan sharp.scripts ≡ bound_answer_with (Refused ImpossiblePlan) 0
+      bound_answer_of no_plan sharp.scripts ≡ bound_answer_with (Err ImpossiblePlan) 0

@@ -1,12 +1,11 @@
 -- Document 02, E8: examples of runs that keep only one domain's log, on the settled plan of
 -- document 01. Assumes nothing.
-use Rattle.std.specs.Prelude.{ℕ, ◌*◌, ◌^◌, [], ◌++◌, ◌≡◌, replicate, take}
+use Rattle.std.specs.Prelude.{ℕ, ◌*◌, ◌^◌, [], ◌++◌, ◌≡◌, replicate, take, Ok, Err}
 use Rattle.records.specs.declared.Observation.TheVariants.{Empty, Got, Hit1, Miss, Sent}
 use Rattle.records.specs.Records.{record_bytes, record_size}
 use Rattle.state.specs.World.{records_at}
 use Rattle.machine.specs.Fresh.{fresh_world}
 use Rattle.refusal.specs.declared.Refusal.TheVariants.{WrongDomain, WrongLength}
-use Rattle.refusal.specs.declared.Verdict.TheVariants.{Accepted, Refused}
 use Rattle.engine.specs.declared.Ending.TheVariants.{Ended}
 use Rattle.engine.specs.Keeping.{kept_call_of}
 use Rattle.engine.specs.Running.{RunOutcome}
@@ -26,7 +25,7 @@ kept_run domain quota limit = kept_from domain quota (record_size * quota) limit
 pub record KeptExamples : Type 0 where
   -- ten records a part: the run does its seven steps and ends, and the buffer holds domain 0's
   -- three records, or domain 1's two, as the settled output has them
-  pub ends : ((kept_run 0 10 100).verdict ≡ Accepted) × ((kept_run 0 10 100).ending ≡ Ended)
+  pub ends : ((kept_run 0 10 100).verdict ≡ Ok tt) × ((kept_run 0 10 100).ending ≡ Ended)
   pub steps : ((kept_run 0 10 100).steps ≡ 7) × ((kept_run 1 10 100).steps ≡ 7)
   pub first :
       take 24 (kept_run 0 10 100).world.log
@@ -48,8 +47,8 @@ pub record KeptExamples : Type 0 where
   pub none : ((kept_run 0 0 100).steps ≡ 2) × ((kept_run 0 0 100).world.log ≡ [])
   -- a buffer of another length is 11, also where the part's bytes would be 0 in 64 bits
   pub lengths :
-      ((kept_from 0 10 79 100).verdict ≡ Refused WrongLength)
-      × ((kept_from 0 9 80 100).verdict ≡ Refused WrongLength)
-      × ((kept_from 0 (2 ^ 61) 0 100).verdict ≡ Refused WrongLength)
+      ((kept_from 0 10 79 100).verdict ≡ Err WrongLength)
+      × ((kept_from 0 9 80 100).verdict ≡ Err WrongLength)
+      × ((kept_from 0 (2 ^ 61) 0 100).verdict ≡ Err WrongLength)
   -- domain 2 is not declared
-  pub undeclared : (kept_run 2 10 100).verdict ≡ Refused (WrongDomain 0)
+  pub undeclared : (kept_run 2 10 100).verdict ≡ Err (WrongDomain 0)

@@ -1,6 +1,6 @@
 -- Document 02, E6 and E9: its example, from a plan's text to the latest finish of a domain and to
 -- the run that reaches it; others worked out by hand; and what is refused. Assumes nothing.
-use Rattle.std.specs.Prelude.{ℕ, zero, suc, ◌+◌, ◌-◌, List, [], ◌∷◌, ◌++◌, ◌≡◌, replicate}
+use Rattle.std.specs.Prelude.{ℕ, zero, suc, ◌+◌, ◌-◌, List, [], ◌∷◌, ◌++◌, ◌≡◌, replicate, Ok, Err}
 use Prim.Native.String.{String}
 use Rattle.plan.specs.declared.Plan.{Plan}
 use Rattle.plan.specs.Windows.{window_end}
@@ -17,7 +17,6 @@ use Rattle.machine.specs.Switch.{touched_clock}
 use Rattle.refusal.specs.declared.Refusal.{Refusal}
 use Rattle.refusal.specs.declared.Refusal.TheVariants.{ImpossiblePlan, LatestOutOfLimits}
 use Rattle.refusal.specs.declared.Refusal.TheVariants.{WrongLength}
-use Rattle.refusal.specs.declared.Verdict.TheVariants.{Accepted, Refused}
 use Rattle.reader.specs.Draft.{no_ops}
 use Rattle.reader.specs.Read.{read_of}
 use Rattle.worked_example.specs.Example.{text_of}
@@ -91,12 +90,12 @@ answer_for plan domain = latest_of plan domain buffer
 -- so many ticks are told
 abbrev pub Tells : Plan → ℕ → ℕ → Type 0
 Tells plan domain ticks =
-    ((answer_for plan domain).verdict ≡ Accepted) × ((answer_for plan domain).ticks ≡ ticks)
+    ((answer_for plan domain).verdict ≡ Ok tt) × ((answer_for plan domain).ticks ≡ ticks)
 
 -- a refusal is told, and the buffer is as it was
 abbrev pub RefusesLatest : Plan → ℕ → List ℕ → Refusal → Type 0
 RefusesLatest plan domain script refusal =
-    latest_of plan domain script ≡ record { verdict = Refused refusal; ticks = 0; script = script }
+    latest_of plan domain script ≡ record { verdict = Err refusal; ticks = 0; script = script }
 
 -- a script of these ops, as 256 stored numbers
 unfoldable pub stored_script : ℕ → List Op → List ℕ

@@ -1,6 +1,6 @@
 -- Document 02, E4: the plan that document 01 runs, written back; another spelling of it; and what is refused.
 -- Assumes nothing.
-use Rattle.std.specs.Prelude.{ℕ, ◌+◌, ◌*◌, List, [], ◌∷◌, ◌++◌, ◌≡◌, length, replicate, set, take}
+use Rattle.std.specs.Prelude.{ℕ, ◌+◌, ◌*◌, List, [], ◌∷◌, ◌++◌, ◌≡◌, length, replicate, set, take, Ok, Err}
 use Rattle.lists.specs.Ascii.{bytes_of}
 use Rattle.plan.specs.Zeros.{no_plan}
 use Rattle.script.specs.declared.Op.TheVariants.{Compute}
@@ -10,7 +10,6 @@ use Rattle.reader.specs.Draft.{no_ops}
 use Rattle.reader.specs.Read.{read_of}
 use Rattle.refusal.specs.declared.Refusal.{Refusal}
 use Rattle.refusal.specs.declared.Refusal.TheVariants.{BufferTooShort, ImpossiblePlan, WrongLength}
-use Rattle.refusal.specs.declared.Verdict.TheVariants.{Accepted, Refused}
 use Rattle.writer.specs.Write.{WriteOutcome, write_of, write_with}
 use Rattle.worked_example.specs.Example.{text_of}
 use Rattle.worked_example.specs.WorkedExample.{example_read}
@@ -53,7 +52,7 @@ written bytes = written_with example_read.scripts (room bytes)
 
 -- a refusal, which leaves the buffer
 abbrev pub refused_with : Refusal → List ℕ → WriteOutcome
-refused_with refusal out = write_with (Refused refusal) 0 out
+refused_with refusal out = write_with (Err refusal) 0 out
 
 -- the example's scripts with another number at a position of a domain's part
 abbrev pub scripts_with : ℕ → ℕ → ℕ → List ℕ
@@ -62,8 +61,8 @@ scripts_with domain position number = set example_read.scripts (most_ops * domai
 pub record WriteExamples : Type 0 where
   -- 203 bytes, where there is room for them; past them the buffer stays
   pub long : length canonical_example ≡ 203
-  pub exact : written 203 ≡ write_with Accepted 203 canonical_example
-  pub longer : written 206 ≡ write_with Accepted 203 (canonical_example ++ room 3)
+  pub exact : written 203 ≡ write_with (Ok tt) 203 canonical_example
+  pub longer : written 206 ≡ write_with (Ok tt) 203 (canonical_example ++ room 3)
   -- a byte less is refused with the length that is needed, and the buffer stays
   pub shorter : written 202 ≡ refused_with (BufferTooShort 203) (room 202)
   pub none : written 0 ≡ refused_with (BufferTooShort 203) []

@@ -1,4 +1,5 @@
 -- Each answer from the tests that lead to it. Assumes nothing.
+use Rattle.std.specs.Prelude.{Ok, Err}
 use Prim.Native.Nat.{ℕ, ◌≤◌, ◌<◌}
 use mathlib.Core.Bool.{Bool, true, false}
 use mathlib.Core.List.{List, ◌++◌}
@@ -15,7 +16,6 @@ use Rattle.plan.specs.Limits.{most_text_bytes}
 use Rattle.plan.specs.Validity.{plan_valid}
 use Rattle.script.specs.Limits.{scripts_length}
 use Rattle.refusal.specs.declared.Refusal.TheVariants.{BufferTooShort, ImpossiblePlan, WrongLength}
-use Rattle.refusal.specs.declared.Verdict.TheVariants.{Accepted, Refused}
 use Rattle.lists.specs.Writing.{Wrote}
 use Rattle.writer.specs.Canonical.{canonical_text}
 use Rattle.writer.specs.Scripts.{ops_alone}
@@ -28,22 +28,22 @@ first_bytes buffer text room =
     ap (take (length text)) whole ∙ take-append_seam text (drop (length text) buffer)
 
 module _ (plan : Plan) (scripts out : List ℕ) where
-  pub wrong_length_lem : (length scripts ≡ scripts_length → ⊥) → write_with (Refused WrongLength) 0 out ≡ write_of plan scripts out
+  pub wrong_length_lem : (length scripts ≡ scripts_length → ⊥) → write_with (Err WrongLength) 0 out ≡ write_of plan scripts out
   unfolding write_of write_verdict
   wrong_length_lem differs = rw (ne_eqb (length scripts) scripts_length differs) refl
 
   module _ (store : length scripts ≡ scripts_length) where
-    pub impossible_plan : plan_valid plan ≡ false → write_with (Refused ImpossiblePlan) 0 out ≡ write_of plan scripts out
+    pub impossible_plan : plan_valid plan ≡ false → write_with (Err ImpossiblePlan) 0 out ≡ write_of plan scripts out
     unfolding write_of write_verdict writable
     impossible_plan impossible = rw (eq-eqb (length scripts) scripts_length store, impossible) refl
 
     module _ (possible : plan_valid plan ≡ true) where
-      pub not_alone : ops_alone plan scripts ≡ false → write_with (Refused ImpossiblePlan) 0 out ≡ write_of plan scripts out
+      pub not_alone : ops_alone plan scripts ≡ false → write_with (Err ImpossiblePlan) 0 out ≡ write_of plan scripts out
       unfolding write_of write_verdict writable
       not_alone others = rw (eq-eqb (length scripts) scripts_length store, possible, others) refl
 
       module _ (alone : ops_alone plan scripts ≡ true) where
-        pub too_long : most_text_bytes < length (canonical_text plan scripts) → write_with (Refused ImpossiblePlan) 0 out ≡ write_of plan scripts out
+        pub too_long : most_text_bytes < length (canonical_text plan scripts) → write_with (Err ImpossiblePlan) 0 out ≡ write_of plan scripts out
         unfolding write_of write_verdict writable
         too_long over =
             rw (
@@ -57,7 +57,7 @@ module _ (plan : Plan) (scripts out : List ℕ) where
         module _ (fits : length (canonical_text plan scripts) ≤ most_text_bytes) where
           pub too_short :
               length out < length (canonical_text plan scripts)
-              → write_with (Refused (BufferTooShort (length (canonical_text plan scripts)))) 0 out ≡ write_of plan scripts out
+              → write_with (Err (BufferTooShort (length (canonical_text plan scripts)))) 0 out ≡ write_of plan scripts out
           unfolding write_of write_verdict writable
           too_short short =
               rw (
@@ -71,7 +71,7 @@ module _ (plan : Plan) (scripts out : List ℕ) where
 
           pub accepted :
               length (canonical_text plan scripts) ≤ length out
-              → write_with Accepted (length (canonical_text plan scripts)) (canonical_text plan scripts ++ drop (length (canonical_text plan scripts)) out)
+              → write_with (Ok tt) (length (canonical_text plan scripts)) (canonical_text plan scripts ++ drop (length (canonical_text plan scripts)) out)
               ≡ write_of plan scripts out
           unfolding write_of write_verdict writable
           accepted room =
@@ -90,7 +90,7 @@ module _ (plan : Plan) (scripts out : List ℕ) where
               → Wrote buffer 0 (canonical_text plan scripts) after next
               → length buffer ≡ most_text_bytes
               → next ≤ length out
-              → write_with Accepted next (take next after ++ drop next out) ≡ write_of plan scripts out
+              → write_with (Ok tt) next (take next after ++ drop next out) ≡ write_of plan scripts out
           handed buffer wrote size room =
               let text = canonical_text plan scripts in
               let needed = (wrote_first buffer text wrote).0 in

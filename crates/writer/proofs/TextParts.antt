@@ -1,4 +1,5 @@
 -- The canonical text by its parts, in the order in which they are written, and how long it is at most. Assumes nothing.
+use Rattle.std.specs.Prelude.{Option, Some, None}
 use Prim.Native.Nat.{ℕ, zero, suc, ◌+◌, ◌*◌, ◌≤◌}
 use mathlib.Core.Bool.{Bool, true, false}
 use mathlib.Core.List.{List, [], ◌∷◌, ◌++◌, append_assoc, append-nil}
@@ -16,8 +17,6 @@ use Rattle.plan.specs.Validity.{plan_valid}
 use Rattle.plan.proofs.ValidPlans.{counts}
 use Rattle.script.specs.declared.Op.{Op}
 use Rattle.script.specs.declared.Op.TheVariants.{Read, Write, Send, Receive, Compute}
-use Rattle.script.specs.declared.ScriptItem.{ScriptItem}
-use Rattle.script.specs.declared.ScriptItem.TheVariants.{Op as Fetch, End}
 use Rattle.script.specs.Fetch.{fetch_of}
 use Rattle.script.specs.Limits.{most_ops}
 use Rattle.script.specs.ScriptEnd.{stored_ops}
@@ -109,9 +108,9 @@ script_line_most : (scripts : List ℕ) (domain position : ℕ) → length (fed 
 unfolding script_line item_line bytes_of
 script_line_most scripts domain position = go (fetch_of scripts domain position)
   where
-    go : (item : ScriptItem) → length (fed (item_line domain item)) ≤ 74
-    go (Fetch op) = omega (arith, op_length domain op, decimal_most domain, words_most op)
-    go End = omega arith
+    go : (item : Option Op) → length (fed (item_line domain item)) ≤ 74
+    go (Some op) = omega (arith, op_length domain op, decimal_most domain, words_most op)
+    go None = omega arith
 
 -- lines of bounded length
 lines_most :

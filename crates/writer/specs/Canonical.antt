@@ -1,14 +1,13 @@
 -- Document 02, E4: the single form of a plan with its scripts, the canonical text. The lines of the plan come
 -- first, then those of the ops, one domain after the other; LF separates lines and does not end the last.
 -- Assumes nothing.
-use Rattle.std.specs.Prelude.{ℕ, zero, suc, ◌+◌, List, [], ◌∷◌, ◌++◌}
+use Rattle.std.specs.Prelude.{ℕ, zero, suc, ◌+◌, List, [], ◌∷◌, ◌++◌, Option, Some, None}
 use Rattle.lists.specs.Ascii.{bytes_of}
 use Rattle.plan.specs.declared.Plan.{Plan}
-use Rattle.script.specs.declared.ScriptItem.{ScriptItem}
-use Rattle.script.specs.declared.ScriptItem.TheVariants.{Op as Fetch, End}
 use Rattle.script.specs.Fetch.{fetch_of}
 use Rattle.script.specs.ScriptEnd.{stored_ops}
 use Rattle.writer.specs.Lines.{domain_line, op_line, pad_line, run_line, window_line}
+use Rattle.script.specs.declared.Op.{Op}
 
 -- a line for each of the `left` indices from `index` on
 unfoldable pub lines_from : (ℕ → List ℕ) → ℕ → ℕ → List (List ℕ)
@@ -21,9 +20,9 @@ plan_lines plan =
     pad_line plan ∷ (lines_from (domain_line plan) plan.domains 0 ++ lines_from (window_line plan) plan.windows 0 ++ (run_line plan ∷ []))
 
 -- what stands at a position of a domain's script, as a line; the end, at which no line is asked for, has no byte
-unfoldable pub item_line : ℕ → ScriptItem → List ℕ
-item_line domain (Fetch op) = op_line domain op
-item_line domain End = []
+unfoldable pub item_line : ℕ → Option Op → List ℕ
+item_line domain (Some op) = op_line domain op
+item_line domain None = []
 
 -- the line of a position of a domain's script
 unfoldable pub script_line : List ℕ → ℕ → ℕ → List ℕ

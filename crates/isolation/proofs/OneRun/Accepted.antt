@@ -1,5 +1,6 @@
 -- Which calls on a list's own things are refused after it: a step or a run where the script store has not
 -- `scripts_length` numbers, a log query where the domain is not declared, and no other. Assumes nothing.
+use Rattle.std.specs.Prelude.{Ok, Err}
 use Prim.Native.Nat.{ℕ, ◌<◌}
 use mathlib.Core.Bool.{true}
 use mathlib.Core.List.{List}
@@ -14,7 +15,6 @@ use Rattle.state.specs.World.{World}
 use Rattle.reachable.proofs.Reached.{log_length_lem, state_is_valid}
 use Rattle.refusal.specs.Code.{code_of}
 use Rattle.refusal.specs.declared.Refusal.TheVariants.{WrongDomain}
-use Rattle.refusal.specs.declared.Verdict.TheVariants.{Accepted, Refused}
 use Rattle.engine.specs.LogQuery.{log_status_of}
 use Rattle.engine.specs.Checks.{run_verdict}
 use Rattle.machine.specs.Fresh.{fresh_world}
@@ -41,16 +41,16 @@ module _ (run : FreshRun) (count : ℕ) (possible : plan_valid run.plan ≡ true
       (state_is_valid run.plan run.scripts run.log count possible)
 
   pub run_verdict_accepted : length run.scripts ≡ scripts_length
-      → run_verdict run.plan run.scripts (world_after run count) ≡ Accepted
+      → run_verdict run.plan run.scripts (world_after run count) ≡ Ok tt
   unfolding world_after
   run_verdict_accepted store = reached_accepted run.plan run.scripts run.log count possible store
 
   pub log_query_accepted : (domain : ℕ) → domain < run.plan.domains
-      → log_status_of run.plan (world_after run count).state (world_after run count).log domain ≡ Accepted
+      → log_status_of run.plan (world_after run count).state (world_after run count).log domain ≡ Ok tt
   log_query_accepted domain declared = log_query_passes run.plan _ _ domain possible state_passes declared
 
   log_query_refused : (domain : ℕ) → (domain < run.plan.domains → ⊥)
-      → log_status_of run.plan (world_after run count).state (world_after run count).log domain ≡ Refused (WrongDomain 0)
+      → log_status_of run.plan (world_after run count).state (world_after run count).log domain ≡ Err (WrongDomain 0)
   log_query_refused domain undeclared = wrong_domain run.plan _ _ domain possible state_passes undeclared
 
 -- ---- a call that is handed the list's own things
@@ -79,27 +79,27 @@ module _ (plan : Plan) (scripts : List ℕ) (world : World) where
 module _ (list : CallList) (is : IsList list) where
   -- a query for a declared domain's log is not refused after any list
   pub queried : (domain : ℕ) → domain < list.plan.domains
-      → log_status_of list.plan (leaves_of list).state (leaves_of list).log domain ≡ Accepted
+      → log_status_of list.plan (leaves_of list).state (leaves_of list).log domain ≡ Ok tt
   queried domain declared =
-      subst (λ world. log_status_of list.plan world.state world.log domain ≡ Accepted) (sym (leaves list is))
+      subst (λ world. log_status_of list.plan world.state world.log domain ≡ Ok tt) (sym (leaves list is))
       (log_query_accepted (run_of_list list) (point_of list) (list_valid list is) domain declared)
 
   own_verdict : length list.scripts ≡ scripts_length
-      → run_verdict list.plan list.scripts (leaves_of list) ≡ Accepted
+      → run_verdict list.plan list.scripts (leaves_of list) ≡ Ok tt
   own_verdict store =
-      subst (λ world. run_verdict list.plan list.scripts world ≡ Accepted) (sym (leaves list is))
+      subst (λ world. run_verdict list.plan list.scripts world ≡ Ok tt) (sym (leaves list is))
       (run_verdict_accepted (run_of_list list) (point_of list) (list_valid list is) store)
 
   -- and for an undeclared one's it is
   not_queried : (domain : ℕ) → (domain < list.plan.domains → ⊥)
-      → log_status_of list.plan (leaves_of list).state (leaves_of list).log domain ≡ Refused (WrongDomain 0)
+      → log_status_of list.plan (leaves_of list).state (leaves_of list).log domain ≡ Err (WrongDomain 0)
   not_queried domain undeclared =
-      subst (λ world. log_status_of list.plan world.state world.log domain ≡ Refused (WrongDomain 0)) (sym (leaves list is))
+      subst (λ world. log_status_of list.plan world.state world.log domain ≡ Err (WrongDomain 0)) (sym (leaves list is))
       (log_query_refused (run_of_list list) (point_of list) (list_valid list is) domain undeclared)
 
   -- an admissible call on the list's own things is not refused
   pub own_accepted : (call : Call) → AllOwn call → Admissible list.plan list.scripts call
-      → verdict_after list call ≡ Accepted
+      → verdict_after list call ≡ Ok tt
   unfolding verdict_of
   own_accepted (step_call things) owned store = own_step list.plan list.scripts (leaves_of list) things owned ∙ own_verdict store
   own_accepted (run_call things limit) owned store = own_run list.plan list.scripts (leaves_of list) things limit owned ∙ own_verdict store

@@ -1,5 +1,6 @@
 -- Running a + b steps after a list is running a steps, then b: the same answer, the same world, and the steps done add
 -- up. Assumes nothing.
+use Rattle.std.specs.Prelude.{Ok, Err}
 use Prim.Native.Nat.{ℕ, ◌+◌}
 use mathlib.Core.Bool.{true}
 use mathlib.Core.List.{List}
@@ -14,8 +15,6 @@ use Rattle.state.specs.World.{World}
 use Rattle.machine.specs.Steps.{run_of}
 use Rattle.machine.proofs.Runs.{run_add}
 use Rattle.refusal.specs.declared.Refusal.{Refusal}
-use Rattle.refusal.specs.declared.Verdict.{Verdict}
-use Rattle.refusal.specs.declared.Verdict.TheVariants.{Accepted, Refused}
 use Rattle.engine.specs.Checks.{run_verdict}
 use Rattle.engine.specs.Running.{RunOutcome, ran_from, run_call_of, run_from}
 use Rattle.isolation.specs.Calls.{CallList, IsList, leaves_of, point_of, run_twice}
@@ -24,6 +23,7 @@ use Rattle.isolation.specs.Statement.{run_of_list}
 use Rattle.isolation.proofs.OneRun.Accepted.{run_verdict_accepted}
 use Rattle.isolation.proofs.OneRun.Leaves.{leaves, list_valid, quota_kept, steps_later}
 use Rattle.isolation.proofs.OneRun.Verdicts.{wrong_store}
+use Rattle.refusal.specs.Verdict.{Verdict}
 
 -- an answer, with the steps that were done before it
 abbrev after : ℕ → RunOutcome → RunOutcome
@@ -41,24 +41,24 @@ module _ (plan : Plan) (scripts : List ℕ) where
 
   -- a refused one is refused again, on the same world
   refused_twice : (world : World) (first second : ℕ) (refusal : Refusal)
-      → run_verdict plan scripts world ≡ Refused refusal
+      → run_verdict plan scripts world ≡ Err refusal
       → run_call_of plan scripts world (first + second) ≡ run_twice plan scripts world first second
   unfolding run_twice
   refused_twice world first second refusal refused =
-      let one = judged world first (Refused refusal) refused in
-      let two = judged world second (Refused refusal) refused in
-      judged world (first + second) (Refused refusal) refused
+      let one = judged world first (Err refusal) refused in
+      let two = judged world second (Err refusal) refused in
+      judged world (first + second) (Err refusal) refused
       ∙ sym (ap (λ (r : RunOutcome). after r.steps (run_call_of plan scripts r.world second)) one ∙ ap (after 0) two)
 
   -- one that is not refused, and leads to a world with parts as large on which the other is not refused either
   module _ (world : World) (first second quota : ℕ) (quota_is : part_records plan (length world.log) ≡ quota)
-      (accepted : run_verdict plan scripts world ≡ Accepted) where
+      (accepted : run_verdict plan scripts world ≡ Ok tt) where
     -- the world that the first leaves
     abbrev later : World
     later = (run_of plan scripts quota first world).world
 
     ran : (limit : ℕ) → run_call_of plan scripts world limit ≡ ran_from plan (run_of plan scripts quota limit world)
-    ran limit = judged world limit Accepted accepted ∙ ap (λ (q : ℕ). ran_from plan (run_of plan scripts q limit world)) quota_is
+    ran limit = judged world limit (Ok tt) accepted ∙ ap (λ (q : ℕ). ran_from plan (run_of plan scripts q limit world)) quota_is
 
     accepted_twice : run_call_of plan scripts later second ≡ ran_from plan (run_of plan scripts quota second later)
         → run_call_of plan scripts world (first + second) ≡ run_twice plan scripts world first second

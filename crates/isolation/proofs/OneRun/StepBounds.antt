@@ -1,4 +1,5 @@
 -- The steps that the calls of a list answer: each call brings the list's run as far as it says. Assumes nothing.
+use Rattle.std.specs.Prelude.{Ok, Err}
 use Prim.Native.Nat.{ℕ, ◌+◌, ◌≤◌, ◌<◌}
 use mathlib.Core.Bool.{Bool, true, false, false≢true}
 use mathlib.Core.List.{List, [], ◌∷◌}
@@ -21,8 +22,6 @@ use Rattle.reachable.proofs.Cells.{zeros_length}
 use Rattle.reachable.proofs.Ending.{before_end, run_whole, steps_are, steps_within}
 use Rattle.reachable.proofs.Progress.{Further, progress_of, run_further}
 use Rattle.reachable.proofs.WindowSteps.{all_windows, window_steps_lem}
-use Rattle.refusal.specs.declared.Verdict.{Verdict}
-use Rattle.refusal.specs.declared.Verdict.TheVariants.{Accepted, Refused}
 use Rattle.engine.specs.Checks.{run_verdict}
 use Rattle.engine.specs.declared.Ending.TheVariants.{Ended}
 use Rattle.engine.specs.Running.{ending_of, ran_from, run_call_of, run_from, step_call_of}
@@ -35,6 +34,7 @@ use Rattle.isolation.specs.StepBounds.{ListsBounded, answered_by, answered_toget
 use Rattle.isolation.proofs.OneRun.Accepted.{run_verdict_accepted}
 use Rattle.isolation.proofs.OneRun.Calls.{all_own, refused_stays}
 use Rattle.isolation.proofs.OneRun.Leaves.{leaves, list_start, list_valid, steps_later}
+use Rattle.refusal.specs.Verdict.{Verdict}
 
 -- ---- a run, refused or not
 
@@ -49,8 +49,8 @@ unfolding run_call_of ran_from
 run_goes plan scripts world limit possible eight = go (run_verdict plan scripts world)
   where
     go : (verdict : Verdict) → Further world (run_from verdict plan scripts world limit).steps (run_from verdict plan scripts world limit).world
-    go Accepted = run_further plan scripts (part_records plan (length world.log)) possible limit world eight
-    go (Refused refusal) = stays world eight
+    go (Ok tt) = run_further plan scripts (part_records plan (length world.log)) possible limit world eight
+    go (Err refusal) = stays world eight
 
 -- a refused one answers none
 refused_none : (plan : Plan) (scripts : List ℕ) (world : World) (limit : ℕ) → is_refused (run_call_of plan scripts world limit).verdict ≡ true
@@ -59,8 +59,8 @@ unfolding run_call_of ran_from
 refused_none plan scripts world limit = go (run_verdict plan scripts world)
   where
     go : (verdict : Verdict) → is_refused (run_from verdict plan scripts world limit).verdict ≡ true → (run_from verdict plan scripts world limit).steps ≡ 0
-    go Accepted refused = absurd (false≢true refused)
-    go (Refused refusal) refused = refl
+    go (Ok tt) refused = absurd (false≢true refused)
+    go (Err refusal) refused = refl
 
 -- ---- a call on a list's own world
 
@@ -133,9 +133,9 @@ module _ (list : CallList) (is : IsList list) where
   -- ---- one running more
 
   -- it is not refused
-  passes : length list.scripts ≡ scripts_length → run_verdict list.plan list.scripts (leaves_of list) ≡ Accepted
+  passes : length list.scripts ≡ scripts_length → run_verdict list.plan list.scripts (leaves_of list) ≡ Ok tt
   passes store =
-      subst (λ world. run_verdict list.plan list.scripts world ≡ Accepted) (sym (leaves list is))
+      subst (λ world. run_verdict list.plan list.scripts world ≡ Ok tt) (sym (leaves list is))
       (run_verdict_accepted (run_of_list list) (point_of list) possible_plan store)
 
   -- the world that it leaves, which the list's run reaches as many steps later

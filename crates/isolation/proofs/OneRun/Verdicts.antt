@@ -1,4 +1,5 @@
 -- When the entry points refuse, and what a run that is not refused leaves. Assumes nothing.
+use Rattle.std.specs.Prelude.{Ok, Err}
 use Prim.Native.Nat.{ℕ, ◌<◌}
 use mathlib.Core.Bool.{Bool, true, false, false≢true, not}
 use mathlib.Core.List.{List}
@@ -16,8 +17,6 @@ use Rattle.state.specs.World.{World}
 use Rattle.machine.specs.Steps.{RunEffect, steps}
 use Rattle.refusal.specs.declared.Refusal.{Refusal}
 use Rattle.refusal.specs.declared.Refusal.TheVariants.{ImpossiblePlan, WrongDomain, WrongLength}
-use Rattle.refusal.specs.declared.Verdict.{Verdict}
-use Rattle.refusal.specs.declared.Verdict.TheVariants.{Accepted, Refused}
 use Rattle.engine.specs.LogQuery.{log_status_of}
 use Rattle.engine.specs.Checks.{fresh_verdict, lent_verdict, log_verdict, run_verdict, tables_fit}
 use Rattle.refusal.specs.Checks.{unless}
@@ -26,9 +25,10 @@ use Rattle.machine.specs.Fresh.{fresh_world}
 use Rattle.engine.specs.FreshStart.{FreshOutcome, fresh_from, fresh_start_of}
 use Rattle.engine.specs.Running.{outcome_from, ran_from, run_call_of, run_from}
 use Rattle.isolation.specs.Calls.{is_refused}
+use Rattle.refusal.specs.Verdict.{Verdict}
 
 -- every refusal has a number that is not 0
-pub refused_number : (refusal : Refusal) → is_refused (Refused refusal) ≡ true
+pub refused_number : (refusal : Refusal) → is_refused (Err refusal) ≡ true
 refused_number refusal = ap not (number_not_zero refusal)
 
 -- ---- a run
@@ -38,13 +38,13 @@ module _ (plan : Plan) (ran : RunEffect) (world : World) where
   pub outcome_refused : (verdict : Verdict) → is_refused (outcome_from verdict plan ran world).verdict ≡ true
       → (outcome_from verdict plan ran world).world ≡ world
   unfolding ran_from
-  outcome_refused Accepted refused = absurd (false≢true refused)
-  outcome_refused (Refused refusal) refused = refl
+  outcome_refused (Ok tt) refused = absurd (false≢true refused)
+  outcome_refused (Err refusal) refused = refl
 
-  pub outcome_accepted : (verdict : Verdict) → is_refused (outcome_from verdict plan ran world).verdict ≡ false → verdict ≡ Accepted
+  pub outcome_accepted : (verdict : Verdict) → is_refused (outcome_from verdict plan ran world).verdict ≡ false → verdict ≡ Ok tt
   unfolding ran_from
-  outcome_accepted Accepted accepted = refl
-  outcome_accepted (Refused refusal) accepted = absurd (false≢true (sym accepted ∙ refused_number refusal))
+  outcome_accepted (Ok tt) accepted = refl
+  outcome_accepted (Err refusal) accepted = absurd (false≢true (sym accepted ∙ refused_number refusal))
 
 module _ (plan : Plan) (scripts : List ℕ) (world : World) (limit : ℕ) where
   -- a refused run leaves what it was handed
@@ -61,8 +61,8 @@ module _ (plan : Plan) (scripts : List ℕ) (world : World) (limit : ℕ) where
     where
       go : (verdict : Verdict) → is_refused (run_from verdict plan scripts world limit).verdict ≡ false
           → (run_from verdict plan scripts world limit).world ≡ steps plan scripts (part_records plan (length world.log)) limit world
-      go Accepted accepted' = refl
-      go (Refused refusal) accepted' = absurd (false≢true (sym accepted' ∙ refused_number refusal))
+      go (Ok tt) accepted' = refl
+      go (Err refusal) accepted' = absurd (false≢true (sym accepted' ∙ refused_number refusal))
 
   -- its verdict is that of the checks
   pub run_verdict_lem : (run_call_of plan scripts world limit).verdict ≡ run_verdict plan scripts world
@@ -70,14 +70,14 @@ module _ (plan : Plan) (scripts : List ℕ) (world : World) (limit : ℕ) where
   run_verdict_lem = go (run_verdict plan scripts world)
     where
       go : (verdict : Verdict) → (run_from verdict plan scripts world limit).verdict ≡ verdict
-      go Accepted = refl
-      go (Refused refusal) = refl
+      go (Ok tt) = refl
+      go (Err refusal) = refl
 
 -- ---- the checks
 
 -- a script store of another length is refused, whatever else is handed
 pub wrong_store : (plan : Plan) (scripts : List ℕ) (world : World) → (length scripts ≡ scripts_length → ⊥)
-    → run_verdict plan scripts world ≡ Refused WrongLength
+    → run_verdict plan scripts world ≡ Err WrongLength
 unfolding run_verdict lent_verdict
 wrong_store plan scripts world differs = rw (ne_eqb (length scripts) scripts_length differs, lent_verdict)
 
@@ -86,7 +86,7 @@ pub wrong_domain : (plan : Plan) (state : State) (log : List ℕ) (domain : ℕ)
     → plan_valid plan ≡ true
     → state_valid plan (part_records plan (length log)) state ≡ true
     → (domain < plan.domains → ⊥)
-    → log_status_of plan state log domain ≡ Refused (WrongDomain 0)
+    → log_status_of plan state log domain ≡ Err (WrongDomain 0)
 unfolding log_status_of log_verdict
 wrong_domain plan state log domain possible passes undeclared =
     rw (possible, passes, le-ltb domain plan.domains (omega arith), log_verdict)
@@ -102,7 +102,7 @@ unfolding fresh_start_of fresh_verdict
 fresh_valid plan state cache boxes started = go (tables_fit cache boxes) (plan_valid plan) started
   where
     go : (fit possible : Bool)
-        → is_refused (fresh_from (unless fit WrongLength (unless possible ImpossiblePlan Accepted)) state cache boxes).verdict ≡ false → possible ≡ true
+        → is_refused (fresh_from (unless fit WrongLength (unless possible ImpossiblePlan (Ok tt))) state cache boxes).verdict ≡ false → possible ≡ true
     go true true accepted = refl
     go true false accepted = sym accepted
     go false possible accepted = absurd (false≢true (sym accepted))
@@ -116,5 +116,5 @@ fresh_started plan state cache boxes log started = go (fresh_verdict plan cache 
   where
     go : (verdict : Verdict) → is_refused (fresh_from verdict state cache boxes).verdict ≡ false
         → beside (fresh_from verdict state cache boxes) log ≡ fresh_world log
-    go Accepted started' = refl
-    go (Refused refusal) started' = absurd (false≢true (sym started' ∙ refused_number refusal))
+    go (Ok tt) started' = refl
+    go (Err refusal) started' = absurd (false≢true (sym started' ∙ refused_number refusal))

@@ -1,6 +1,7 @@
 -- An access of a line in two cache tables, and in one. Two tables that agree at the indices which the access touches
 -- answer alike and go on agreeing; indices that it does not touch stay as they are. It touches the set of the line asked
 -- for, and that of a dirty line which it puts out. Assumes nothing.
+use Rattle.std.specs.Prelude.{Option, Some, None}
 use Prim.Native.Nat.{ℕ}
 use mathlib.Core.Bool.{Bool}
 use mathlib.Core.List.{List}
@@ -10,8 +11,6 @@ use lib.ListN.{length, set}
 use lib.Seq.{sets}
 use Rattle.lists.proofs.Agree.{Agree, InRange, agree_fewer, agree_refl, agree_trans, part_alike, set_alike, set_away}
 use Rattle.lists.proofs.Agree.{sets_alike, sets_away, splice_sets}
-use Rattle.cache.specs.declared.WriteBack.{WriteBack}
-use Rattle.cache.specs.declared.WriteBack.TheVariants.{Line, Nothing}
 use Rattle.cache.specs.Access.{AccessOutcome, Lookup, access_of, lookup_at, lookup_of, seek_of, write_back_at, written_back}
 use Rattle.cache.specs.Lines.{clean_entry, l1_index, set_of, set_index, table_length, ways_per_set}
 use Rattle.cache.specs.Sets.{move_to_front}
@@ -26,7 +25,7 @@ pub data SoughtIndex (line index : ℕ) : Type 0 where
 -- the indices that an access of a line in a table may touch: those, and the ways of a line's set that it puts out
 pub data AccessedIndex (line : ℕ) (table : List ℕ) (index : ℕ) : Type 0 where
   sought : SoughtIndex line index → AccessedIndex line table index
-  put_out : (other : ℕ) → write_back_at line table ≡ Line other → InRange (set_index (set_of other)) ways_per_set index
+  put_out : (other : ℕ) → write_back_at line table ≡ Some other → InRange (set_index (set_of other)) ways_per_set index
       → AccessedIndex line table index
 
 -- what two accesses of one line answer and leave is alike
@@ -40,29 +39,29 @@ pub record AccessAlike (Named : ℕ → Type 0) (one other : AccessOutcome) : Ty
 
 -- the table that it leaves, as stores: the ways of its set
 back_stores : (line : ℕ) (table : List ℕ) → length table ≡ table_length
-    → written_back (Line line) table ≡ sets table (set_index (set_of line)) (move_to_front (clean_entry line) (ways_of line table))
+    → written_back (Some line) table ≡ sets table (set_index (set_of line)) (move_to_front (clean_entry line) (ways_of line table))
 unfolding written_back
 back_stores line table whole =
     splice_sets (set_index (set_of line)) ways_per_set _ table (used_ways line table whole) (omega arith)
 
-back_keeps : {Named : ℕ → Type 0} (back : WriteBack)
-    → ((line index : ℕ) → back ≡ Line line → InRange (set_index (set_of line)) ways_per_set index → Named index)
+back_keeps : {Named : ℕ → Type 0} (back : Option ℕ)
+    → ((line index : ℕ) → back ≡ Some line → InRange (set_index (set_of line)) ways_per_set index → Named index)
     → {one other : List ℕ} → length one ≡ table_length → Agree Named one other
     → Agree Named (written_back back one) (written_back back other)
 unfolding written_back
-back_keeps Nothing touched whole a = a
-back_keeps (Line line) touched {one} {other} whole a =
+back_keeps None touched whole a = a
+back_keeps (Some line) touched {one} {other} whole a =
     let first = set_index (set_of line) in
     let ways : ways_of line one ≡ ways_of line other = part_alike first ways_per_set (λ index h. touched line index refl h) a in
     rw (back_stores line one whole, back_stores line other (sym a.len ∙ whole), ← ways)
     (sets_alike first (move_to_front (clean_entry line) (ways_of line one)) (agree_fewer (λ index p. p.named) a))
 
-back_away : {Named : ℕ → Type 0} (back : WriteBack) (table : List ℕ) → length table ≡ table_length
-    → ((line index : ℕ) → back ≡ Line line → InRange (set_index (set_of line)) ways_per_set index → Named index → ⊥)
+back_away : {Named : ℕ → Type 0} (back : Option ℕ) (table : List ℕ) → length table ≡ table_length
+    → ((line index : ℕ) → back ≡ Some line → InRange (set_index (set_of line)) ways_per_set index → Named index → ⊥)
     → Agree Named table (written_back back table)
 unfolding written_back
-back_away {Named} Nothing table whole untouched = agree_refl Named table
-back_away (Line line) table whole untouched =
+back_away {Named} None table whole untouched = agree_refl Named table
+back_away (Some line) table whole untouched =
     let first = set_index (set_of line) in
     rw (back_stores line table whole)
     (sets_away table first (move_to_front (clean_entry line) (ways_of line table))
@@ -72,7 +71,7 @@ back_away (Line line) table whole untouched =
 -- ---- a line sought
 
 -- the table that is left, as stores: the set's ways, then the L1 number
-stores : (writes : Bool) (line : ℕ) (back : WriteBack) (table : List ℕ) → length table ≡ table_length
+stores : (writes : Bool) (line : ℕ) (back : Option ℕ) (table : List ℕ) → length table ≡ table_length
     → (seek_of writes line back table).table
     ≡ set (sets table (set_index (set_of line)) (lookup_at writes line table).ways) (l1_index line)
     (lookup_at writes line table).entry
@@ -89,7 +88,7 @@ module _ {Named : ℕ → Type 0} (writes : Bool) (line : ℕ)
       λ i. lookup_of writes line (a.at (l1_index line) (touched (l1_index line) (at_index refl)) i)
       (part_alike (set_index (set_of line)) ways_per_set (λ index h. touched index (in_set h)) a i)
 
-  seek_alike : (back : WriteBack) {one other : List ℕ} → length one ≡ table_length → Agree Named one other
+  seek_alike : (back : Option ℕ) {one other : List ℕ} → length one ≡ table_length → Agree Named one other
       → AccessAlike Named (seek_of writes line back one) (seek_of writes line back other)
   unfolding seek_of
   seek_alike back {one} {other} whole a =
@@ -106,7 +105,7 @@ module _ {Named : ℕ → Type 0} (writes : Bool) (line : ℕ)
             (sets_alike (set_index (set_of line)) left.ways (agree_fewer (λ index p. p.named) a))));
       }
 
-pub seek_away : {Named : ℕ → Type 0} (writes : Bool) (line : ℕ) (back : WriteBack) (table : List ℕ)
+pub seek_away : {Named : ℕ → Type 0} (writes : Bool) (line : ℕ) (back : Option ℕ) (table : List ℕ)
     → length table ≡ table_length
     → ((index : ℕ) → SoughtIndex line index → Named index → ⊥)
     → Agree Named table (seek_of writes line back table).table

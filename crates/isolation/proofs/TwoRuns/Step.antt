@@ -1,5 +1,6 @@
 -- One step. In a domain's own window two worlds that are the same for it both do the same op or both switch; in
 -- another's window a step keeps what the domain has outside its windows. Assumes nothing.
+use Rattle.std.specs.Prelude.{Option, Some, None}
 use Prim.Native.Nat.{ℕ, ◌+◌, ◌*◌, ◌<◌}
 use mathlib.Core.Bool.{Bool, true, false, cond, ◌||◌}
 use mathlib.Core.List.{List}
@@ -12,8 +13,6 @@ use Rattle.plan.specs.Limits.{most_domains}
 use Rattle.plan.specs.Validity.{plan_valid}
 use Rattle.plan.proofs.Windows.{owner_declared}
 use Rattle.plan.specs.Windows.{window_end, window_owner, windows_total}
-use Rattle.script.specs.declared.ScriptItem.{ScriptItem}
-use Rattle.script.specs.declared.ScriptItem.TheVariants.{Op as Fetch, End}
 use Rattle.script.specs.Limits.{most_ops}
 use Rattle.script.specs.Fetch.{decode_of, fetch_of}
 use Rattle.ops.specs.Ops.{box_index}
@@ -25,6 +24,7 @@ use Rattle.machine.proofs.Invariant.{op_next, step_cases}
 use Rattle.machine.proofs.Runs.{step_active, step_ended}
 use Rattle.isolation.proofs.TwoRuns.OpStep.{Ready, op_alike, op_away, switch_away}
 use Rattle.isolation.proofs.TwoRuns.Relations.{Alike, Close, alike_refl, same_position, same_records}
+use Rattle.script.specs.declared.Op.{Op}
 
 -- ---- two worlds in the domain's own window
 
@@ -36,7 +36,7 @@ unfolding fetch_of
 fetch_alike one other domain position same = go (ltb position most_ops) refl
   where
     go : (within : Bool) → ltb position most_ops ≡ within → fetch_of one domain position ≡ fetch_of other domain position
-    go true e = ap (λ (n : ℕ). cond (ltb position most_ops) (decode_of n) End) (same position (ltb-true position most_ops e))
+    go true e = ap (λ (n : ℕ). cond (ltb position most_ops) (decode_of n) None) (same position (ltb-true position most_ops e))
     go false e = rw e
 
 -- both did an op and are as before, or both switched
@@ -81,7 +81,7 @@ module _ (plan : Plan) (quota domain : ℕ) {Kept : ℕ → Type 0} (to : (sende
       let item : next_item scripts turn ≡ next_item scripts' turn =
       rw running (fetch_alike scripts scripts' domain (position_at one.state domain) same) in
       ap
-      (λ (found : ScriptItem). cond (leb turn.end turn.clock || is_end found || leb turn.quota turn.records) End found)
+      (λ (found : Option Op). cond (leb turn.end turn.clock || is_end found || leb turn.quota turn.records) None found)
       item
       ∙ ap (next_step_of scripts') same_turn
 
@@ -93,10 +93,10 @@ module _ (plan : Plan) (quota domain : ℕ) {Kept : ℕ → Type 0} (to : (sende
   unfolding active_step_by
   step_alike scripts scripts' same ready = by_end (ended_of plan one.state) refl
     where
-      by_next : (next : ScriptItem) → next_step_of scripts (turn_of plan quota one.state) ≡ next
+      by_next : (next : Option Op) → next_step_of scripts (turn_of plan quota one.state) ≡ next
           → Together plan quota domain Kept one other (active_step plan quota next one) (active_step plan quota next other)
-      by_next End is = both refl refl
-      by_next (Fetch op) is =
+      by_next None is = both refl refl
+      by_next (Some op) is =
           rw (running, same_running)
           (still (op_alike plan quota domain to op (fetched_within scripts _ (position_at one.state _) op (op_next scripts _ op is).next) ready.whole (rw running at ready.dirty) a))
 

@@ -1,4 +1,5 @@
 -- `writer::write_plan` meets its contract. Assumes nothing.
+use Rattle.std.specs.Prelude.{Err}
 use mathlib.Core.Path.{◌∙◌, ◌≡◌, ap, sym}
 use Prim.Native.Nat.{ℕ}
 use native.Mathlib.Nat.{zero-add}
@@ -6,7 +7,6 @@ use native.Mathlib.Omega.{arith}
 use lib.ListN.{length, length-replicate, replicate}
 use Rattle.plan.specs.Limits.{most_text_bytes}
 use Rattle.refusal.specs.declared.Refusal.TheVariants.{BufferTooShort}
-use Rattle.refusal.specs.declared.Verdict.TheVariants.{Refused}
 use Rattle.writer.specs.Canonical.{canonical_text}
 use Rattle.writer.specs.Write.{write_with}
 use Rattle.writer.proofs.Answers.{handed, impossible_plan, not_alone, too_long, too_short, wrong_length_lem}
@@ -50,7 +50,7 @@ returns-then-out-needed c =
     let alone = sym c.ops_alone.ensures ∙ c.if-not-ops_alone.false in
     let is : c.write_text-needed.result ≡ length (canonical_text args.plan args.scripts.now) = c.write_text-needed.ensures.0 ∙ zero-add _ in
     rw (c.refused_writing-then-out-needed.ensures.0, c.refused_writing-then-out-needed.ensures.1)
-    (ap (λ (bytes : ℕ). write_with (Refused (BufferTooShort bytes)) 0 args.out.now) is
+    (ap (λ (bytes : ℕ). write_with (Err (BufferTooShort bytes)) 0 args.out.now) is
     ∙ too_short args.plan args.scripts.now args.out.now c.if-scripts-ne-SCRIPTS_LENGTH.false possible alone
     (omega (arith, c.if-needed-gt-MOST_TEXT_BYTES.false, is)) (omega (arith, c.if-out-needed.true, is)))
 

@@ -1,9 +1,9 @@
 -- `engine::checks::check_run` meets its contract. Assumes nothing.
+use Rattle.std.specs.Prelude.{Ok}
 use Prim.Native.Nat.{ℕ}
 use mathlib.Core.Bool.{false, true}
 use mathlib.Core.Path.{◌∙◌, ap, refl, sym}
 use Rattle.state.specs.StateValidity.{state_valid}
-use Rattle.refusal.specs.declared.Verdict.TheVariants.{Accepted}
 use Rattle.engine.specs.LentLog.{lent_log_verdict}
 use Rattle.engine.proofs.Verdicts.{lent_accepted, lent_log_next}
 use Rattle.engine.proofs.checks.check_run.Goals as goal
@@ -34,7 +34,7 @@ returns-then-not-state_valid c =
 pub returns-then-domain_fits : goal.returns-then-domain_fits
 returns-then-domain_fits c =
     let args = c.args in
-    lent_log_next _ _ _ _ Accepted true true (sym c.log_fits.ensures ∙ c.if-not-log_fits.false)
+    lent_log_next _ _ _ _ (Ok tt) true true (sym c.log_fits.ensures ∙ c.if-not-log_fits.false)
     (sym c.in_default.is ∙ c.check_lent-found.ensures)
     (sym c.if-not-state_valid.false ∙ c.state_valid.ensures
     ∙ ap (λ (n : ℕ). state_valid args.plan n args.state) c.quota_of.ensures)
@@ -43,7 +43,7 @@ returns-then-domain_fits c =
 pub returns-else-domain_fits : goal.returns-else-domain_fits
 returns-else-domain_fits c =
     let args = c.args in
-    lent_log_next _ _ _ _ Accepted true false (sym c.log_fits.ensures ∙ c.if-not-log_fits.false)
+    lent_log_next _ _ _ _ (Ok tt) true false (sym c.log_fits.ensures ∙ c.if-not-log_fits.false)
     (sym c.in_default.is ∙ c.check_lent-found.ensures)
     (sym c.if-not-state_valid.false ∙ c.state_valid.ensures
     ∙ ap (λ (n : ℕ). state_valid args.plan n args.state) c.quota_of.ensures)

@@ -1,4 +1,5 @@
 -- `machine::stepping::run_steps` meets its contract. The loop's invariant is `Going`. Assumes nothing.
+use Rattle.std.specs.Prelude.{Option}
 use mathlib.Core.List.{List, []}
 use mathlib.Core.Bool.{true, ◌&&◌}
 use mathlib.Core.Path.{◌≡◌, ◌∙◌, ap, refl, sym}
@@ -12,7 +13,6 @@ use Rattle.plan.specs.Limits.{most_domains}
 use Rattle.plan.specs.Validity.{plan_valid}
 use Rattle.plan.specs.Windows.{windows_total}
 use Rattle.plan.proofs.ValidPlans.{counts}
-use Rattle.records.specs.declared.Place.{Place}
 use Rattle.records.specs.Records.{places_of}
 use Rattle.records.proofs.Places.{ends_sooner}
 use Rattle.state.specs.StateValidity.{state_valid}
@@ -26,7 +26,7 @@ use Rattle.machine.proofs.stepping.run_steps.Goals as goal
 
 -- in the loop: the limit is not reached, and the run is in a window
 module _
-    {places : ℕ → Place} {plan : Plan} {scripts : List ℕ} {quota limit : ℕ} {first present : World} {steps start slot total : ℕ}
+    {places : ℕ → Option ℕ} {plan : Plan} {scripts : List ℕ} {quota limit : ℕ} {first present : World} {steps start slot total : ℕ}
     (going : Going places plan scripts quota limit first present steps start slot)
     (possible : plan_valid plan ≡ true) (valid : state_valid plan quota first.state ≡ true)
     (total_is : total ≡ windows_total plan)

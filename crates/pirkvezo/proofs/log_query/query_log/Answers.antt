@@ -1,10 +1,10 @@
 -- `pirkvezo::log_query::query_log` meets its contract. Assumes nothing.
+use Rattle.std.specs.Prelude.{Ok}
 use mathlib.Core.Path.{◌≡◌, ◌∙◌, refl, sym}
 use Prim.Native.Nat.{◌*◌, ◌≤◌}
 use native.Mathlib.Omega.{arith}
 use lib.ListN.{length}
 use Rattle.plan.proofs.ValidPlans.{counts}
-use Rattle.refusal.specs.declared.Verdict.TheVariants.{Accepted}
 use Rattle.engine.specs.LogQuery.{log_status_of}
 use Rattle.engine.specs.Checks.{log_verdict}
 use Rattle.engine.proofs.Verdicts.{log_accepted}
@@ -15,7 +15,7 @@ pub part_records-quota-requires : goal.part_records-quota-requires
 unfolding log_status_of
 part_records-quota-requires c =
     let count = counts _ (log_accepted _ _ _ _ (sym
-    (let it : Accepted ≡ log_verdict c.args.plan c.args.state c.args.log.now c.args.domain = sym c.in-Accepted.is ∙ c.log_refusal-verdict.ensures in it))).possible in
+    (let it : (Ok tt) ≡ log_verdict c.args.plan c.args.state c.args.log.now c.args.domain = sym c.in-Accepted.is ∙ c.log_refusal-verdict.ensures in it))).possible in
     (count.domains_least, count.domains_most)
 
 pub overflow_mul-result : goal.overflow_mul-result
@@ -23,7 +23,7 @@ unfolding log_status_of
 overflow_mul-result c = omega (
   arith,
   (let it : 8 * (c.part_records-quota.result * c.args.domain) ≤ length c.args.log.now = rw (c.part_records-quota.ensures c.args.plan refl)
-      (offset_within _ _ _ _ (sym (let it : Accepted ≡ log_verdict c.args.plan c.args.state c.args.log.now c.args.domain = sym c.in-Accepted.is ∙ c.log_refusal-verdict.ensures in it))) in it),
+      (offset_within _ _ _ _ (sym (let it : (Ok tt) ≡ log_verdict c.args.plan c.args.state c.args.log.now c.args.domain = sym c.in-Accepted.is ∙ c.log_refusal-verdict.ensures in it))) in it),
 )
 
 pub overflow_mul-result-in-Accepted : goal.overflow_mul-result-in-Accepted
@@ -31,7 +31,7 @@ unfolding log_status_of
 overflow_mul-result-in-Accepted c = omega (
   arith,
   (let it : 8 * (c.part_records-quota.result * c.args.domain) ≤ length c.args.log.now = rw (c.part_records-quota.ensures c.args.plan refl)
-      (offset_within _ _ _ _ (sym (let it : Accepted ≡ log_verdict c.args.plan c.args.state c.args.log.now c.args.domain = sym c.in-Accepted.is ∙ c.log_refusal-verdict.ensures in it))) in it),
+      (offset_within _ _ _ _ (sym (let it : (Ok tt) ≡ log_verdict c.args.plan c.args.state c.args.log.now c.args.domain = sym c.in-Accepted.is ∙ c.log_refusal-verdict.ensures in it))) in it),
 )
 
 pub returns-in-Refused : goal.returns-in-Refused
@@ -42,6 +42,6 @@ returns-in-Refused c =
 pub returns-in-Accepted : goal.returns-in-Accepted
 unfolding log_status_of
 returns-in-Accepted c =
-    query_accepted _ _ _ _ _ _ (let it : Accepted ≡ log_verdict c.args.plan c.args.state c.args.log.now c.args.domain = sym c.in-Accepted.is ∙ c.log_refusal-verdict.ensures in it)
+    query_accepted _ _ _ _ _ _ (let it : (Ok tt) ≡ log_verdict c.args.plan c.args.state c.args.log.now c.args.domain = sym c.in-Accepted.is ∙ c.log_refusal-verdict.ensures in it)
     (c.part_records-quota.ensures c.args.plan refl)
     c.log_of-part.ensures.0

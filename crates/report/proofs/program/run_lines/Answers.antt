@@ -19,12 +19,12 @@ use Rattle.lists.proofs.Stores.{wrote_as}
 use Rattle.cache.specs.Lines.{empty_table}
 use Rattle.ops.specs.Ops.{empty_boxes}
 use Rattle.state.specs.declared.State.{State}
-use Rattle.refusal.specs.declared.Verdict.{Verdict}
 use Rattle.engine.specs.Answers.{fresh_with}
 use Rattle.engine.specs.FreshStart.{fresh_start_of}
 use Rattle.engine.specs.Answers.{run_with}
 use Rattle.engine.specs.declared.Progress.{Progress}
 use Rattle.report.proofs.program.run_lines.Goals as goal
+use Rattle.refusal.specs.Verdict.{Verdict}
 
 -- the run starts from a fresh start, so it leaves what the definition says
 world_is :
