@@ -9,7 +9,6 @@ mod sets;
 ghost use Rattle.std.specs.Prelude.{◌≡◌, cond, ℕ, ◌≤◌, ◌<◌, length};
 ghost use Rattle.lists.specs.Part.{part};
 ghost use Rattle.cache.specs.Access.{access_of, line_used, write_back_of, written_back};
-ghost use Rattle.cache.specs.declared.WriteBack.TheVariants.{Line};
 ghost use Rattle.cache.specs.Lines.{clean_entry, dirty_mark, most_line, set_index, set_of};
 ghost use Rattle.cache.specs.Lines.{table_length, ways_per_set};
 ghost use Rattle.cache.specs.Sets.{has};
@@ -26,19 +25,13 @@ pub enum AccessKind {
     Miss,
 }
 
-// The dirty line that an access put out of L1 and wrote back into its L2 set, if any.
-#[derive(Clone, Copy)]
-pub enum WriteBack {
-    Nothing,
-    Line(u16),
-}
-
-// What an access answers: how it found its line, what it took, and what it wrote back.
+// What an access answers: how it found its line, what it took, and the dirty line that it put out
+// of L1 and wrote back into its L2 set, if any.
 #[derive(Drop)]
 pub struct AccessResult {
     pub found: AccessKind,
     pub ticks: u64,
-    pub back: WriteBack,
+    pub back: Option<u16>,
 }
 
 // One of two entries, by a test.
@@ -69,35 +62,35 @@ fn use_line(table: &mut [u16], line: u16) -> bool
 
 // What is put out where another line takes the place of an L1 number: its line, if dirty.
 #[tactic(auto, using(crate::proofs::Outcome::clean_back, crate::proofs::Outcome::dirty_back))]
-fn put_out(held: u16) -> WriteBack
+fn put_out(held: u16) -> Option<u16>
     ensures { result ≡ write_back_of held }
 {
     if held <= DIRTY_MARK {
-        WriteBack::Nothing
+        None
     } else {
-        WriteBack::Line((held - 1) % DIRTY_MARK)
+        Some((held - 1) % DIRTY_MARK)
     }
 }
 
 // Writes back what is put out.
-fn write_back(table: &mut [u16], back: WriteBack)
+fn write_back(table: &mut [u16], back: Option<u16>)
     requires { (length table.old ≡ table_length)
-        × ((other : ℕ) → back ≡ Line other → other < dirty_mark) }
+        × ((other : ℕ) → back ≡ Some other → other < dirty_mark) }
     ensures { table.new ≡ written_back back table.old }
 {
     match back {
-        WriteBack::Nothing => {}
-        WriteBack::Line(other) => {
+        None => {}
+        Some(other) => {
             use_line(table, other);
         }
     }
 }
 
 // Seeks a line that L1 lacks: what it puts out is written back first.
-fn seek(table: &mut [u16], back: WriteBack, line: u16) -> bool
+fn seek(table: &mut [u16], back: Option<u16>, line: u16) -> bool
     requires { (length table.old ≡ table_length)
         × (line < dirty_mark)
-        × ((other : ℕ) → back ≡ Line other → other < dirty_mark) }
+        × ((other : ℕ) → back ≡ Some other → other < dirty_mark) }
     ensures { (result ≡ has (clean_entry line)
         (part (set_index (set_of line)) ways_per_set (written_back back table.old)))
         × (table.new ≡ line_used line (written_back back table.old)) }
@@ -125,7 +118,7 @@ pub fn access(table: &mut [u16], line: u16, writes: bool) -> AccessResult
         return AccessResult {
             found: AccessKind::Hit1,
             ticks: HIT1_TICKS,
-            back: WriteBack::Nothing,
+            back: None,
         };
     }
     let back = put_out(held);
@@ -136,13 +129,13 @@ pub fn access(table: &mut [u16], line: u16, writes: bool) -> AccessResult
         AccessResult {
             found: AccessKind::Hit2,
             ticks: HIT2_TICKS + replaced,
-            back: back,
+            back,
         }
     } else {
         AccessResult {
             found: AccessKind::Miss,
             ticks: MISS_TICKS + replaced,
-            back: back,
+            back,
         }
     }
 }

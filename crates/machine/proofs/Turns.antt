@@ -97,7 +97,7 @@ module _ (scripts : List ℕ) (turn : Turn) where
   next_past past = rw (le-ltb turn.position most_ops past)
       (go (leb turn.end turn.clock || true || leb turn.quota turn.records))
     where
-      go : (due : Bool) → None ≡ cond due None None
+      go : (due : Bool) → ◌≡◌ {A = Option Op} None (cond due None None)
       go true = refl
       go false = refl
 

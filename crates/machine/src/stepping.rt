@@ -1,5 +1,5 @@
 // One step, an op or a switch, and n of them.
-ghost use Rattle.std.specs.Prelude.{◌≡◌, true, ℕ, ◌+◌, ◌%◌, ◌-◌, ◌<◌, ◌≤◌, max, min, length};
+ghost use Rattle.std.specs.Prelude.{◌≡◌, true, ℕ, Option, ◌+◌, ◌%◌, ◌-◌, ◌<◌, ◌≤◌, max, min, length};
 ghost use Rattle.plan.specs.Limits.{dearest_op, least_pad, most_domains, most_pad};
 ghost use Rattle.plan.specs.Validity.{plan_valid};
 ghost use Rattle.script.specs.Limits.{OpWithinLimits, most_ops, scripts_length};
@@ -22,9 +22,9 @@ use ops::limits::KERNEL_ENTRY_LINE;
 use ops::operate;
 use plan::Plan;
 use plan::timing::{window_start, windows_total};
-use records::{Keep, Place, place_of, store_record};
+use records::{Keep, place_of, store_record};
 use script::limits::MOST_OPS;
-use script::{Op, ScriptItem, fetch};
+use script::{Op, fetch};
 use state::State;
 
 fn later(one: u64, other: u64) -> u64
@@ -81,13 +81,13 @@ fn ops_allowed(limit: u64, first: Turn) -> u64
 }
 
 // The next step after some ops of a window, which end at a clock, where one op more is allowed.
-fn next_step(scripts: &[u32], first: Turn, steps: u64, clock: u64) -> ScriptItem
+fn next_step(scripts: &[u32], first: Turn, steps: u64, clock: u64) -> Option<Op>
     requires { (first.owner < most_domains) × (length scripts.now ≡ scripts_length)
         × (first.records + steps < first.quota) × (first.position + steps < most_ops) }
     ensures { result ≡ next_step_of scripts.now (turn_after first steps clock) }
 {
     if first.end <= clock {
-        return ScriptItem::End;
+        return None;
     }
     fetch(scripts, first.owner, first.position + steps)
 }
@@ -97,7 +97,7 @@ fn op_step(
     rights: &[u32; 8],
     masks: &[u16; 8],
     op: Op,
-    place: Place,
+    place: Option<u64>,
     first: Turn,
     steps: u64,
     clock: u64,
@@ -128,7 +128,7 @@ fn run_window(
     masks: &[u16; 8],
     scripts: &[u32],
     limit: u64,
-    place: Place,
+    place: Option<u64>,
     first: Turn,
     cache: &mut [u16],
     boxes: &mut [u32],
@@ -139,7 +139,7 @@ fn run_window(
         × (place_end place first.quota ≤ length log.old) }
     ensures { (result.steps ≤ limit) × (result.turn ≡ turn_moved first result.turn)
         × (result.turn.clock ≤ first.end + (dearest_op - 1))
-        × ((places : ℕ → Place) (plan : Plan) (state : State)
+        × ((places : ℕ → Option ℕ) (plan : Plan) (state : State)
         → places first.owner ≡ place
         → InTurn plan rights.now masks.now state first
         → WindowRan places plan scripts.now first.quota limit result.steps
@@ -150,8 +150,7 @@ fn run_window(
     let mut steps: u64 = 0;
     let mut clock = first.clock;
     while steps < most {
-        let next = next_step(scripts, first, steps, clock);
-        let ScriptItem::Op(op) = next else {
+        let Some(op) = next_step(scripts, first, steps, clock) else {
             break;
         };
         clock = op_step(
@@ -181,7 +180,7 @@ fn run_turn(
     pad: u64,
     last: bool,
     limit: u64,
-    place: Place,
+    place: Option<u64>,
     first: Turn,
     cache: &mut [u16],
     boxes: &mut [u32],
@@ -192,7 +191,7 @@ fn run_turn(
         × (length scripts.now ≡ scripts_length) × (length cache.old ≡ table_length) × (length boxes.old ≡ boxes_length)
         × (place_end place first.quota ≤ length log.old) }
     ensures { TurnRan limit pad first result
-        × ((places : ℕ → Place) (plan : Plan) (state : State)
+        × ((places : ℕ → Option ℕ) (plan : Plan) (state : State)
         → places first.owner ≡ place
         → InTurn plan rights.now masks.now state first
         → plan.pad ≡ pad

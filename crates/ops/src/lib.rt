@@ -17,7 +17,7 @@ ghost use Rattle.ops.specs.View.{effect_with};
 
 use crate::limits::{BARRED_TICKS, FIRST_BOX_LINE, KERNEL_ENTRY_LINE, MESSAGE_TICKS};
 use cache::limits::{MOST_LINE, SET_COUNT, SETS_PER_COLOUR};
-use cache::{AccessKind, AccessResult, WriteBack, access};
+use cache::{AccessKind, AccessResult, access};
 use plan::limits::DOMAIN_ENTRIES;
 use plan::sharing::has_bit;
 use records::Observation;
@@ -29,8 +29,8 @@ use script::Op;
 pub struct OpResult {
     pub ticks: u64,
     pub seen: Observation,
-    pub first: WriteBack,
-    pub second: WriteBack,
+    pub first: Option<u16>,
+    pub second: Option<u16>,
 }
 
 fn wide(number: u16) -> u32
@@ -81,8 +81,8 @@ fn touch(
         return OpResult {
             ticks: BARRED_TICKS,
             seen: Observation::Barred(line),
-            first: WriteBack::Nothing,
-            second: WriteBack::Nothing,
+            first: None,
+            second: None,
         };
     }
     let accessed = access(cache, line, writes);
@@ -92,7 +92,7 @@ fn touch(
         ticks: accessed.ticks,
         seen: access_observation(found, line),
         first: first,
-        second: WriteBack::Nothing,
+        second: None,
     }
 }
 
@@ -153,7 +153,7 @@ fn send(
             ticks: MESSAGE_TICKS + entered.ticks,
             seen: Observation::Denied(recipient),
             first: first,
-            second: WriteBack::Nothing,
+            second: None,
         };
     }
     let index = box_index(sender, recipient as usize);
@@ -204,7 +204,7 @@ fn receive(
             ticks: MESSAGE_TICKS + entered.ticks,
             seen: Observation::Denied(sender),
             first: first,
-            second: WriteBack::Nothing,
+            second: None,
         };
     }
     let index = box_index(from, receiver);
@@ -247,8 +247,8 @@ pub fn operate(
         Op::Compute(ticks) => OpResult {
             ticks: ticks as u64,
             seen: Observation::Ran(ticks),
-            first: WriteBack::Nothing,
-            second: WriteBack::Nothing,
+            first: None,
+            second: None,
         },
     }
 }

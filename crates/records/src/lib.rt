@@ -34,14 +34,6 @@ pub enum Keep {
     One(u64),
 }
 
-// Where a domain's records go: one behind the other, from as many records on as the number says, or
-// nowhere.
-#[derive(Clone, Copy)]
-pub enum Place {
-    From(u64),
-    Nowhere,
-}
-
 // A record's kind.
 pub fn record_kind(seen: Observation) -> u8
     ensures { result ≡ record_kind seen }
@@ -94,18 +86,19 @@ fn write_record(log: &mut [u8], at: usize, kind: u8, value: u32, clock: u64)
     log[at + 7] = (clock / 16_777_216 % 256) as u8;
 }
 
-// Where a domain's records go, by whose are kept.
-pub fn place_of(keep: Keep, quota: u64, domain: u64) -> Place
+// Where a domain's records go, by whose are kept: one behind the other, from as many records on as
+// the number says, or nowhere.
+pub fn place_of(keep: Keep, quota: u64, domain: u64) -> Option<u64>
     requires { place_end (places_of keep quota domain) 0 < 2 ^ 64 }
     ensures { result ≡ places_of keep quota domain }
 {
     match keep {
-        Keep::Every => Place::From(quota * domain),
+        Keep::Every => Some(quota * domain),
         Keep::One(named) => {
             if domain == named {
-                Place::From(0)
+                Some(0)
             } else {
-                Place::Nowhere
+                None
             }
         }
     }
@@ -113,13 +106,13 @@ pub fn place_of(keep: Keep, quota: u64, domain: u64) -> Place
 
 // Stores a record at its place, by its number there. Kind and value are worked out first, where the
 // compiler still knows which op was done, and not only where the record is stored.
-pub fn store_record(log: &mut [u8], place: Place, number: u64, seen: Observation, clock: u64)
+pub fn store_record(log: &mut [u8], place: Option<u64>, number: u64, seen: Observation, clock: u64)
     requires { place_end place (number + 1) ≤ length log.old }
     ensures { log.new ≡ stored_at place number seen clock log.old }
 {
     let kind = record_kind(seen);
     let value = record_value(seen);
-    if let Place::From(first) = place {
+    if let Some(first) = place {
         let at = RECORD_SIZE * (first + number);
         write_record(log, at as usize, kind, value, clock);
     }

@@ -22,13 +22,6 @@ pub enum Op {
     Compute(u8),
 }
 
-// What stands at a position of a script.
-#[derive(Drop)]
-pub enum ScriptItem {
-    Op(Op),
-    End,
-}
-
 // What a kind and another domain count for in a stored number, and how many numbers there is room for
 // in the second part.
 const KIND_UNIT: u32 = 1_048_576;
@@ -65,46 +58,29 @@ pub fn stored(op: Op) -> u32
     }
 }
 
-// The operation that three parts give, or the end of the script where they are outside an operation's
+// The operation that three parts give, or none where they are outside an operation's
 // limits.
-fn op_of(kind: u32, other: u8, value: u16) -> ScriptItem
+fn op_of(kind: u32, other: u8, value: u16) -> Option<Op>
     ensures { result ≡ op_of kind other value }
 {
-    if kind == 1 {
-        if other == 0 {
-            return ScriptItem::Op(Op::Read(value));
+    match kind {
+        1 => (other == 0).then_some(Op::Read(value)),
+        2 => (other == 0).then_some(Op::Write(value)),
+        3 => (other <= LAST_OTHER).then_some(Op::Send(other, value)),
+        4 => ((other <= LAST_OTHER) & (value == 0)).then_some(Op::Receive(other)),
+        5 => {
+            if (other == 0) & (LEAST_VALUE <= value) & (value <= MOST_VALUE) {
+                Some(Op::Compute(value as u8))
+            } else {
+                None
+            }
         }
-        return ScriptItem::End;
+        _ => None,
     }
-    if kind == 2 {
-        if other == 0 {
-            return ScriptItem::Op(Op::Write(value));
-        }
-        return ScriptItem::End;
-    }
-    if kind == 3 {
-        if other <= LAST_OTHER {
-            return ScriptItem::Op(Op::Send(other, value));
-        }
-        return ScriptItem::End;
-    }
-    if kind == 4 {
-        if (other <= LAST_OTHER) & (value == 0) {
-            return ScriptItem::Op(Op::Receive(other));
-        }
-        return ScriptItem::End;
-    }
-    if kind == 5 {
-        if (other == 0) & (LEAST_VALUE <= value) & (value <= MOST_VALUE) {
-            return ScriptItem::Op(Op::Compute(value as u8));
-        }
-        return ScriptItem::End;
-    }
-    ScriptItem::End
 }
 
 // What a stored number stands for: its three parts are taken apart.
-fn decode(number: u32) -> ScriptItem
+fn decode(number: u32) -> Option<Op>
     ensures { result ≡ decode_of number }
 {
     let other = number / OTHER_UNIT % OTHER_VALUES;
@@ -113,7 +89,7 @@ fn decode(number: u32) -> ScriptItem
 }
 
 // What stands at a position of a domain's script that has an entry in the store.
-pub fn fetch(scripts: &[u32], domain: usize, position: u64) -> ScriptItem
+pub fn fetch(scripts: &[u32], domain: usize, position: u64) -> Option<Op>
     requires { (length scripts.now ≡ scripts_length)
         × (domain ≤ last_domain)
         × (position < most_ops) }
@@ -128,16 +104,10 @@ pub fn stored_ops(scripts: &[u32], domain: usize) -> u64
     requires { (length scripts.now ≡ scripts_length) × (domain ≤ last_domain) }
     ensures { result ≡ stored_ops scripts.now domain }
 {
-    let mut position: u64 = 0;
-    while position < MOST_OPS as u64 {
-        match fetch(scripts, domain, position) {
-            ScriptItem::Op(_) => {
-                position += 1;
-            }
-            ScriptItem::End => {
-                return position;
-            }
+    for position in 0..MOST_OPS as u64 {
+        if let None = fetch(scripts, domain, position) {
+            return position;
         }
     }
-    position
+    MOST_OPS as u64
 }

@@ -6,13 +6,13 @@ use Rattle.cache.proofs.write_back.Goals as goal
 
 pub use_line-requires : goal.use_line-requires
 use_line-requires c =
-    let small = c.requires.1 _ c.in-Line.is in
+    let small = c.requires.1 _ c.in-Some.is in
     search (rules, small)
 
-pub returns-in-Nothing : goal.returns-in-Nothing
+pub returns-in-None : goal.returns-in-None
 unfolding written_back
-returns-in-Nothing c = rw c.in-Nothing.is refl
+returns-in-None c = rw c.in-None.is refl
 
-pub returns-in-Line : goal.returns-in-Line
+pub returns-in-Some : goal.returns-in-Some
 unfolding written_back
-returns-in-Line c = rw c.in-Line.is c.use_line.ensures.1
+returns-in-Some c = rw c.in-Some.is c.use_line.ensures.1

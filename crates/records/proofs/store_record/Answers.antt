@@ -7,18 +7,18 @@ use Rattle.records.proofs.store_record.Goals as goal
 
 -- the record has its room in the log
 pub overflow_add-at : goal.overflow_add-at
-overflow_add-at c = omega (arith, from_ends _ _ _ _ c.in-From.is c.requires)
+overflow_add-at c = omega (arith, from_ends _ _ _ _ c.in-Some.is c.requires)
 
 pub overflow_mul-at : goal.overflow_mul-at
-overflow_mul-at c = omega (arith, from_ends _ _ _ _ c.in-From.is c.requires)
+overflow_mul-at c = omega (arith, from_ends _ _ _ _ c.in-Some.is c.requires)
 
 pub write_record-requires : goal.write_record-requires
-write_record-requires c = omega (arith, from_ends _ _ _ _ c.in-From.is c.requires)
+write_record-requires c = omega (arith, from_ends _ _ _ _ c.in-Some.is c.requires)
 
-pub returns-in-From : goal.returns-in-From
+pub returns-in-Some : goal.returns-in-Some
 unfolding stored_at
-returns-in-From c =
-    rw (c.in-From.is, stored_at)
+returns-in-Some c =
+    rw (c.in-Some.is, stored_at)
     (c.write_record.ensures _ c.record_kind-kind.ensures c.record_value-value.ensures)
 
 pub returns-in_default : goal.returns-in_default

@@ -1,5 +1,4 @@
 -- `decode` meets its contract: the three parts are the definition's, and each fits what it is cast to. Assumes nothing.
-use borrow.Author.Rules.{rules}
 use Rattle.script.specs.Fetch.{decode_of}
 use Rattle.script.proofs.decode.Goals as goal
 

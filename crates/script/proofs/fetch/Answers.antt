@@ -1,5 +1,4 @@
 -- `fetch` meets its contract: the index is within the store below position 256. Assumes nothing.
-use borrow.Author.Rules.{rules}
 use borrow.Author.Tests.{lt-ltb}
 use Rattle.script.specs.Fetch.{fetch_of}
 use Rattle.script.proofs.fetch.Goals as goal

@@ -1,62 +1,51 @@
 -- `op_of` meets its contract: with its kind known, the definition is down to that kind's test. Assumes nothing.
+use mathlib.Core.Bool.{Bool, true, false}
+use mathlib.Core.Path.{◌≡◌, refl, ◌∙◌}
 use native.Mathlib.Omega.{arith}
-use borrow.Author.Tests.{eq-eqb, le-leb, lt-leb, ne_eqb}
+use borrow.Author.Tests.{ne_eqb}
+use Rattle.std.specs.Prelude.{cond, Some, None}
+use Rattle.std.specs.Bool.{then_some}
 use Rattle.script.specs.Fetch.{op_of}
-use Rattle.script.proofs.Laws.{compute_fits}
 use Rattle.script.proofs.op_of.Goals as goal
 
-pub returns-then-other-eq0 : goal.returns-then-other-eq0
-unfolding op_of
-returns-then-other-eq0 c = simp (c.if-kind-eq1.true, eq-eqb _ _ c.if-other-eq0.true)
+-- some value by a test is that value, or none
+by_test : {A : Type 0} (test : Bool) (value : A) → then_some test value ≡ cond test (Some value) None
+by_test true value = refl
+by_test false value = refl
 
-pub returns-then-kind-eq1 : goal.returns-then-kind-eq1
+pub returns-in-1 : goal.returns-in-1
 unfolding op_of
-returns-then-kind-eq1 c = simp (c.if-kind-eq1.true, ne_eqb _ _ c.if-other-eq0.false)
+returns-in-1 c = simp (c.in-1.is) (c.then_some.ensures ∙ by_test _ _)
 
-pub returns-then-other-eq0-2 : goal.returns-then-other-eq0-2
+pub returns-in-2 : goal.returns-in-2
 unfolding op_of
-returns-then-other-eq0-2 c = simp (c.if-kind-eq2.true, eq-eqb _ _ c.if-other-eq0-2.true)
+returns-in-2 c = simp (c.in-2.is) (c.then_some-in-2.ensures ∙ by_test _ _)
 
-pub returns-then-kind-eq2 : goal.returns-then-kind-eq2
+pub returns-in-3 : goal.returns-in-3
 unfolding op_of
-returns-then-kind-eq2 c = simp (c.if-kind-eq2.true, ne_eqb _ _ c.if-other-eq0-2.false)
+returns-in-3 c = simp (c.in-3.is) (c.then_some-in-3.ensures ∙ by_test _ _)
 
-pub returns-then-other-le-LAST_OTHER : goal.returns-then-other-le-LAST_OTHER
+pub returns-in-4 : goal.returns-in-4
 unfolding op_of
-returns-then-other-le-LAST_OTHER c = simp (c.if-kind-eq3.true, le-leb _ _ c.if-other-le-LAST_OTHER.true)
-
-pub returns-then-kind-eq3 : goal.returns-then-kind-eq3
-unfolding op_of
-returns-then-kind-eq3 c = simp (c.if-kind-eq3.true, lt-leb _ _ c.if-other-le-LAST_OTHER.false)
+returns-in-4 c = simp (c.in-4.is) (c.then_some-in-4.ensures ∙ by_test _ _)
 
 pub returns-then-other-value : goal.returns-then-other-value
 unfolding op_of
-returns-then-other-value c = simp (c.if-kind-eq4.true, c.if-other-value.true)
+returns-then-other-value c = simp (c.in-5.is, c.if-other-value.true)
 
-pub returns-then-kind-eq4 : goal.returns-then-kind-eq4
+pub returns-else-other-value : goal.returns-else-other-value
 unfolding op_of
-returns-then-kind-eq4 c = simp (c.if-kind-eq4.true, c.if-other-value.false)
+returns-else-other-value c = simp (c.in-5.is, c.if-other-value.false)
 
-pub overflow_cast-result : goal.overflow_cast-result
-overflow_cast-result c =
-    let args = c.args in
-    omega (arith, compute_fits args.other args.value c.if-other-value-2.true)
-
-pub returns-then-other-value-2 : goal.returns-then-other-value-2
+pub returns-in_default : goal.returns-in_default
 unfolding op_of
-returns-then-other-value-2 c = simp (c.if-kind-eq5.true, c.if-other-value-2.true)
-
-pub returns-then-kind-eq5 : goal.returns-then-kind-eq5
-unfolding op_of
-returns-then-kind-eq5 c = simp (c.if-kind-eq5.true, c.if-other-value-2.false)
-
-pub returns : goal.returns
-unfolding op_of
-returns c =
+returns-in_default c =
+    let other_kind = c.in_default in
+    let kind = c.args.kind in
     simp (
-      ne_eqb _ _ c.if-kind-eq1.false,
-      ne_eqb _ _ c.if-kind-eq2.false,
-      ne_eqb _ _ c.if-kind-eq3.false,
-      ne_eqb _ _ c.if-kind-eq4.false,
-      ne_eqb _ _ c.if-kind-eq5.false,
+      ne_eqb kind 1 (omega arith),
+      ne_eqb kind 2 (omega arith),
+      ne_eqb kind 3 (omega arith),
+      ne_eqb kind 4 (omega arith),
+      ne_eqb kind 5 (omega arith),
     )

@@ -1,5 +1,4 @@
 -- `stored` meets its contract, kind by kind. Assumes nothing.
-use borrow.Author.Rules.{rules}
 use Rattle.script.specs.Stored.{stored_of}
 use Rattle.script.proofs.stored.Goals as goal
 

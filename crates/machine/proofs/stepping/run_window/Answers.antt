@@ -15,7 +15,7 @@ pub op_step-clock-requires : goal.op_step-clock-requires
 op_step-clock-requires c =
     let pre = c.requires in
     let inv = c.loop-steps.invariant in
-    let begins = op_next _ _ _ (sym c.next_step-next.ensures ∙ c.in-Op.is) in (
+    let begins = op_next _ _ _ (sym c.next_step.ensures ∙ c.in-Some.is) in (
       pre.0,
       fetched_within _ _ _ _ begins.next,
       omega (arith, begins.in_time, pre.2),
@@ -27,7 +27,7 @@ op_step-clock-requires c =
 
 pub loop-steps-preserved : goal.loop-steps-preserved
 loop-steps-preserved c =
-    let chosen = sym c.in-Op.is ∙ c.next_step-next.ensures in
+    let chosen = sym c.in-Some.is ∙ c.next_step.ensures in
     let kept = c.op_step-clock.auto in
     turn_more _ _ _ _ _ _ _ _ _ _ _ _ _ _ c.loop-steps.invariant _ _ _ _ _
     c.loop-steps-test.true chosen c.op_step-clock.ensures kept.cache kept.boxes kept.log
@@ -46,7 +46,7 @@ returns c =
                 turn_ends _ _ _ _ _ _ _ _ _ _ _ _ _ _ inv
                 (elim c.loop-steps-test.branch [
                   | else-loop-steps-test w ↦ next_disallowed _ c.args.first _ _ _ _ allowed w.loop-steps-test.false fewer
-                  | then-loop-steps-test+in_default w ↦ sym w.in_default.is ∙ w.next_step-next.ensures
+                  | then-loop-steps-test+in_default w ↦ sym w.in_default.is ∙ w.next_step.ensures
                 ])
                 places plan state placed begins;
           },

@@ -24,7 +24,7 @@ write_op-next-requires c =
     let loop = c.loop-position in
     let args = c.args in
     let scripts = args.scripts.now in
-    let here = sym c.fetch.ensures ∙ c.in-Op.is in
+    let here = sym c.fetch.ensures ∙ c.in-Some.is in
     let below = op_before_end scripts args.domain loop.position _ loop.invariant.0 here in
     let room = line_room (script_line scripts args.domain) (stored_ops scripts args.domain) loop.position below loop.invariant.1 in
     let line = ap (λ item. length (bytes_of "\n" ++ item_line args.domain item)) here in
@@ -36,7 +36,7 @@ loop-position-preserved c =
     let loop = c.loop-position in
     let args = c.args in
     let scripts = args.scripts.now in
-    let here = sym c.fetch.ensures ∙ c.in-Op.is in
+    let here = sym c.fetch.ensures ∙ c.in-Some.is in
     let below = op_before_end scripts args.domain loop.position _ loop.invariant.0 here in
     let line = ap (λ item. bytes_of "\n" ++ item_line args.domain item) (sym here) in (
       omega (arith, below),
@@ -44,12 +44,12 @@ loop-position-preserved c =
           (wrote_as loop.out loop.next line c.write_op-next.ensures),
     )
 
-pub returns-in-End : goal.returns-in-End
-returns-in-End c =
+pub returns-in-None : goal.returns-in-None
+returns-in-None c =
     let loop = c.loop-position in
     let args = c.args in
     let scripts = args.scripts.now in
-    let past = end_reached scripts args.domain loop.position (sym c.fetch.ensures ∙ c.in-End.is) in
+    let past = end_reached scripts args.domain loop.position (sym c.fetch.ensures ∙ c.in-None.is) in
     lines_written (script_line scripts args.domain) (stored_ops scripts args.domain) loop.position args.out.now args.at
     (followed (script_lines scripts args.domain)) past loop.invariant.1
 
