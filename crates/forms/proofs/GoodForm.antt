@@ -24,7 +24,8 @@ use Rattle.forms.specs.declared.Form.{Form}
 use Rattle.forms.specs.declared.Form.TheVariants.{Blank, Pad, Run, Domain, Window, Op as Script, Refused as NoForm}
 use Rattle.forms.specs.declared.DomainParse.{DomainParse}
 use Rattle.forms.specs.Forms.{declared_domain, domain_form, listed_domain, may_form, next_domain, op_form, pad_form, refused_domain, run_form, window_form}
-use Rattle.syntax.specs.declared.Number.{Number}
+use Rattle.syntax.specs.declared.Numeral.{Numeral}
+use Rattle.syntax.specs.Tokens.{numeral_with}
 
 -- with `declared` domains above and `named` noted there; `marked` is noted once the form is read, and it reaches from `at` to `end`
 abbrev pub GoodForm : ℕ → List ℕ → List ℕ → ℕ → ℕ → Form → Type 0
@@ -51,7 +52,7 @@ pub record GoodDomainParse (declared : ℕ) (named : List ℕ) (at : ℕ) (domai
 -- ---- the number of a domain
 
 -- a number that passes a test and ends at or past the offset
-record Passes (P : ℕ → Type 0) (at : ℕ) (taken : Result Number Refusal) : Type 0 where
+record Passes (P : ℕ → Type 0) (at : ℕ) (taken : Result Numeral Refusal) : Type 0 where
   is : OfNumber (λ value start end. P value × (value ≤ last_domain) × (at ≤ end)) taken
 
 declared_passes : (text : List ℕ) (declared at : ℕ) → Passes (λ value. value < declared) at (declared_domain text declared at)
@@ -59,7 +60,7 @@ unfolding declared_domain
 declared_passes text declared at =
     let P = Passes (λ value. value < declared) at in
     then_number_lem P text 0 last_domain at _ _ (λ _. record { is = tt }) λ domain start end low high on.
-    cond_holds P (ltb domain declared) (Ok (number_with domain start end)) (Err (WrongDomain start))
+    cond_holds P (ltb domain declared) (Ok (numeral_with domain start end)) (Err (WrongDomain start))
     (λ below. record { is = (ltb-true _ _ below, high, on) })
     (λ _. record { is = tt })
 
@@ -68,7 +69,7 @@ unfolding next_domain
 next_passes text declared at =
     let P = Passes (λ value. value ≡ declared) at in
     then_number_lem P text 0 last_domain at _ _ (λ _. record { is = tt }) λ domain start end low high on.
-    cond_holds P (eqb domain declared) (Ok (number_with domain start end)) (Err (WrongDomain start))
+    cond_holds P (eqb domain declared) (Ok (numeral_with domain start end)) (Err (WrongDomain start))
     (λ same. record { is = (eqb-true _ _ same, high, on) })
     (λ _. record { is = tt })
 

@@ -16,7 +16,8 @@ use Rattle.syntax.specs.Tokens.{take_number, then, then_number}
 use Rattle.forms.specs.declared.Form.{Form}
 use Rattle.forms.specs.declared.Form.TheVariants.{Pad, Run, Domain, Window, Op as Script}
 use Rattle.forms.specs.declared.DomainParse.{DomainParse}
-use Rattle.syntax.specs.declared.Number.{Number}
+use Rattle.syntax.specs.declared.Numeral.{Numeral}
+use Rattle.syntax.specs.Tokens.{numeral_with}
 
 -- going on from a form, or handing the refusal on
 abbrev pub then_form : {A : Type 0} → Result (Form × ℕ) Refusal → (Refusal → A) → (Form → ℕ → A) → A
@@ -40,10 +41,10 @@ run_form text at =
 -- ---- (window 0 (length 400)) and (op 0 (read 3))
 
 -- the number of a domain that is declared above, else 4
-unfoldable pub declared_domain : List ℕ → ℕ → ℕ → Result Number Refusal
+unfoldable pub declared_domain : List ℕ → ℕ → ℕ → Result Numeral Refusal
 declared_domain text declared at =
     then_number (take_number text 0 last_domain at) Err λ domain start end.
-    cond (ltb domain declared) (Ok (number_with domain start end)) (Err (WrongDomain start))
+    cond (ltb domain declared) (Ok (numeral_with domain start end)) (Err (WrongDomain start))
 
 -- a window's domain and its length
 unfoldable pub window_form : List ℕ → ℕ → ℕ → Result (Form × ℕ) Refusal
@@ -68,10 +69,10 @@ abbrev pub refused_domain : List ℕ → Refusal → DomainParse
 refused_domain named refusal = record { parse = Err refusal; named = named }
 
 -- the number due next, else 4
-unfoldable pub next_domain : List ℕ → ℕ → ℕ → Result Number Refusal
+unfoldable pub next_domain : List ℕ → ℕ → ℕ → Result Numeral Refusal
 next_domain text declared at =
     then_number (take_number text 0 last_domain at) Err λ domain start end.
-    cond (eqb domain declared) (Ok (number_with domain start end)) (Err (WrongDomain start))
+    cond (eqb domain declared) (Ok (numeral_with domain start end)) (Err (WrongDomain start))
 
 -- a share with the list of recipients that follows it
 unfoldable pub listed_domain : ℕ → RecipientList → DomainParse

@@ -28,7 +28,7 @@ use Rattle.line.specs.declared.Line.{Line}
 use Rattle.line.specs.declared.PlainHead.TheVariants.{Blank as NoToken, Refused}
 use Rattle.line.specs.Heads.{closed_end, form_head, head_at, head_line, word_head}
 use Rattle.line.specs.Lines.{form_keywords, form_line, line_at, line_with, refused_line}
-use Rattle.syntax.specs.declared.Number.{Number}
+use Rattle.syntax.specs.declared.Numeral.{Numeral}
 use Rattle.script.specs.declared.Op.{Op}
 
 -- ---- the beginning
@@ -111,11 +111,11 @@ op_form_is text declared at = by_domain (declared_domain text declared at)
     by_op domain (Ok (op, closed)) = tt
     by_op domain (Err refusal) = tt
 
-    by_domain : (numbered : Result Number Refusal)
+    by_domain : (numbered : Result Numeral Refusal)
         → IsOpParse (then_number numbered Err λ domain start end.
         then_op (bracketed_op text end) Err λ op closed.
         Ok ((Script (record { domain = domain; op = op })), closed))
-    by_domain (Ok (number_with domain start end)) = by_op domain (bracketed_op text end)
+    by_domain (Ok numeral) = by_op numeral.value (bracketed_op text numeral.end)
     by_domain (Err refusal) = tt
 
 other_form : (form : Form) → ((line : OpLine) → form ≡ Script line → ⊥) → IsOp form → ⊥

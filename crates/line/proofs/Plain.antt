@@ -26,7 +26,7 @@ use Rattle.line.specs.declared.PlainHead.TheVariants.{Window as WindowHead}
 use Rattle.line.specs.declared.PlainHead.TheVariants.{Refused as RefusedHead}
 use Rattle.line.specs.Heads.{line_of}
 use Rattle.line.specs.Lines.{closed_line, noted_line}
-use Rattle.syntax.specs.declared.Number.{Number}
+use Rattle.syntax.specs.declared.Numeral.{Numeral}
 
 -- `named` before the form, and `marked` after it
 abbrev pub IsPlain : List ℕ → List ℕ → Form → Type 0
@@ -59,10 +59,10 @@ after_token : {A : Type 0} (P : A → Type 0) (passed : Result ℕ Refusal) (ref
 after_token P (Ok end) refused go f g = g end
 after_token P (Err refusal) refused go f g = f refusal
 
-after_number : {A : Type 0} (P : A → Type 0) (taken : Result Number Refusal) (refused : Refusal → A)
+after_number : {A : Type 0} (P : A → Type 0) (taken : Result Numeral Refusal) (refused : Refusal → A)
     (go : ℕ → ℕ → ℕ → A) → ((refusal : Refusal) → P (refused refusal))
     → ((value start end : ℕ) → P (go value start end)) → P (then_number taken refused go)
-after_number P (Ok (number_with value start end)) refused go f g = g value start end
+after_number P (Ok numeral) refused go f g = g numeral.value numeral.start numeral.end
 after_number P (Err refusal) refused go f g = f refusal
 
 module _ (text : List ℕ) (declared : ℕ) (named : List ℕ) where

@@ -30,6 +30,7 @@ use Rattle.writer.specs.Lines.{domain_line, recipients_of, spaced}
 use Rattle.roundtrip.proofs.Due.{Takes, bracketed_takes, head_goes, number_takes, then_goes, then_takes}
 use Rattle.roundtrip.proofs.Lines.{Reads, closed_reads, line_reads, selected}
 use Rattle.roundtrip.proofs.Recipients.{Quiet, recipients_list, spaced_ends}
+use Rattle.syntax.specs.Tokens.{numeral_with}
 
 abbrev form : ℕ → ℕ → Form
 form share rights = Domain (record { share = share; rights = rights })
@@ -62,7 +63,7 @@ next_takes text at own rest below left ends =
       end = taken.end;
       is =
           then_takes taken Err _
-          ∙ ap (λ (test : Bool). cond test (Ok (number_with own taken.start taken.end)) (Err (WrongDomain taken.start))) (eq-eqb own own refl);
+          ∙ ap (λ (test : Bool). cond test (Ok (numeral_with own taken.start taken.end)) (Err (WrongDomain taken.start))) (eq-eqb own own refl);
       left = taken.left;
     }
 

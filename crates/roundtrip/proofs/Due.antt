@@ -20,7 +20,8 @@ use Rattle.lexer.specs.Scan.{all_bytes}
 use Rattle.lexer.proofs.Scanned.{close_token, end_token, feed_token, left_next, left_past, open_token, stops_at, token_space}
 use Rattle.lexer.proofs.Spelled.{number_token, word_token}
 use Rattle.writer.specs.Canonical.{followed}
-use Rattle.syntax.specs.declared.Number.{Number}
+use Rattle.syntax.specs.declared.Numeral.{Numeral}
+use Rattle.syntax.specs.Tokens.{numeral_with}
 
 -- what was due was there, and this is left past it
 pub record Goes (text rest : List ℕ) (passed : Result ℕ Refusal) : Type 0 where
@@ -29,10 +30,10 @@ pub record Goes (text rest : List ℕ) (passed : Result ℕ Refusal) : Type 0 wh
   pub left : drop end text ≡ rest
 
 -- a number was due, and this one was there
-pub record Takes (text rest : List ℕ) (value : ℕ) (taken : Result Number Refusal) : Type 0 where
+pub record Takes (text rest : List ℕ) (value : ℕ) (taken : Result Numeral Refusal) : Type 0 where
   pub start : ℕ
   pub end : ℕ
-  pub is : taken ≡ Ok (number_with value start end)
+  pub is : taken ≡ Ok (numeral_with value start end)
   pub left : drop end text ≡ rest
 
 -- a word is the same as itself
@@ -111,9 +112,9 @@ pub then_goes :
 then_goes due refused go = ap (λ (passed : Result ℕ Refusal). then passed refused go) due.to
 
 pub then_takes :
-    {A : Type 0} {text rest : List ℕ} {value : ℕ} {taken : Result Number Refusal} (due : Takes text rest value taken) (refused : Refusal → A) (go : ℕ → ℕ → ℕ → A)
+    {A : Type 0} {text rest : List ℕ} {value : ℕ} {taken : Result Numeral Refusal} (due : Takes text rest value taken) (refused : Refusal → A) (go : ℕ → ℕ → ℕ → A)
     → then_number taken refused go ≡ go value due.start due.end
-then_takes due refused go = ap (λ (taken : Result Number Refusal). then_number taken refused go) due.is
+then_takes due refused go = ap (λ (taken : Result Numeral Refusal). then_number taken refused go) due.is
 
 -- ---- what stands in brackets of its own
 

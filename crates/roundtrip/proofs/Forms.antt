@@ -24,6 +24,7 @@ use Rattle.writer.specs.Canonical.{followed}
 use Rattle.writer.specs.Lines.{pad_line, run_line, window_line}
 use Rattle.roundtrip.proofs.Due.{Takes, bracketed_takes, number_takes, then_takes}
 use Rattle.roundtrip.proofs.Lines.{Reads, Within, closed_reads, line_reads, selected}
+use Rattle.syntax.specs.Tokens.{numeral_with}
 
 -- ---- what stands within the brackets, past the word
 
@@ -65,7 +66,7 @@ module _ (text : List ℕ) (at : ℕ) where
         end = taken.end;
         is =
             then_takes taken Err _
-            ∙ ap (λ (test : Bool). cond test (Ok (number_with domain taken.start taken.end)) (Err (WrongDomain taken.start)))
+            ∙ ap (λ (test : Bool). cond test (Ok (numeral_with domain taken.start taken.end)) (Err (WrongDomain taken.start)))
             (lt-ltb domain declared below);
         left = taken.left;
       }

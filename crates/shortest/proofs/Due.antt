@@ -23,7 +23,8 @@ use Rattle.lexer.specs.Tokens.{close_kind, line_end_kind, long_number_kind, numb
 use Rattle.lexer.proofs.Reached.{cond_holds, token_bounds}
 use Rattle.shortest.proofs.Runs.{RunOver}
 use Rattle.shortest.proofs.Tokens.{bracket_long, token_spans}
-use Rattle.syntax.specs.declared.Number.{Number}
+use Rattle.syntax.specs.declared.Numeral.{Numeral}
+use Rattle.syntax.specs.Tokens.{numeral_with}
 
 -- ---- by the next token
 
@@ -196,20 +197,20 @@ pub record Spaced (text : List ℕ) (at value end : ℕ) : Type 0 where
   pub long : at + 1 + length (decimal_of value) ≤ end
   pub over : RunOver text end
 
-abbrev OfValue : (ℕ → ℕ → Type 0) → Result Number Refusal → Type 0
-OfValue Fact (Ok (number_with value start end)) = Fact value end
+abbrev OfValue : (ℕ → ℕ → Type 0) → Result Numeral Refusal → Type 0
+OfValue Fact (Ok numeral) = Fact numeral.value numeral.end
 OfValue Fact (Err refusal) = Unit {0}
 
-pub record Takes (Fact : ℕ → ℕ → Type 0) (taken : Result Number Refusal) : Type 0 where
+pub record Takes (Fact : ℕ → ℕ → Type 0) (taken : Result Numeral Refusal) : Type 0 where
   pub takes : OfValue Fact taken
 
 pub by_taken :
-    {A : Type 0} (P : A → Type 0) (Fact : ℕ → ℕ → Type 0) (taken : Result Number Refusal) (refused : Refusal → A) (go : ℕ → ℕ → ℕ → A)
+    {A : Type 0} (P : A → Type 0) (Fact : ℕ → ℕ → Type 0) (taken : Result Numeral Refusal) (refused : Refusal → A) (go : ℕ → ℕ → ℕ → A)
     → Takes Fact taken
     → ((refusal : Refusal) → P (refused refusal))
     → ((value start end : ℕ) → Fact value end → P (go value start end))
     → P (then_number taken refused go)
-by_taken P Fact (Ok (number_with value start end)) refused go fact none goes = goes value start end fact.takes
+by_taken P Fact (Ok numeral) refused go fact none goes = goes numeral.value numeral.start numeral.end fact.takes
 by_taken P Fact (Err refusal) refused go fact none goes = none refusal
 
 number_takes : (text : List ℕ) (low high at : ℕ) → RunOver text at → Takes (Spaced text at) (take_number text low high at)
@@ -220,9 +221,9 @@ number_takes text low high at before =
     let spans = token_spans text at in
     let within = leb low (token_value token) && leb (token_value token) high in
     cond_holds P (eqb (token_kind token) long_number_kind) _ _ (λ _. record { takes = tt }) λ _.
-    due_kind P text at Err (λ start end. cond within (Ok (number_with (token_value token) start end)) (Err (NumberOutOfLimits start)))
+    due_kind P text at Err (λ start end. cond within (Ok (numeral_with (token_value token) start end)) (Err (NumberOutOfLimits start)))
     (λ _. record { takes = tt }) number_kind λ is.
-    cond_holds P within (Ok (number_with (token_value token) (token_start token) (token_end token))) (Err (NumberOutOfLimits (token_start token)))
+    cond_holds P within (Ok (numeral_with (token_value token) (token_start token) (token_end token))) (Err (NumberOutOfLimits (token_start token)))
     (λ _.
     let digits = spans.digits is in
     record { takes = record { long = omega (arith, digits.apart before, digits.enough); over = spans.over (omega arith) } })

@@ -27,6 +27,7 @@ use Rattle.shortest.proofs.Due.{Spaced, Takes, by_taken, then_bracketed, then_he
 use Rattle.shortest.proofs.Ops.{then_op_lem}
 use Rattle.shortest.proofs.Recipients.{CoversList, CoversPassed, list_covers}
 use Rattle.shortest.proofs.Runs.{RunOver}
+use Rattle.syntax.specs.Tokens.{numeral_with}
 
 -- a form from one offset up to another has room for its canonical spelling; nothing is claimed of one that is refused
 abbrev pub CoversForm : ℕ → ℕ → Form → ℕ → Type 0
@@ -57,7 +58,7 @@ module _ (text : List ℕ) (declared at : ℕ) (before : RunOver text at) where
   declared_takes =
       let P = Takes (Spaced text at) in
       then_number_lem P text 0 last_domain at _ _ before (λ _. record { takes = tt }) λ domain start end apart.
-      cond_holds P (ltb domain declared) (Ok (number_with domain start end)) (Err (WrongDomain start))
+      cond_holds P (ltb domain declared) (Ok (numeral_with domain start end)) (Err (WrongDomain start))
       (λ _. record { takes = apart })
       (λ _. record { takes = tt })
 
@@ -67,7 +68,7 @@ module _ (text : List ℕ) (declared at : ℕ) (before : RunOver text at) where
   next_takes =
       let P = Takes λ value end. (value ≡ declared) × Spaced text at value end in
       then_number_lem P text 0 last_domain at _ _ before (λ _. record { takes = tt }) λ domain start end apart.
-      cond_holds P (eqb domain declared) (Ok (number_with domain start end)) (Err (WrongDomain start))
+      cond_holds P (eqb domain declared) (Ok (numeral_with domain start end)) (Err (WrongDomain start))
       (λ same. record { takes = (eqb-true domain declared same, apart) })
       (λ _. record { takes = tt })
 

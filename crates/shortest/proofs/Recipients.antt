@@ -24,6 +24,7 @@ use Rattle.shortest.proofs.Due.{Spaced, then_close, then_number_lem}
 use Rattle.shortest.proofs.Runs.{RunOver}
 use Rattle.syntax.specs.declared.RecipientItem.{RecipientItem}
 use Rattle.refusal.specs.declared.Refusal.{Refusal}
+use Rattle.syntax.specs.declared.RecipientItem.TheVariants.{Next, Done}
 
 -- ---- the canonical list with one recipient more
 

@@ -21,7 +21,8 @@ use Rattle.syntax.specs.Ops.{number_op, op_at, op_keywords, send_op, then_op}
 use Rattle.syntax.specs.Tokens.{then_number}
 use Rattle.syntax.proofs.Advance.{then_close, then_line_end, then_number_lem, then_open}
 use Rattle.syntax.proofs.ByKeyword.{one_of_holds}
-use Rattle.syntax.specs.declared.Number.{Number}
+use Rattle.syntax.specs.declared.Numeral.{Numeral}
+use Rattle.syntax.specs.Tokens.{numeral_with}
 
 -- ---- an op
 
@@ -105,11 +106,11 @@ unfolding op_form
 form_within text declared at = go (declared_domain text declared at)
   where
     go :
-        (taken : Result Number Refusal)
+        (taken : Result Numeral Refusal)
         → WithinForm (then_number taken Err λ domain start end.
         then_op (bracketed_op text end) Err λ op closed. Ok ((Script (record { domain = domain; op = op })), closed))
-    go (Ok (number_with domain start end)) =
-        by_op WithinForm (bracketed_op text end) _ _ (bracketed_within text end) (λ _. record { limits = tt }) λ op closed within.
+    go (Ok numeral) =
+        by_op WithinForm (bracketed_op text numeral.end) _ _ (bracketed_within text numeral.end) (λ _. record { limits = tt }) λ op closed within.
         record { limits = within }
     go (Err refusal) = record { limits = tt }
 

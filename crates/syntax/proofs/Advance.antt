@@ -17,6 +17,8 @@ use Rattle.lexer.specs.declared.Token.TheVariants.{LineEnd, Open, Close, Word, N
 use Rattle.lexer.specs.Tokens.{close_kind, line_end_kind, open_kind, token_at, token_end, token_kind, token_start, word_kind}
 use Rattle.syntax.specs.Brackets.{bracketed_number, pass_head}
 use Rattle.syntax.specs.Tokens.{due, is_word, number_within, pass_close, pass_line_end, pass_open, pass_word, take_number, then, then_number}
+use Rattle.syntax.specs.Tokens.{numeral_with}
+use Rattle.syntax.specs.declared.Numeral.{Numeral}
 
 -- ---- a bracket, a word, a line's end
 
@@ -65,12 +67,12 @@ word_past text word first at past =
 -- ---- a number
 
 -- a fact of a number and its two offsets, where there is one
-abbrev pub OfNumber : (ℕ → ℕ → ℕ → Type 0) → Result Number Refusal → Type 0
-OfNumber Fact (Ok (number_with value start end)) = Fact value start end
+abbrev pub OfNumber : (ℕ → ℕ → ℕ → Type 0) → Result Numeral Refusal → Type 0
+OfNumber Fact (Ok numeral) = Fact numeral.value numeral.start numeral.end
 OfNumber Fact (Err refusal) = Unit {0}
 
 -- it is within its limits, and ends past the offset and within the text
-abbrev pub Limited : List ℕ → ℕ → ℕ → ℕ → Result Number Refusal → Type 0
+abbrev pub Limited : List ℕ → ℕ → ℕ → ℕ → Result Numeral Refusal → Type 0
 Limited text low high at =
     OfNumber λ value start end. (low ≤ value) × (value ≤ high) × (at ≤ start) × (start < end) × (end ≤ length text)
 
@@ -80,7 +82,7 @@ number_of_limited text low high at (Open offset) h = tt
 number_of_limited text low high at (Close offset) h = tt
 number_of_limited text low high at (Word start end) h = tt
 number_of_limited text low high at (Number start end value) h =
-    cond_holds (Limited text low high at) (leb low value && leb value high) (Ok (number_with value start end)) (Err (NumberOutOfLimits start))
+    cond_holds (Limited text low high at) (leb low value && leb value high) (Ok (numeral_with value start end)) (Err (NumberOutOfLimits start))
     (λ within. let both = limits low high value within in (both.0, both.1, h.0, h.1, h.2))
     (λ _. tt)
 number_of_limited text low high at (LongNumber start end) h = tt
@@ -91,16 +93,16 @@ unfolding take_number
 number_limited text low high at = number_of_limited text low high at (token_at text at) (token_reached text at)
 
 -- the same of an answer that is known to be of some kind
-pub limited : (text : List ℕ) (low high at : ℕ) {taken kind : Result Number Refusal} → taken ≡ take_number text low high at → taken ≡ kind
+pub limited : (text : List ℕ) (low high at : ℕ) {taken kind : Result Numeral Refusal} → taken ≡ take_number text low high at → taken ≡ kind
     → Limited text low high at kind
 limited text low high at next known = subst (Limited text low high at) (sym next ∙ known) (number_limited text low high at)
 
 -- ---- going on from what was due, or handing the refusal on
 
 -- what the code answers to the number that it took, where that is the number that is due
-pub number_answer : {A : Type 0} (refused : Refusal → A) (go : ℕ → ℕ → ℕ → A) {taken kind wanted : Result Number Refusal} {answer : A}
+pub number_answer : {A : Type 0} (refused : Refusal → A) (go : ℕ → ℕ → ℕ → A) {taken kind wanted : Result Numeral Refusal} {answer : A}
     → taken ≡ wanted → taken ≡ kind → answer ≡ then_number kind refused go → answer ≡ then_number wanted refused go
-number_answer refused go due known answered = answered ∙ ap (λ (parse : Result Number Refusal). then_number parse refused go) (sym known ∙ due)
+number_answer refused go due known answered = answered ∙ ap (λ (parse : Result Numeral Refusal). then_number parse refused go) (sym known ∙ due)
 
 module _ {A : Type 0} (P : A → Type 0) (text : List ℕ) where
   by_passed : (at : ℕ) (passed : Result ℕ Refusal) (refused : Refusal → A) (go : ℕ → A) → Past text at passed → ((refusal : Refusal) → P (refused refusal))
@@ -120,10 +122,10 @@ module _ {A : Type 0} (P : A → Type 0) (text : List ℕ) where
       → ((end : ℕ) → at ≤ end → end ≤ length text → P (go end)) → P (then (pass_line_end text at) refused go)
   then_line_end at refused go within = by_passed at (pass_line_end text at) refused go (line_end_past text at within)
 
-  pub by_number : (Fact : ℕ → ℕ → ℕ → Type 0) (taken : Result Number Refusal) (refused : Refusal → A) (go : ℕ → ℕ → ℕ → A) → OfNumber Fact taken
+  pub by_number : (Fact : ℕ → ℕ → ℕ → Type 0) (taken : Result Numeral Refusal) (refused : Refusal → A) (go : ℕ → ℕ → ℕ → A) → OfNumber Fact taken
       → ((refusal : Refusal) → P (refused refusal)) → ((value start end : ℕ) → Fact value start end → P (go value start end))
       → P (then_number taken refused go)
-  by_number Fact (Ok (number_with value start end)) refused go h f g = g value start end h
+  by_number Fact (Ok numeral) refused go h f g = g numeral.value numeral.start numeral.end h
   by_number Fact (Err refusal) refused go h f g = f refusal
 
   pub then_number_lem : (low high at : ℕ) (refused : Refusal → A) (go : ℕ → ℕ → ℕ → A) → ((refusal : Refusal) → P (refused refusal))
@@ -144,10 +146,10 @@ module _ {A : Type 0} (P : A → Type 0) (text : List ℕ) where
   then_head word at refused go = by_passed P text at (pass_head text word at) refused go (head_past text word at)
 
 -- a number in brackets of its own
-abbrev Bracketed : ℕ → ℕ → ℕ → Result Number Refusal → Type 0
+abbrev Bracketed : ℕ → ℕ → ℕ → Result Numeral Refusal → Type 0
 Bracketed low high at = OfNumber λ value start end. (low ≤ value) × (value ≤ high) × (at ≤ end)
 
-record IsBracketed (low high at : ℕ) (taken : Result Number Refusal) : Type 0 where
+record IsBracketed (low high at : ℕ) (taken : Result Numeral Refusal) : Type 0 where
   is : Bracketed low high at taken
 
 bracketed_limited : (text word : List ℕ) (low high at : ℕ) → IsBracketed low high at (bracketed_number text word low high at)

@@ -1,4 +1,4 @@
--- A word that is one of a few: what holds of each, and that what follows one of five is what follows the word that the code found.
+-- A word that is one of a few: what holds of each, and that what follows one of several is what follows the word that the code found.
 -- Assumes nothing.
 use Prim.Native.Nat.{ℕ, ◌≤◌}
 use native.Mathlib.Omega.{arith}
@@ -12,9 +12,8 @@ use Rattle.lexer.specs.declared.Token.{Token}
 use Rattle.lexer.specs.Tokens.{token_at, token_end, token_kind, token_start, word_kind}
 use Rattle.syntax.proofs.Advance.{due_holds}
 use Rattle.syntax.proofs.Choices.{choice_holds}
-use Rattle.syntax.specs.declared.KeywordParse.{KeywordParse}
-use Rattle.syntax.specs.declared.KeywordParse.TheVariants.{First, Second, Third, Fourth, Fifth, Refused as RefusedKeyword}
-use Rattle.syntax.specs.Keywords.{Keyword, five_words, follows, keyword_at, one_of}
+use Rattle.std.specs.Prelude.{Result, Ok, Err}
+use Rattle.syntax.specs.Keywords.{Keyword, follows, keyword_at, one_of}
 use Rattle.syntax.specs.Tokens.{is_word}
 
 -- ---- what holds of each
@@ -39,16 +38,16 @@ one_of_holds P keywords text at refused f each =
     due_holds P text word_kind at refused _ (λ none. absurd (omega arith)) f λ start end least order _.
     follows_holds P keywords text at start end refused (omega arith) f each
 
--- ---- which of five it is
+-- ---- which of several it is
 
 -- a function of what follows, carried to each keyword
-mapped : {A B : Type 0} → (B → A) → List (Keyword B) → List (Keyword A)
+abbrev pub mapped : {A B : Type 0} → (B → A) → List (Keyword B) → List (Keyword A)
 mapped f [] = []
 mapped f (keyword ∷ others) = record { word = keyword.word; follow = λ end. f (keyword.follow end) } ∷ mapped f others
 
 follows_mapped : {A B : Type 0} (f : B → A) (keywords : List (Keyword B)) (text : List ℕ) (start end : ℕ) (refused : Refusal → B)
     → follows (mapped f keywords) text start end (λ refusal. f (refused refusal)) ≡ f (follows keywords text start end refused)
-unfolding follows mapped
+unfolding follows
 follows_mapped f [] text start end refused = refl
 follows_mapped {A} {B} f (keyword ∷ others) text start end refused =
     go (is_word text start end keyword.word) (follows_mapped f others text start end refused)
@@ -78,23 +77,18 @@ one_of_mapped {A} {B} f keywords text at refused =
     go false same = refl
 
 -- what follows the word that was found
-abbrev following : {A : Type 0} → (Refusal → A) → (ℕ → A) → (ℕ → A) → (ℕ → A) → (ℕ → A) → (ℕ → A) → KeywordParse → A
-following refused first second third fourth fifth (First end) = first end
-following refused first second third fourth fifth (Second end) = second end
-following refused first second third fourth fifth (Third end) = third end
-following refused first second third fourth fifth (Fourth end) = fourth end
-following refused first second third fourth fifth (Fifth end) = fifth end
-following refused first second third fourth fifth (RefusedKeyword refusal) = refused refusal
+abbrev pub following : {A W : Type 0} → (Refusal → A) → (W → ℕ → A) → Result (W × ℕ) Refusal → A
+following refused follow (Ok (which, end)) = follow which end
+following refused follow (Err refusal) = refused refusal
 
 -- an answer that follows the word that the code found is the one that the keywords give
-pub by_keyword : {A : Type 0} (refused : Refusal → A) (first second third fourth fifth : Keyword A) (text : List ℕ) (at : ℕ)
-    {keyword kind : KeywordParse} {answer : A}
-    → keyword ≡ keyword_at (five_words first.word second.word third.word fourth.word fifth.word) text at
+pub by_keyword : {A W : Type 0} (refused : Refusal → A) (follow : W → ℕ → A) (words : List (Keyword (Result (W × ℕ) Refusal)))
+    (text : List ℕ) (at : ℕ) {keyword kind : Result (W × ℕ) Refusal} {answer : A}
+    → keyword ≡ keyword_at words text at
     → keyword ≡ kind
-    → answer ≡ following refused first.follow second.follow third.follow fourth.follow fifth.follow kind
-    → answer ≡ one_of (first ∷ second ∷ third ∷ fourth ∷ fifth ∷ []) text at refused
-unfolding keyword_at mapped
-by_keyword refused first second third fourth fifth text at asked known answered =
-    let f = following refused first.follow second.follow third.follow fourth.follow fifth.follow in
-    let words = five_words first.word second.word third.word fourth.word fifth.word in
-    answered ∙ sym (one_of_mapped f words text at RefusedKeyword ∙ ap f (sym asked ∙ known))
+    → answer ≡ following refused follow kind
+    → answer ≡ one_of (mapped (following refused follow) words) text at refused
+unfolding keyword_at
+by_keyword refused follow words text at asked known answered =
+    let f = following refused follow in
+    answered ∙ sym (one_of_mapped f words text at Err ∙ ap f (sym asked ∙ known))

@@ -21,6 +21,7 @@ use Rattle.syntax.specs.declared.RecipientList.{RecipientList}
 use Rattle.syntax.specs.Recipients.{mention, recipient_at, recipients_at, recipients_from}
 use Rattle.syntax.specs.declared.RecipientItem.{RecipientItem}
 use Rattle.refusal.specs.declared.Refusal.{Refusal}
+use Rattle.syntax.specs.declared.RecipientItem.TheVariants.{Next, Done}
 
 -- ---- where domains are named
 

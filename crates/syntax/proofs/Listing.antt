@@ -22,6 +22,7 @@ use Rattle.syntax.proofs.NewBit.{new_bit_most}
 use Rattle.syntax.specs.Recipients.{mention, next_recipient, recipient_at, recipients_at, recipients_from}
 use Rattle.syntax.specs.Tokens.{pass_close, take_number}
 use Rattle.syntax.specs.declared.RecipientItem.{RecipientItem}
+use Rattle.syntax.specs.declared.RecipientItem.TheVariants.{Next, Done}
 
 -- ---- the next one
 
@@ -63,7 +64,7 @@ next_listed text own rights at =
 pub recipient_listed : (text : List ℕ) (own rights at : ℕ) → Listed text own rights at (recipient_at text own rights at)
 unfolding recipient_at
 recipient_listed text own rights at =
-    then_close (Listed text own rights at) text at (λ _. next_recipient text own rights at) Ok (Done (λ _. next_listed text own rights at))
+    then_close (Listed text own rights at) text at (λ _. next_recipient text own rights at) (λ end. Ok (Done end)) (λ _. next_listed text own rights at)
     (λ end past within. (past, within))
 
 -- the same of an answer that is known to be of some kind

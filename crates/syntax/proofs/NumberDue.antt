@@ -11,6 +11,7 @@ use Rattle.lexer.specs.Lookaheads.{as_number}
 use Rattle.lexer.specs.Tokens.{token_at}
 use Rattle.syntax.specs.Tokens.{number_within, take_number}
 use Rattle.refusal.specs.declared.Refusal.{Refusal}
+use Rattle.syntax.specs.declared.Numeral.{Numeral}
 
 as_number_within : (low high : ℕ) (token : Token)
     → number_within low high (as_number token) ≡ number_within low high token
@@ -24,7 +25,7 @@ as_number_within low high (LongNumber start end) = refl
 as_number_within low high (Other start end) = refl
 
 -- what is answered to that token is what is answered to the next one
-pub number_taken : (text : List ℕ) (low high at : ℕ) {token : Token} {answer : Result Number Refusal}
+pub number_taken : (text : List ℕ) (low high at : ℕ) {token : Token} {answer : Result Numeral Refusal}
     → token ≡ as_number (token_at text at)
     → answer ≡ number_within low high token → answer ≡ take_number text low high at
 unfolding take_number

@@ -1,14 +1,14 @@
 -- Document 01, "The plan text": a word that says what follows it. Assumes nothing.
-use Rattle.std.specs.Prelude.{ℕ, true, false, List, [], ◌∷◌}
+use Rattle.std.specs.Prelude.{ℕ, true, false, List, [], ◌∷◌, Result, Ok, Err}
 use Prim.Native.String.{String}
 use Rattle.lists.specs.Ascii.{bytes_of}
 use Rattle.refusal.specs.declared.Refusal.{Refusal}
 use Rattle.refusal.specs.declared.Refusal.TheVariants.{BrokenShape}
 use Rattle.lexer.specs.Tokens.{token_at, word_kind}
-use Rattle.syntax.specs.declared.KeywordParse.{KeywordParse}
-use Rattle.syntax.specs.declared.KeywordParse.TheVariants.{First, Second, Third}
-use Rattle.syntax.specs.declared.KeywordParse.TheVariants.{Fourth, Fifth}
-use Rattle.syntax.specs.declared.KeywordParse.TheVariants.{Refused as RefusedKeyword}
+use Rattle.syntax.specs.declared.FormWord.{FormWord}
+use Rattle.syntax.specs.declared.FormWord.TheVariants.{Pad, Run, Domain, Window, Op}
+use Rattle.syntax.specs.declared.OpWord.{OpWord}
+use Rattle.syntax.specs.declared.OpWord.TheVariants.{Read, Write, Send, Receive, Compute}
 use Rattle.syntax.specs.Tokens.{due, is_word}
 
 -- a word, and what is read from its end on
@@ -37,26 +37,30 @@ one_of keywords text at refused =
 
 -- ---- which of five words it is: what the code finds first
 
-abbrev pub five_words : List ℕ → List ℕ → List ℕ → List ℕ → List ℕ → List (Keyword KeywordParse)
-five_words first second third fourth fifth =
-    record { word = first; follow = First }
-    ∷ record { word = second; follow = Second }
-    ∷ record { word = third; follow = Third }
-    ∷ record { word = fourth; follow = Fourth }
-    ∷ record { word = fifth; follow = Fifth }
-    ∷ []
+-- a word that is found as one of several, with the offset of its end
+abbrev pub named : {W : Type 0} → List ℕ → W → Keyword (Result (W × ℕ) Refusal)
+named word which = record { word = word; follow = λ end. Ok (which, end) }
 
 -- the words of the ops, in the order of `op_keywords` of Ops
-abbrev pub op_words : List (Keyword KeywordParse)
+abbrev pub op_words : List (Keyword (Result (OpWord × ℕ) Refusal))
 op_words =
-    five_words (bytes_of "read") (bytes_of "write") (bytes_of "send") (bytes_of "receive")
-    (bytes_of "compute")
+    named (bytes_of "read") Read
+    ∷ named (bytes_of "write") Write
+    ∷ named (bytes_of "send") Send
+    ∷ named (bytes_of "receive") Receive
+    ∷ named (bytes_of "compute") Compute
+    ∷ []
 
 -- the words of the forms, in the order of `form_keywords` of crate line
-abbrev pub form_words : List (Keyword KeywordParse)
+abbrev pub form_words : List (Keyword (Result (FormWord × ℕ) Refusal))
 form_words =
-    five_words (bytes_of "pad") (bytes_of "run") (bytes_of "domain") (bytes_of "window") (bytes_of "op")
+    named (bytes_of "pad") Pad
+    ∷ named (bytes_of "run") Run
+    ∷ named (bytes_of "domain") Domain
+    ∷ named (bytes_of "window") Window
+    ∷ named (bytes_of "op") Op
+    ∷ []
 
 -- which of them the next token is
-unfoldable pub keyword_at : List (Keyword KeywordParse) → List ℕ → ℕ → KeywordParse
-keyword_at keywords text at = one_of keywords text at RefusedKeyword
+unfoldable pub keyword_at : {W : Type 0} → List (Keyword (Result (W × ℕ) Refusal)) → List ℕ → ℕ → Result (W × ℕ) Refusal
+keyword_at keywords text at = one_of keywords text at Err

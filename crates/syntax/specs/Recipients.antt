@@ -8,6 +8,7 @@ use Rattle.script.specs.Limits.{last_domain}
 use Rattle.syntax.specs.declared.RecipientList.{RecipientList}
 use Rattle.syntax.specs.Tokens.{pass_close, take_number, then, then_number}
 use Rattle.syntax.specs.declared.RecipientItem.{RecipientItem}
+use Rattle.syntax.specs.declared.RecipientItem.TheVariants.{Done, Next}
 use Rattle.refusal.specs.declared.Refusal.{Refusal}
 
 -- a recipient is a domain number; 8 for the domain's own number or a repeat
@@ -21,7 +22,7 @@ next_recipient text own rights at =
 -- closes it, or one recipient more
 unfoldable pub recipient_at : List ℕ → ℕ → ℕ → ℕ → Result RecipientItem Refusal
 recipient_at text own rights at =
-    then (pass_close text at) (λ _. next_recipient text own rights at) Done
+    then (pass_close text at) (λ _. next_recipient text own rights at) λ end. Ok (Done end)
 
 -- the text names a domain as a recipient: the first time counts, and is kept as its offset + 1, so
 -- that 0 stays none

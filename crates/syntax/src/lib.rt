@@ -1,5 +1,6 @@
 // The parser's parts: what a form asks for, taken token by token (brackets, words and numbers, an
-// op, a list of recipients), or the refusal with its offset.
+// op, a list of recipients), or the refusal with its offset. Beside what was taken stands the offset
+// to go on from.
 #![tactic(auto)]
 
 pub mod brackets;
@@ -9,47 +10,45 @@ mod op_tokens;
 pub mod tokens;
 
 use refusal::Refusal;
-use script::Op;
 
-// A bracket, a word or a line's end was due: the offset to go on from, or the refusal.
-#[derive(Drop)]
-pub enum TokenParse {
-    To(usize),
-    Refused(Refusal),
+// A number within its limits, with the offset of its first byte and the offset past it (past its
+// closing bracket where it has brackets of its own).
+#[derive(Clone, Copy)]
+pub struct Numeral {
+    pub value: u32,
+    pub start: usize,
+    pub end: usize,
 }
 
-// A number was due: its value within its limits, the offset of its first byte and the offset past
-// it (past its closing bracket where it has brackets of its own), or the refusal.
-#[derive(Drop)]
-pub enum NumberParse {
-    Number {
-        value: u32,
-        start: usize,
-        end: usize,
-    },
-    Refused(Refusal),
+// A word, by the offset of its first byte and the offset past its last.
+#[derive(Clone, Copy)]
+pub struct Span {
+    pub start: usize,
+    pub end: usize,
 }
 
-// A word was due: the offset of its first byte and the offset past its last, or the refusal.
-#[derive(Drop)]
-pub enum WordParse {
-    Word { start: usize, end: usize },
-    Refused(Refusal),
+// The word that opens a form.
+#[derive(Clone, Copy)]
+pub enum FormWord {
+    Pad,
+    Run,
+    Domain,
+    Window,
+    Op,
 }
 
-// One of five words was due: which it is, and the offset past it, or the refusal.
-#[derive(Drop)]
-pub enum KeywordParse {
-    First(usize),
-    Second(usize),
-    Third(usize),
-    Fourth(usize),
-    Fifth(usize),
-    Refused(Refusal),
+// The word that opens an op.
+#[derive(Clone, Copy)]
+pub enum OpWord {
+    Read,
+    Write,
+    Send,
+    Receive,
+    Compute,
 }
 
 // The ops that have one number.
-#[derive(Drop)]
+#[derive(Clone, Copy)]
 enum NumberOp {
     Read,
     Write,
@@ -57,16 +56,9 @@ enum NumberOp {
     Compute,
 }
 
-// An op and the offset past its last number or its closing bracket, or the refusal.
-#[derive(Drop)]
-pub enum OpParse {
-    Op { op: Op, end: usize },
-    Refused(Refusal),
-}
-
 // What stands next in a list of recipients.
-#[derive(Drop)]
-pub enum RecipientParse {
+#[derive(Clone, Copy)]
+pub enum RecipientItem {
     // one more, with the offset of its first byte and the offset past its last
     Next {
         recipient: u32,
@@ -75,14 +67,13 @@ pub enum RecipientParse {
     },
     // the list's closing bracket, and the offset past it
     Done(usize),
-    Refused(Refusal),
 }
 
 // A list of recipients: the offset past its closing bracket or the refusal, with what was listed up
-// to there.
-#[derive(Drop)]
+// to there, which is told beside a refusal too.
+#[derive(Clone, Copy)]
 pub struct RecipientList {
-    pub passed: TokenParse,
+    pub passed: Result<usize, Refusal>,
     pub rights: u32,
     // where the text up to there first names each domain as a recipient, plus one; else 0
     pub named: [usize; 8],

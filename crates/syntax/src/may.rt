@@ -4,40 +4,35 @@ ghost use Rattle.plan.specs.Limits.{most_domains};
 ghost use Rattle.syntax.specs.Recipients.{mention, next_recipient, recipient_at, recipients_at};
 
 use crate::tokens::{pass_close, take_number};
-use crate::{NumberParse, RecipientList, RecipientParse, TokenParse};
+use crate::{RecipientItem, RecipientList};
 use plan::sharing::has_bit;
 use refusal::Refusal;
 use script::limits::LAST_DOMAIN;
 
 // One recipient more was due, other than `own` and those of `rights`.
-fn next_recipient(text: &[u8], own: u32, rights: u32, at: usize) -> RecipientParse
+#[tactic(auto, unfolding(crate::specs::Recipients::next_recipient))]
+fn next_recipient(text: &[u8], own: u32, rights: u32, at: usize) -> Result<RecipientItem, Refusal>
     ensures { result ≡ next_recipient text.now own rights at }
 {
-    let taken = take_number(text, 0, LAST_DOMAIN, at);
-    match taken {
-        NumberParse::Refused(refusal) => RecipientParse::Refused(refusal),
-        NumberParse::Number { value, start, end } => {
-            if (value == own) | has_bit(rights, value) {
-                RecipientParse::Refused(Refusal::BadRecipient(start))
-            } else {
-                RecipientParse::Next {
-                    recipient: value,
-                    start,
-                    end,
-                }
-            }
-        }
+    let number = take_number(text, 0, LAST_DOMAIN, at)?;
+    if (number.value == own) | has_bit(rights, number.value) {
+        return Err(Refusal::BadRecipient(number.start));
     }
+    Ok(RecipientItem::Next {
+        recipient: number.value,
+        start: number.start,
+        end: number.end,
+    })
 }
 
 // What stands next in the list: its closing bracket, or one recipient more.
-fn recipient_at(text: &[u8], own: u32, rights: u32, at: usize) -> RecipientParse
+#[tactic(auto, unfolding(crate::specs::Recipients::recipient_at))]
+fn recipient_at(text: &[u8], own: u32, rights: u32, at: usize) -> Result<RecipientItem, Refusal>
     ensures { result ≡ recipient_at text.now own rights at }
 {
-    let closing = pass_close(text, at);
-    match closing {
-        TokenParse::To(end) => RecipientParse::Done(end),
-        TokenParse::Refused(_) => next_recipient(text, own, rights, at),
+    match pass_close(text, at) {
+        Ok(end) => Ok(RecipientItem::Done(end)),
+        Err(_) => next_recipient(text, own, rights, at),
     }
 }
 
@@ -60,9 +55,18 @@ pub fn recipients_at(text: &[u8], own: u32, named: [usize; 8], at: usize) -> Rec
     let mut marked = named;
     let mut here = at;
     loop {
-        let next = recipient_at(text, own, rights, here);
-        match next {
-            RecipientParse::Next {
+        let item = match recipient_at(text, own, rights, here) {
+            Ok(item) => item,
+            Err(refusal) => {
+                return RecipientList {
+                    passed: Err(refusal),
+                    rights,
+                    named: marked,
+                };
+            }
+        };
+        match item {
+            RecipientItem::Next {
                 recipient,
                 start,
                 end,
@@ -71,16 +75,9 @@ pub fn recipients_at(text: &[u8], own: u32, named: [usize; 8], at: usize) -> Rec
                 note_mention(&mut marked, recipient, start);
                 here = end;
             }
-            RecipientParse::Done(end) => {
+            RecipientItem::Done(end) => {
                 return RecipientList {
-                    passed: TokenParse::To(end),
-                    rights,
-                    named: marked,
-                };
-            }
-            RecipientParse::Refused(refusal) => {
-                return RecipientList {
-                    passed: TokenParse::Refused(refusal),
+                    passed: Ok(end),
                     rights,
                     named: marked,
                 };

@@ -4,7 +4,8 @@ ghost use Rattle.syntax.specs.Ops.{most_of, number_op, op_at, op_with, send_op};
 
 use crate::keywords::op_keyword_at;
 use crate::tokens::take_number;
-use crate::{KeywordParse, NumberOp, NumberParse, OpParse};
+use crate::{NumberOp, OpWord};
+use refusal::Refusal;
 use script::Op;
 use script::limits::{LAST_DOMAIN, LEAST_TICKS, MOST_NUMBER, MOST_TICKS, MOST_WORD};
 
@@ -22,69 +23,44 @@ fn op_with(kind: NumberOp, number: u32) -> Op
 }
 
 // An op of one number.
-fn number_op(text: &[u8], kind: NumberOp, low: u32, high: u32, at: usize) -> OpParse
+#[tactic(auto, unfolding(crate::specs::Ops::number_op))]
+fn number_op(
+    text: &[u8],
+    kind: NumberOp,
+    low: u32,
+    high: u32,
+    at: usize,
+) -> Result<(Op, usize), Refusal>
     requires { high ≤ most_of kind }
     ensures { result ≡ number_op text.now low high (op_with kind) at }
 {
-    let taken = take_number(text, low, high, at);
-    match taken {
-        NumberParse::Refused(refusal) => OpParse::Refused(refusal),
-        NumberParse::Number {
-            value,
-            start: _,
-            end,
-        } => OpParse::Op {
-            op: op_with(kind, value),
-            end,
-        },
-    }
+    let number = take_number(text, low, high, at)?;
+    Ok((op_with(kind, number.value), number.end))
 }
 
 // The recipient and the word of a send.
-fn send_op(text: &[u8], at: usize) -> OpParse
+#[tactic(auto, unfolding(crate::specs::Ops::send_op))]
+fn send_op(text: &[u8], at: usize) -> Result<(Op, usize), Refusal>
     ensures { result ≡ send_op text.now at }
 {
-    let first = take_number(text, 0, LAST_DOMAIN, at);
-    match first {
-        NumberParse::Refused(refusal) => OpParse::Refused(refusal),
-        NumberParse::Number {
-            value: recipient,
-            start: _,
-            end: middle,
-        } => {
-            let second = take_number(text, 0, MOST_WORD, middle);
-            match second {
-                NumberParse::Refused(refusal) => OpParse::Refused(refusal),
-                NumberParse::Number {
-                    value: word,
-                    start: _,
-                    end,
-                } => OpParse::Op {
-                    op: Op::Send(recipient as u8, word as u16),
-                    end,
-                },
-            }
-        }
-    }
+    let recipient = take_number(text, 0, LAST_DOMAIN, at)?;
+    let word = take_number(text, 0, MOST_WORD, recipient.end)?;
+    Ok((
+        Op::Send(recipient.value as u8, word.value as u16),
+        word.end,
+    ))
 }
 
 // An op's word and its numbers.
-pub fn op_at(text: &[u8], at: usize) -> OpParse
+pub fn op_at(text: &[u8], at: usize) -> Result<(Op, usize), Refusal>
     ensures { result ≡ op_at text.now at }
 {
-    let keyword = op_keyword_at(text, at);
-    match keyword {
-        KeywordParse::First(end) => number_op(text, NumberOp::Read, 0, MOST_NUMBER, end),
-        KeywordParse::Second(end) => number_op(text, NumberOp::Write, 0, MOST_NUMBER, end),
-        KeywordParse::Third(end) => send_op(text, end),
-        KeywordParse::Fourth(end) => number_op(text, NumberOp::Receive, 0, LAST_DOMAIN, end),
-        KeywordParse::Fifth(end) => number_op(
-            text,
-            NumberOp::Compute,
-            LEAST_TICKS,
-            MOST_TICKS,
-            end,
-        ),
-        KeywordParse::Refused(refusal) => OpParse::Refused(refusal),
+    let (word, end) = op_keyword_at(text, at)?;
+    match word {
+        OpWord::Read => number_op(text, NumberOp::Read, 0, MOST_NUMBER, end),
+        OpWord::Write => number_op(text, NumberOp::Write, 0, MOST_NUMBER, end),
+        OpWord::Send => send_op(text, end),
+        OpWord::Receive => number_op(text, NumberOp::Receive, 0, LAST_DOMAIN, end),
+        OpWord::Compute => number_op(text, NumberOp::Compute, LEAST_TICKS, MOST_TICKS, end),
     }
 }

@@ -3,7 +3,7 @@ ghost use Rattle.std.specs.Prelude.{◌≡◌, ◌≤◌, length};
 ghost use Rattle.syntax.specs.Tokens.{is_word, pass_close, pass_line_end, pass_open, pass_word};
 ghost use Rattle.syntax.specs.Tokens.{same_bytes, take_number, word_at};
 
-use crate::{NumberParse, TokenParse, WordParse};
+use crate::{Numeral, Span};
 use lexer::runs::{number_from, word_from};
 use lexer::{Lookahead, Token, lookahead_at, lookahead_start};
 use refusal::Refusal;
@@ -34,92 +34,84 @@ pub fn is_word(text: &[u8], start: usize, end: usize, word: &[u8]) -> bool
 }
 
 // An opening bracket was due.
-pub fn pass_open(text: &[u8], at: usize) -> TokenParse
+pub fn pass_open(text: &[u8], at: usize) -> Result<usize, Refusal>
     ensures { result ≡ pass_open text.now at }
 {
     let next = lookahead_at(text, at);
     let Lookahead::Open(bracket) = next else {
-        return TokenParse::Refused(Refusal::BrokenShape(lookahead_start(next)));
+        return Err(Refusal::BrokenShape(lookahead_start(next)));
     };
-    TokenParse::To(bracket + 1)
+    Ok(bracket + 1)
 }
 
 // A closing bracket was due.
-pub fn pass_close(text: &[u8], at: usize) -> TokenParse
+pub fn pass_close(text: &[u8], at: usize) -> Result<usize, Refusal>
     ensures { result ≡ pass_close text.now at }
 {
     let next = lookahead_at(text, at);
     let Lookahead::Close(bracket) = next else {
-        return TokenParse::Refused(Refusal::BrokenShape(lookahead_start(next)));
+        return Err(Refusal::BrokenShape(lookahead_start(next)));
     };
-    TokenParse::To(bracket + 1)
+    Ok(bracket + 1)
 }
 
 // The line's end was due.
-pub fn pass_line_end(text: &[u8], at: usize) -> TokenParse
+pub fn pass_line_end(text: &[u8], at: usize) -> Result<usize, Refusal>
     ensures { result ≡ pass_line_end text.now at }
 {
     let next = lookahead_at(text, at);
     let Lookahead::LineEnd(end) = next else {
-        return TokenParse::Refused(Refusal::BrokenShape(lookahead_start(next)));
+        return Err(Refusal::BrokenShape(lookahead_start(next)));
     };
-    TokenParse::To(end)
+    Ok(end)
 }
 
 // A word was due.
-pub fn word_at(text: &[u8], at: usize) -> WordParse
+pub fn word_at(text: &[u8], at: usize) -> Result<Span, Refusal>
     ensures { result ≡ word_at text.now at }
 {
     let next = lookahead_at(text, at);
     let Lookahead::Run(first) = next else {
-        return WordParse::Refused(Refusal::BrokenShape(lookahead_start(next)));
+        return Err(Refusal::BrokenShape(lookahead_start(next)));
     };
-    let token = word_from(text, first);
-    let Token::Word { start, end } = token else {
-        return WordParse::Refused(Refusal::BrokenShape(first));
+    let Token::Word { start, end } = word_from(text, first) else {
+        return Err(Refusal::BrokenShape(first));
     };
-    WordParse::Word { start, end }
+    Ok(Span { start, end })
 }
 
 // This word was due.
-pub fn pass_word(text: &[u8], word: &[u8], at: usize) -> TokenParse
+pub fn pass_word(text: &[u8], word: &[u8], at: usize) -> Result<usize, Refusal>
     ensures { result ≡ pass_word text.now word.now at }
 {
-    let found = word_at(text, at);
-    match found {
-        WordParse::Refused(refusal) => TokenParse::Refused(refusal),
-        WordParse::Word { start, end } => {
-            if is_word(text, start, end, word) {
-                TokenParse::To(end)
-            } else {
-                TokenParse::Refused(Refusal::BrokenShape(start))
-            }
-        }
+    let found = word_at(text, at)?;
+    if !is_word(text, found.start, found.end, word) {
+        return Err(Refusal::BrokenShape(found.start));
     }
+    Ok(found.end)
 }
 
 // A number was due: one of too many digits is outside its limits, as a shorter one can be.
-pub fn take_number(text: &[u8], low: u32, high: u32, at: usize) -> NumberParse
+pub fn take_number(text: &[u8], low: u32, high: u32, at: usize) -> Result<Numeral, Refusal>
     ensures { result ≡ take_number text.now low high at }
 {
     let next = lookahead_at(text, at);
     let Lookahead::Run(first) = next else {
-        return NumberParse::Refused(Refusal::BrokenShape(lookahead_start(next)));
+        return Err(Refusal::BrokenShape(lookahead_start(next)));
     };
-    let token = number_from(text, first);
-    if let Token::LongNumber { start, end: _ } = token {
-        return NumberParse::Refused(Refusal::NumberOutOfLimits(start));
-    }
-    let Token::Number { start, end, value } = token else {
-        return NumberParse::Refused(Refusal::BrokenShape(first));
-    };
-    if (low as u64 <= value) & (value <= high as u64) {
-        NumberParse::Number {
-            value: value as u32,
-            start,
-            end,
+    match number_from(text, first) {
+        Token::Number { start, end, value } => {
+            if (low as u64 <= value) & (value <= high as u64) {
+                Ok(Numeral {
+                    value: value as u32,
+                    start,
+                    end,
+                })
+            } else {
+                Err(Refusal::NumberOutOfLimits(start))
+            }
         }
-    } else {
-        NumberParse::Refused(Refusal::NumberOutOfLimits(start))
+        Token::LongNumber { start, .. } => Err(Refusal::NumberOutOfLimits(start)),
+        _ => Err(Refusal::BrokenShape(first)),
     }
 }

@@ -13,7 +13,7 @@ unfolding bytes_of
 returns-then-is_word c =
     let long = c.if-letters-eq2.true in
     let other = other_length _ _ _ c.requires in
-    which_word _ _ _ _ _ _ _ _ false false false false true
+    which_word _ _ _ _ _ _ _ _ _ _ _ _ _ false false false false true
     (other _ (λ same. omega (arith, same, long)))
     (other _ (λ same. omega (arith, same, long)))
     (other _ (λ same. omega (arith, same, long)))
@@ -23,7 +23,7 @@ returns-then-is_word c =
 pub returns-then-is_word-2 : goal.returns-then-is_word-2
 unfolding bytes_of
 returns-then-is_word-2 c =
-    which_word _ _ _ _ _ _ _ _ true _ _ _ _
+    which_word _ _ _ _ _ _ _ _ _ _ _ _ _ true _ _ _ _
     (sym c.is_word-then-letters-eq3.ensures ∙ c.if-is_word-2.true)
     refl
     refl
@@ -33,7 +33,7 @@ returns-then-is_word-2 c =
 pub returns-then-is_word-3 : goal.returns-then-is_word-3
 unfolding bytes_of
 returns-then-is_word-3 c =
-    which_word _ _ _ _ _ _ _ _ false true _ _ _
+    which_word _ _ _ _ _ _ _ _ _ _ _ _ _ false true _ _ _
     (sym c.is_word-then-letters-eq3.ensures
     ∙ c.if-is_word-2.false)
     (sym c.is_word-then-letters-eq3-2.ensures ∙ c.if-is_word-3.true)
@@ -48,7 +48,7 @@ returns-then-is_word-4 c =
     let other =
     other_length _ _ _
     c.requires in
-    which_word _ _ _ _ _ _ _ _ false false true _ _
+    which_word _ _ _ _ _ _ _ _ _ _ _ _ _ false false true _ _
     (other _ (λ same. omega (arith, same, long)))
     (other _ (λ same. omega (arith, same, long)))
     (sym c.is_word-then-letters-eq6.ensures ∙ c.if-is_word-4.true)
@@ -62,7 +62,7 @@ returns-then-is_word-5 c =
     let other =
     other_length _ _ _
     c.requires in
-    which_word _ _ _ _ _ _ _ _ false false false true _
+    which_word _ _ _ _ _ _ _ _ _ _ _ _ _ false false false true _
     (other _ (λ same. omega (arith, same, long)))
     (other _ (λ same. omega (arith, same, long)))
     (sym c.is_word-then-letters-eq6.ensures
@@ -77,7 +77,7 @@ returns-else-is_word-5 c =
     let other =
     other_length _ _ _
     c.requires in
-    which_word _ _ _ _ _ _ _ _ false false false false false
+    which_word _ _ _ _ _ _ _ _ _ _ _ _ _ false false false false false
     (other _ (λ same. omega (arith, same, long)))
     (other _ (λ same. omega (arith, same, long)))
     (sym c.is_word-then-letters-eq6.ensures
@@ -91,7 +91,7 @@ unfolding bytes_of
 returns-else-letters-eq6 c =
     let other =
     other_length _ _ _ c.requires in
-    which_word _ _ _ _ _ _ _ _ false false false false false
+    which_word _ _ _ _ _ _ _ _ _ _ _ _ _ false false false false false
     (elim c.if-letters-eq3.branch [
       | then-letters-eq3+else-is_word-2+else-is_word-3 w ↦ sym w.is_word-then-letters-eq3.ensures ∙ w.if-is_word-2.false
       | else-letters-eq3 w ↦ other _ w.if-letters-eq3.false

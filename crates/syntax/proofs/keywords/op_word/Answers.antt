@@ -11,7 +11,7 @@ use Rattle.syntax.proofs.keywords.op_word.Goals.{then-letters-eq4+else-is_word+e
 pub returns-then-is_word : goal.returns-then-is_word
 unfolding bytes_of
 returns-then-is_word c =
-    which_word _ _ _ _ _ _ _ _ true _ _ _ _
+    which_word _ _ _ _ _ _ _ _ _ _ _ _ _ true _ _ _ _
     (sym c.is_word.ensures ∙ c.if-is_word.true)
     refl
     refl
@@ -25,7 +25,7 @@ returns-then-is_word-2 c =
     let other =
     other_length _ _ _
     c.requires in
-    which_word _ _ _ _ _ _ _ _ false false true _ _
+    which_word _ _ _ _ _ _ _ _ _ _ _ _ _ false false true _ _
     (sym c.is_word.ensures
     ∙ c.if-is_word.false)
     (other _ (λ same. omega (arith, same, long)))
@@ -40,7 +40,7 @@ returns-then-is_word-3 c =
     let other =
     other_length _ _ _ c.requires
     in
-    which_word _ _ _ _ _ _ _ _ false true _ _ _
+    which_word _ _ _ _ _ _ _ _ _ _ _ _ _ false true _ _ _
     (other _ (λ same. omega (arith, same, long)))
     (sym c.is_word-then-letters-eq5.ensures ∙ c.if-is_word-3.true)
     refl
@@ -54,7 +54,7 @@ returns-then-is_word-4 c =
     let other =
     other_length _ _ _
     c.requires in
-    which_word _ _ _ _ _ _ _ _ false false false true _
+    which_word _ _ _ _ _ _ _ _ _ _ _ _ _ false false false true _
     (other _ (λ same. omega (arith, same, long)))
     (other _ (λ same. omega (arith, same, long)))
     (other _ (λ same. omega (arith, same, long)))
@@ -68,7 +68,7 @@ returns-then-is_word-5 c =
     let other =
     other_length _ _ _
     c.requires in
-    which_word _ _ _ _ _ _ _ _ false false false false true
+    which_word _ _ _ _ _ _ _ _ _ _ _ _ _ false false false false true
     (other _ (λ same. omega (arith, same, long)))
     (other _ (λ same. omega (arith, same, long)))
     (other _ (λ same. omega (arith, same, long)))
@@ -83,7 +83,7 @@ returns-else-is_word-5 c =
     let other =
     other_length _ _ _
     c.requires in
-    which_word _ _ _ _ _ _ _ _ false false false false false
+    which_word _ _ _ _ _ _ _ _ _ _ _ _ _ false false false false false
     (other _ (λ same. omega (arith, same, long)))
     (other _ (λ same. omega (arith, same, long)))
     (other _ (λ same. omega (arith, same, long)))
@@ -97,7 +97,7 @@ unfolding bytes_of
 returns-else-letters-eq7 c =
     let other =
     other_length _ _ _ c.requires in
-    which_word _ _ _ _ _ _ _ _ false false false false false
+    which_word _ _ _ _ _ _ _ _ _ _ _ _ _ false false false false false
     (elim c.if-letters-eq4.branch [
       | then-letters-eq4+else-is_word+else-is_word-2 w ↦ sym w.is_word.ensures ∙ w.if-is_word.false
       | else-letters-eq4 w ↦ other _ w.if-letters-eq4.false

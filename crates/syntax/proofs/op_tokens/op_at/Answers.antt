@@ -1,47 +1,65 @@
 -- `syntax::op_tokens::op_at` meets its contract. Assumes nothing.
-use mathlib.Core.Path.{refl}
+use mathlib.Core.Path.{refl, ap, ◌∙◌}
+use Rattle.std.specs.Prelude.{ℕ, List, Result, Ok, Err}
 use Rattle.lists.specs.Ascii.{bytes_of}
+use Rattle.refusal.specs.declared.Refusal.{Refusal}
+use Rattle.script.specs.declared.Op.{Op}
+use Rattle.script.specs.declared.Op.TheVariants.{Read as ReadOp, Write as WriteOp, Receive as ReceiveOp, Compute as ComputeOp}
+use Rattle.script.specs.Limits.{last_domain, least_ticks, most_number, most_ticks}
+use Rattle.std.proofs.lemmas.Result.{err_from_is_err_and}
 use Rattle.syntax.proofs.ByKeyword.{by_keyword}
-use Rattle.syntax.specs.Ops.{op_at, op_keywords}
+use Rattle.syntax.specs.declared.OpWord.{OpWord}
+use Rattle.syntax.specs.declared.OpWord.TheVariants.{Read, Write, Send, Receive, Compute}
+use Rattle.syntax.specs.Keywords.{op_words}
+use Rattle.syntax.specs.Ops.{number_op, op_at, op_keywords, send_op}
 use Rattle.syntax.proofs.op_tokens.op_at.Goals as goal
 
-pub returns-in-First : goal.returns-in-First
+-- what follows an op's word
+abbrev op_follow : List ℕ → OpWord → ℕ → Result (Op × ℕ) Refusal
+op_follow text Read = number_op text 0 most_number ReadOp
+op_follow text Write = number_op text 0 most_number WriteOp
+op_follow text Send = send_op text
+op_follow text Receive = number_op text 0 last_domain ReceiveOp
+op_follow text Compute = number_op text least_ticks most_ticks ComputeOp
+
+pub returns-in_err-word : goal.returns-in_err-word
 unfolding op_at op_keywords bytes_of
-returns-in-First c =
-    by_keyword _ _ _ _ _ _ _ _ c.op_keyword_at-keyword.ensures
-    c.in-First.is
+returns-in_err-word c =
+    let told = err_from_is_err_and c.from_residual.result c.from_residual.ensures.1 in
+    rw (told.1, told.2)
+    (by_keyword Err (op_follow c.args.text.now) op_words _ _ c.op_keyword_at.ensures c.in_err-word.was refl)
+
+pub returns-in-Read : goal.returns-in-Read
+unfolding op_at op_keywords bytes_of
+returns-in-Read c =
+    by_keyword Err (op_follow c.args.text.now) op_words _ _ c.op_keyword_at.ensures
+    (c.in_ok-word.was ∙ ap (λ (word : OpWord). Ok (word, c.in_ok-word.end)) c.in-Read.is)
     c.number_op.ensures
 
-pub returns-in-Second : goal.returns-in-Second
+pub returns-in-Write : goal.returns-in-Write
 unfolding op_at op_keywords bytes_of
-returns-in-Second c =
-    by_keyword _ _ _ _ _ _ _ _ c.op_keyword_at-keyword.ensures
-    c.in-Second.is
-    c.number_op-in-Second.ensures
+returns-in-Write c =
+    by_keyword Err (op_follow c.args.text.now) op_words _ _ c.op_keyword_at.ensures
+    (c.in_ok-word.was ∙ ap (λ (word : OpWord). Ok (word, c.in_ok-word.end)) c.in-Write.is)
+    c.number_op-in-Write.ensures
 
-pub returns-in-Third : goal.returns-in-Third
+pub returns-in-Send : goal.returns-in-Send
 unfolding op_at op_keywords bytes_of
-returns-in-Third c =
-    by_keyword _ _ _ _ _ _ _ _ c.op_keyword_at-keyword.ensures
-    c.in-Third.is
+returns-in-Send c =
+    by_keyword Err (op_follow c.args.text.now) op_words _ _ c.op_keyword_at.ensures
+    (c.in_ok-word.was ∙ ap (λ (word : OpWord). Ok (word, c.in_ok-word.end)) c.in-Send.is)
     c.send_op.ensures
 
-pub returns-in-Fourth : goal.returns-in-Fourth
+pub returns-in-Receive : goal.returns-in-Receive
 unfolding op_at op_keywords bytes_of
-returns-in-Fourth c =
-    by_keyword _ _ _ _ _ _ _ _ c.op_keyword_at-keyword.ensures
-    c.in-Fourth.is
-    c.number_op-in-Fourth.ensures
+returns-in-Receive c =
+    by_keyword Err (op_follow c.args.text.now) op_words _ _ c.op_keyword_at.ensures
+    (c.in_ok-word.was ∙ ap (λ (word : OpWord). Ok (word, c.in_ok-word.end)) c.in-Receive.is)
+    c.number_op-in-Receive.ensures
 
-pub returns-in-Fifth : goal.returns-in-Fifth
+pub returns-in-Compute : goal.returns-in-Compute
 unfolding op_at op_keywords bytes_of
-returns-in-Fifth c =
-    by_keyword _ _ _ _ _ _ _ _ c.op_keyword_at-keyword.ensures
-    c.in-Fifth.is
-    c.number_op-in-Fifth.ensures
-
-pub returns-in-Refused : goal.returns-in-Refused
-unfolding op_at op_keywords bytes_of
-returns-in-Refused c =
-    by_keyword _ _ _ _ _ _ _ _ c.op_keyword_at-keyword.ensures
-    c.in-Refused.is refl
+returns-in-Compute c =
+    by_keyword Err (op_follow c.args.text.now) op_words _ _ c.op_keyword_at.ensures
+    (c.in_ok-word.was ∙ ap (λ (word : OpWord). Ok (word, c.in_ok-word.end)) c.in-Compute.is)
+    c.number_op-in-Compute.ensures

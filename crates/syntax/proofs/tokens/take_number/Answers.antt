@@ -24,16 +24,16 @@ returns-in-LongNumber c =
     (number_next _ _
     c.lookahead_at-next.ensures
     c.in-Run.is
-    c.number_from-token.ensures)
+    c.number_from.ensures)
     (simp c.in-LongNumber.is)
 
-pub returns-in_default-token-2 : goal.returns-in_default-token-2
-returns-in_default-token-2 c =
-    let read = c.number_from-token.ensures in
+pub returns-in_default-number_from : goal.returns-in_default-number_from
+returns-in_default-number_from c =
+    let read = c.number_from.ensures in
     number_taken _ _ _ _
     (number_next _ _ c.lookahead_at-next.ensures
     c.in-Run.is read)
-    (simp (no_long_number _ c.in_default-token.not-LongNumber, no_number _ c.in_default-token-2.not-Number, ← (number_start _ _ read)))
+    (simp (no_long_number _ c.in_default-number_from.not-LongNumber, no_number _ c.in_default-number_from.not-Number, ← (number_start _ _ read)))
 
 pub overflow_cast-result : goal.overflow_cast-result
 overflow_cast-result c =
@@ -51,7 +51,7 @@ returns-then-low-value c =
     (number_next _ _
     c.lookahead_at-next.ensures
     c.in-Run.is
-    c.number_from-token.ensures)
+    c.number_from.ensures)
     (simp (c.in-Number.is, c.if-low-value.true))
 
 pub returns-else-low-value : goal.returns-else-low-value
@@ -60,5 +60,5 @@ returns-else-low-value c =
     (number_next _ _
     c.lookahead_at-next.ensures
     c.in-Run.is
-    c.number_from-token.ensures)
+    c.number_from.ensures)
     (simp (c.in-Number.is, c.if-low-value.false))

@@ -13,13 +13,13 @@ returns-in_default c =
       ← (start_next _ _ c.lookahead_at-next.ensures c.lookahead_start.ensures),
     )
 
-pub returns-in_default-token : goal.returns-in_default-token
+pub returns-in_default-word_from : goal.returns-in_default-word_from
 unfolding word_at
-returns-in_default-token c =
+returns-in_default-word_from c =
     let asked = c.lookahead_at-next.ensures in
     let known = c.in-Run.is in
     simp (
-      no_word_known _ _ asked known c.word_from-token.ensures c.in_default-token.not-Word,
+      no_word_known _ _ asked known c.word_from.ensures c.in_default-word_from.not-Word,
       ← (start_next _ _ asked (sym (ap lookahead_start known))),
     )
 
@@ -29,4 +29,4 @@ returns c =
     simp (word_known _ _
     c.lookahead_at-next.ensures
     c.in-Run.is
-    c.word_from-token.ensures c.in-Word.is)
+    c.word_from.ensures c.in-Word.is)
