@@ -1,20 +1,25 @@
--- Counting the numbers of a list that pass a test, one after the other from its front. Assumes nothing.
-use Prim.Native.Nat.{ℕ, ◌+◌, ◌<◌, ◌≤◌}
-use mathlib.Core.Path.{◌≡◌, refl}
-use mathlib.Core.Bool.{Bool, true, false, cond}
-use mir.Val.{bool_byte as from_bool}
+-- Counting the numbers of a part that pass a test, one after the other from its front. Assumes nothing.
+use Prim.Native.Nat.{ℕ, suc, ◌+◌, ◌<◌}
+use mathlib.Core.Path.{◌≡◌, refl, ap, ◌∙◌}
+use mathlib.Core.Bool.{Bool, cond}
 use mathlib.Core.List.{List, [], ◌∷◌, ◌++◌}
 use native.Mathlib.Numerals.{add-one}
 use native.Mathlib.Omega.{arith}
-use lib.ListN.{get_or, length, take, length-take}
-use lib.Seq.{take-suc}
+use lib.ListN.{drop, get_or, length, take, length-drop}
+use lib.Seq.{get_or-drop, take-suc}
+use Rattle.lists.specs.Part.{part}
 use Rattle.cache.specs.Flush.{count_where}
 
--- a choice between two numbers is within a limit that both keep
-pub choice_limit : (test : Bool) (first second limit : ℕ) → first ≤ limit → second ≤ limit
-    → cond test first second ≤ limit
-choice_limit true first second limit low high = low
-choice_limit false first second limit low high = high
+-- a part that is one number longer has that number last
+part_last :
+    (first count : ℕ) (table : List ℕ)
+    → first + count < length table
+    → part first (suc count) table ≡ part first count table ++ (get_or table (first + count) 0 ∷ [])
+unfolding part
+part_last first count table within =
+    let below : count < length (drop first table) = simp length-drop (omega arith) in
+    take-suc (drop first table) count 0 below
+    ∙ ap (λ (last : ℕ). take count (drop first table) ++ (last ∷ [])) (get_or-drop first table count 0)
 
 module _ (test : ℕ → Bool) where
   -- a number behind others is counted after them
@@ -26,30 +31,16 @@ module _ (test : ℕ → Bool) where
   count_last (first ∷ rest) entry = omega (arith, count_last rest entry)
 
   -- before the first number
-  pub count_none : 0 ≡ count_where test []
-  unfolding count_where
-  count_none = refl
+  pub count_none : (at : ℕ) (table : List ℕ) → 0 ≡ count_where test (part at 0 table)
+  unfolding count_where part
+  count_none at table = refl
 
-  -- one number more, by the number that its test is cast to
+  -- one number more
   pub count_more :
-      (walked : ℕ) (entries : List ℕ)
-      → walked < length entries
-      → count_where test (take walked entries) + from_bool (test (get_or entries walked 0))
-      ≡ count_where test (take (walked + 1) entries)
-  count_more walked entries within =
-      rw (add-one walked, take-suc entries walked 0 within, count_last, one (test (get_or entries walked 0)))
-    where
-      one : (passes : Bool) → from_bool passes ≡ cond passes 1 0
-      one true = refl
-      one false = refl
-
-  -- a test counts at most every number
-  pub count_limit : (entries : List ℕ) → count_where test entries ≤ length entries
-  unfolding count_where
-  count_limit [] = omega arith
-  count_limit (entry ∷ rest) =
-      omega (arith, choice_limit (test entry) 1 0 1 (omega arith) (omega arith), count_limit rest)
-
-  -- and of those walked over no more than were walked
-  pub count_walked : (walked : ℕ) (entries : List ℕ) → count_where test (take walked entries) ≤ walked
-  count_walked walked entries = omega (arith, count_limit (take walked entries), length-take walked entries)
+      (at walked count one : ℕ) (table : List ℕ)
+      → at + walked < length table
+      → count ≡ count_where test (part at walked table)
+      → one ≡ cond (test (get_or table (at + walked) 0)) 1 0
+      → count + one ≡ count_where test (part at (walked + 1) table)
+  count_more at walked count one table within so_far is =
+      rw (add-one walked, part_last at walked table within, count_last, so_far, is)

@@ -2,9 +2,10 @@
 use Prim.Native.Nat.{ℕ, ◌+◌, ◌*◌, ◌≤◌}
 use mathlib.Core.Path.{◌≡◌, refl}
 use mathlib.Core.Bool.{Bool, true, false, cond}
-use mathlib.Core.List.{List}
+use mathlib.Core.List.{List, [], ◌∷◌}
 use native.Mathlib.Nat.{le_trans}
 use native.Mathlib.Omega.{arith}
+use lib.ListN.{length}
 use Rattle.lists.specs.Part.{part}
 use Rattle.lists.proofs.Parts.{part_limit}
 use Rattle.cache.specs.Lines.{clean_entry, holds_line, l1_length, is_dirty, is_valid, kernel_entries, kernel_index}
@@ -14,7 +15,12 @@ use Rattle.cache.specs.Access.{write_back_at, written_back}
 use Rattle.cache.specs.declared.WriteBack.{WriteBack}
 use Rattle.cache.specs.Flush.{count_where, dirty_lines, dirty_line_ticks, flush_ticks, kernel_flushed, kernel_flush_ticks}
 use Rattle.cache.specs.Flush.{l1_flush_ticks, valid_lines}
-use Rattle.cache.proofs.Counts.{choice_limit, count_limit}
+
+-- a choice between two numbers is within a limit that both keep
+choice_limit : (test : Bool) (first second limit : ℕ) → first ≤ limit → second ≤ limit
+    → cond test first second ≤ limit
+choice_limit true first second limit low high = low
+choice_limit false first second limit low high = high
 
 -- the dearest access misses, and replaces a dirty line
 abbrev pub most_access_ticks : ℕ
@@ -67,6 +73,13 @@ look_takes writes line entry ways = go (holds_line entry line)
 pub access_takes : (writes : Bool) (line : ℕ) (table : List ℕ) → 1 ≤ (access_of writes line table).ticks
 unfolding access_of seek_of lookup_at
 access_takes writes line table = look_takes writes line _ _
+
+-- a test counts at most every number
+count_limit : (test : ℕ → Bool) (entries : List ℕ) → count_where test entries ≤ length entries
+unfolding count_where
+count_limit test [] = omega arith
+count_limit test (entry ∷ rest) =
+    omega (arith, choice_limit (test entry) 1 0 1 (omega arith) (omega arith), count_limit test rest)
 
 -- a test counts at most as many numbers as a part is asked for
 pub count_part_limit : (test : ℕ → Bool) (first count : ℕ) (table : List ℕ)

@@ -2,21 +2,22 @@
 use Prim.Native.Nat.{ℕ, ◌-◌}
 use mathlib.Core.Path.{◌≡◌, ap, ◌∙◌}
 use native.Mathlib.Omega.{arith}
-use lib.ListN.{drop, length, replicate}
+use lib.ListN.{length, replicate}
 use Rattle.lists.specs.Part.{part, splice}
 use Rattle.cache.specs.Flush.{kernel_flushed, kernel_flush_ticks, valid_lines}
 use Rattle.cache.specs.Lines.{is_valid, kernel_entries, kernel_index}
-use Rattle.cache.proofs.Counts.{count_walked}
+use Rattle.cache.proofs.Ticks.{count_part_limit}
 use Rattle.cache.proofs.Emptied.{emptied_part}
 use Rattle.cache.proofs.flush.flush_kernel.Goals as goal
 
 pub overflow_add-result : goal.overflow_add-result
+unfolding part
 overflow_add-result c =
     let table = c.args.table.now in
     omega (
       arith,
       c.count_over-valid.ensures,
-      count_walked is_valid (length table - kernel_index) (drop kernel_index table),
+      count_part_limit is_valid kernel_index (length table - kernel_index) table,
     )
 
 pub returns : goal.returns
