@@ -1,53 +1,24 @@
 // The two flushes of a switch: the kernel's sets, and L1. Each counts what it empties, since that
 // is what its ticks depend on. And a line that is emptied without cost.
-ghost use Rattle.std.specs.Prelude.{◌≡◌, ◌+◌, ◌≤◌, length, replicate};
-ghost use Rattle.lists.specs.Part.{part};
-ghost use Rattle.cache.specs.Lines.{is_dirty, is_valid, kernel_entries, l1_length, table_length};
+ghost use Rattle.std.specs.Prelude.{◌≡◌, length, ltb};
+ghost use Rattle.cache.specs.Lines.{table_length};
 ghost use Rattle.cache.specs.Flush.{count_where, kernel_flushed, kernel_flush_ticks, l1_flushed};
 ghost use Rattle.cache.specs.Flush.{l1_flush_ticks, line_emptied};
 
-use crate::choose_number;
 use crate::limits::{
     DIRTY_LINE_TICKS, DIRTY_MARK, FLUSH_TICKS, KERNEL_INDEX, L1_LENGTH, SET_COUNT, WAYS_PER_SET,
 };
 
-// The dirty lines among `left` numbers from an index on.
-fn count_dirty(numbers: &[u16], at: usize, left: usize) -> u64
-    requires { (length numbers.now ≡ l1_length) × (at + left ≤ l1_length) }
-    ensures { result ≡ count_where is_dirty (part at left numbers.now) }
+// How many numbers are over a mark: over the dirty mark those of dirty lines, and over 0 those of
+// valid ones.
+fn count_over(mark: u16, numbers: &[u16]) -> u64
+    ensures { result ≡ count_where (ltb mark) numbers.now }
 {
-    let mut dirty = 0;
-    let mut i = 0;
-    while i < left {
-        dirty += choose_number(DIRTY_MARK < numbers[at + i], 1, 0);
-        i += 1;
+    let mut over = 0;
+    for &number in numbers {
+        over += u64::from(mark < number);
     }
-    dirty
-}
-
-// The valid lines among `left` numbers from an index on.
-fn count_valid(numbers: &[u16], at: usize, left: usize) -> u64
-    requires { (length numbers.now ≡ kernel_entries) × (at + left ≤ kernel_entries) }
-    ensures { result ≡ count_where is_valid (part at left numbers.now) }
-{
-    let mut valid = 0;
-    let mut i = 0;
-    while i < left {
-        valid += choose_number(0 < numbers[at + i], 1, 0);
-        i += 1;
-    }
-    valid
-}
-
-// Empties every number of a part.
-pub fn empty(entries: &mut [u16])
-    ensures { entries.new ≡ replicate (length entries.old) 0 }
-{
-    let mut i = 0;
-    while i < entries.len() {
-        entries[i] = 0;
-        i += 1;
-    }
+    over
 }
 
 // Empties the kernel's sets, the last of the table, and answers the ticks that it takes. They end
@@ -60,8 +31,8 @@ pub fn flush_kernel(table: &mut [u16]) -> u64
 {
     let from = KERNEL_INDEX;
     let to = table.len();
-    let valid = count_valid(&table[from..to], 0, to - from);
-    empty(&mut table[from..to]);
+    let valid = count_over(0, &table[from..to]);
+    table[from..to].fill(0);
     FLUSH_TICKS + valid
 }
 
@@ -72,10 +43,8 @@ pub fn flush_l1(table: &mut [u16]) -> u64
     ensures { (result ≡ l1_flush_ticks table.old)
         × (table.new ≡ l1_flushed table.old) }
 {
-    let from = 0;
-    let to = L1_LENGTH;
-    let dirty = count_dirty(&table[from..to], 0, L1_LENGTH);
-    empty(&mut table[from..to]);
+    let dirty = count_over(DIRTY_MARK, &table[..L1_LENGTH]);
+    table[..L1_LENGTH].fill(0);
     FLUSH_TICKS + DIRTY_LINE_TICKS * dirty
 }
 

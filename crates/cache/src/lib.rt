@@ -6,7 +6,7 @@ pub mod flush;
 pub mod limits;
 mod sets;
 
-ghost use Rattle.std.specs.Prelude.{◌≡◌, cond, ℕ, ◌≤◌, ◌<◌, length};
+ghost use Rattle.std.specs.Prelude.{◌≡◌, ℕ, ◌≤◌, ◌<◌, length};
 ghost use Rattle.lists.specs.Part.{part};
 ghost use Rattle.cache.specs.Access.{access_of, line_used, write_back_of, written_back};
 ghost use Rattle.cache.specs.Lines.{clean_entry, dirty_mark, most_line, set_index, set_of};
@@ -32,20 +32,6 @@ pub struct AccessResult {
     pub found: AccessKind,
     pub ticks: u64,
     pub back: Option<u16>,
-}
-
-// One of two entries, by a test.
-fn choose_entry(test: bool, first: u16, second: u16) -> u16
-    ensures { result ≡ cond test first second }
-{
-    if test { first } else { second }
-}
-
-// One of two numbers, by a test.
-fn choose_number(test: bool, first: u64, second: u64) -> u64
-    ensures { result ≡ cond test first second }
-{
-    if test { first } else { second }
 }
 
 // Makes a line the most recent of its set, whose ways are lent on to be rewritten. Answers whether
@@ -114,7 +100,7 @@ pub fn access(table: &mut [u16], line: u16, writes: bool) -> AccessResult
     let index = line as usize % L1_LENGTH;
     let held = table[index];
     if (held == clean) | (held == dirty) {
-        table[index] = choose_entry(writes, dirty, held);
+        table[index] = if writes { dirty } else { held };
         return AccessResult {
             found: AccessKind::Hit1,
             ticks: HIT1_TICKS,
@@ -123,8 +109,8 @@ pub fn access(table: &mut [u16], line: u16, writes: bool) -> AccessResult
     }
     let back = put_out(held);
     let known = seek(table, back, line);
-    table[index] = choose_entry(writes, dirty, clean);
-    let replaced = choose_number(DIRTY_MARK < held, DIRTY_TICKS, 0);
+    table[index] = if writes { dirty } else { clean };
+    let replaced = if DIRTY_MARK < held { DIRTY_TICKS } else { 0 };
     if known {
         AccessResult {
             found: AccessKind::Hit2,

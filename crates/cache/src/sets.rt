@@ -10,15 +10,13 @@ pub fn move_to_front(set: &mut [u16], entry: u16) -> bool
         × (set.new ≡ move_to_front entry set.old) }
 {
     let mut carry = entry;
-    let mut way = 0;
-    while way < set.len() {
-        let held = set[way];
-        set[way] = carry;
+    for way in set.iter_mut() {
+        let held = *way;
+        *way = carry;
         if held == entry {
             return true;
         }
         carry = held;
-        way += 1;
     }
     false
 }

@@ -1,25 +1,13 @@
 // A fresh start: the state, the cache table and the boxes zeroed.
-ghost use Rattle.std.specs.Prelude.{◌≡◌, length, replicate};
+ghost use Rattle.std.specs.Prelude.{◌≡◌};
 ghost use Rattle.engine.specs.Answers.{fresh_with};
 ghost use Rattle.engine.specs.FreshStart.{fresh_start_of};
 
 use crate::FreshResult;
 use crate::checks::check_fresh;
-use cache::flush::empty;
 use plan::Plan;
 use refusal::Verdict;
 use state::{State, fresh_state};
-
-// Empties every box.
-fn clear_boxes(boxes: &mut [u32])
-    ensures { boxes.new ≡ replicate (length boxes.old) 0 }
-{
-    let mut i = 0;
-    while i < boxes.len() {
-        boxes[i] = 0;
-        i += 1;
-    }
-}
 
 // A fresh start, or a refusal that changes nothing.
 pub fn fresh_start(plan: Plan, state: State, cache: &mut [u16], boxes: &mut [u32]) -> FreshResult
@@ -33,8 +21,8 @@ pub fn fresh_start(plan: Plan, state: State, cache: &mut [u16], boxes: &mut [u32
             state,
         },
         Verdict::Accepted => {
-            empty(cache);
-            clear_boxes(boxes);
+            cache.fill(0);
+            boxes.fill(0);
             FreshResult {
                 verdict: Verdict::Accepted,
                 state: fresh_state(),

@@ -1,5 +1,5 @@
 -- Laws on how many indices below a number pass a test, and on sums beside it. Assumes nothing.
-use Prim.Native.Nat.{ℕ, zero, suc, ◌+◌, ◌-◌, ◌≤◌, ◌<◌, zero-le}
+use Prim.Native.Nat.{ℕ, zero, suc, ◌+◌, ◌≤◌, ◌<◌, zero-le}
 use mathlib.Core.Bool.{Bool, true, false, cond}
 use mathlib.Core.Path.{◌≡◌, refl, ap, ◌∙◌}
 use native.Mathlib.Nat.{not-suc-le-zero}
@@ -123,32 +123,6 @@ pub sum_and_count :
 unfolding sum_to count_below
 sum_and_count f test zero = refl
 sum_and_count f test (suc count) = let before = sum_and_count f test count in omega arith
-
--- ---- what is left of a number while the terms of a sum are taken from it
-
-none_taken : (f : ℕ → ℕ) → sum_to f 0 ≡ 0
-unfolding sum_to
-none_taken f = refl
-
-pub none_passed : (f : ℕ → ℕ) (whole : ℕ) → whole + sum_to f 0 ≡ whole
-none_passed f whole = let none = none_taken f in omega arith
-
-module _ (f : ℕ → ℕ) (left index count whole : ℕ) (so_far : left + sum_to f index ≡ whole) where
-  next_term : sum_to f index + f index ≡ sum_to f (index + 1)
-  next_term = sum_more f (sum_to f index) index refl
-
-  pub still_there : sum_to f count ≤ whole → index < count → f index ≤ left
-  still_there fits below =
-      let next = next_term in let within = sum_mono f (index + 1) count (omega arith) in omega arith
-
-  pub one_passed :
-      sum_to f count ≤ whole
-      → index < count
-      → left - f index + sum_to f (index + 1) ≡ whole
-  one_passed fits below = let next = next_term in let enough = still_there fits below in omega arith
-
-  pub all_passed : index ≡ count → left ≡ whole - sum_to f count
-  all_passed ended = let last : sum_to f index ≡ sum_to f count = ap (sum_to f) ended in omega arith
 
 -- ---- an array of eight that is filled by a rule
 

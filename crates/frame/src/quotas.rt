@@ -1,5 +1,5 @@
 // How many windows each domain gets.
-ghost use Rattle.std.specs.Prelude.{◌≡◌, cond, true, ℕ, ◌-◌, ◌<◌, ◌≤◌};
+ghost use Rattle.std.specs.Prelude.{◌≡◌, true, ℕ, ◌-◌, ◌<◌, ◌≤◌};
 ghost use Rattle.plan.specs.Limits.{most_domains};
 ghost use Rattle.plan.specs.Sums.{sum_to};
 ghost use Rattle.frame.specs.Frame.{inputs_valid, weights_within};
@@ -20,13 +20,7 @@ pub fn total_weight(weights: [u32; DOMAIN_ENTRIES]) -> u32
     requires { weights_within weights ≡ true }
     ensures { result ≡ total_weight weights }
 {
-    let mut total: u32 = 0;
-    let mut domain: usize = 0;
-    while domain < DOMAIN_ENTRIES {
-        total += weights[domain];
-        domain += 1;
-    }
-    total
+    weights.iter().sum()
 }
 
 // Every domain's quota of `count` windows.
@@ -39,12 +33,10 @@ fn quotas_of(count: u32, weights: [u32; DOMAIN_ENTRIES]) -> Quotas
     let total = total_weight(weights);
     let mut wholes = [0u32; DOMAIN_ENTRIES];
     let mut remainders = [0u32; DOMAIN_ENTRIES];
-    let mut domain: usize = 0;
-    while domain < DOMAIN_ENTRIES {
+    for domain in 0..DOMAIN_ENTRIES {
         let parts = count * weights[domain];
         wholes[domain] = parts / total;
         remainders[domain] = parts % total;
-        domain += 1;
     }
     Quotas { wholes, remainders }
 }
@@ -54,13 +46,8 @@ fn leftover_of(count: u32, wholes: [u32; DOMAIN_ENTRIES]) -> u32
     requires { sum_to (entry_of wholes) most_domains ≤ count }
     ensures { result ≡ count - sum_to (entry_of wholes) most_domains }
 {
-    let mut left = count;
-    let mut domain: usize = 0;
-    while domain < DOMAIN_ENTRIES {
-        left -= wholes[domain];
-        domain += 1;
-    }
-    left
+    let given: u32 = wholes.iter().sum();
+    count - given
 }
 
 // Whether another domain is ahead of a domain when leftover windows are given out, by its remainder
@@ -79,20 +66,10 @@ fn ahead_of(remainders: [u32; DOMAIN_ENTRIES], domain: usize) -> u32
 {
     let own = remainders[domain];
     let mut ahead: u32 = 0;
-    let mut other: usize = 0;
-    while other < DOMAIN_ENTRIES {
-        let its = remainders[other];
-        ahead += number_of(is_ahead(other, its, domain, own));
-        other += 1;
+    for other in 0..DOMAIN_ENTRIES {
+        ahead += u32::from(is_ahead(other, remainders[other], domain, own));
     }
     ahead
-}
-
-// 1 for true, 0 for false.
-fn number_of(test: bool) -> u32
-    ensures { result ≡ cond test 1 0 }
-{
-    if test { 1 } else { 0 }
 }
 
 // The number of windows that each domain gets: its whole part, and one more where fewer domains are
@@ -103,15 +80,11 @@ pub fn windows_of(count: u32, weights: [u32; DOMAIN_ENTRIES]) -> [u32; DOMAIN_EN
         → entry_of result domain ≡ window_count count weights domain }
 {
     let quotas = quotas_of(count, weights);
-    let wholes = quotas.wholes;
-    let remainders = quotas.remainders;
-    let left = leftover_of(count, wholes);
+    let left = leftover_of(count, quotas.wholes);
     let mut windows = [0u32; DOMAIN_ENTRIES];
-    let mut domain: usize = 0;
-    while domain < DOMAIN_ENTRIES {
-        let ahead = ahead_of(remainders, domain);
-        windows[domain] = wholes[domain] + number_of(ahead < left);
-        domain += 1;
+    for domain in 0..DOMAIN_ENTRIES {
+        let ahead = ahead_of(quotas.remainders, domain);
+        windows[domain] = quotas.wholes[domain] + u32::from(ahead < left);
     }
     windows
 }

@@ -21,13 +21,11 @@ fn lay_turn(
         (turn_windows (entry_of windows.now) turn most_domains)) }
 {
     let mut next = first;
-    let mut domain: usize = 0;
-    while domain < DOMAIN_ENTRIES {
+    for domain in 0..DOMAIN_ENTRIES {
         if turn < windows[domain] {
             frame[next] = domain as u32;
             next += 1;
         }
-        domain += 1;
     }
     next
 }
@@ -39,10 +37,8 @@ pub fn lay_turns(windows: [u32; DOMAIN_ENTRIES], turns: u32) -> [u32; WINDOW_ENT
 {
     let mut frame = [0u32; WINDOW_ENTRIES];
     let mut next: usize = 0;
-    let mut turn: u32 = 0;
-    while turn < turns {
+    for turn in 0..turns {
         next = lay_turn(&mut frame, next, &windows, turn);
-        turn += 1;
     }
     frame
 }

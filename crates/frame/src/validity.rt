@@ -11,14 +11,7 @@ use plan::limits::{DOMAIN_ENTRIES, LEAST_WINDOWS, MOST_WINDOWS};
 fn weights_within(weights: [u32; DOMAIN_ENTRIES]) -> bool
     ensures { result ≡ weights_within weights }
 {
-    let mut domain: usize = 0;
-    while domain < DOMAIN_ENTRIES {
-        if MOST_WEIGHT < weights[domain] {
-            return false;
-        }
-        domain += 1;
-    }
-    true
+    weights.iter().all(|weight| *weight <= MOST_WEIGHT)
 }
 
 // Whether the frame maker takes a number of windows and weights. Weights that are not all 0 are those

@@ -270,3 +270,9 @@ module _ (text : List ℕ) (start end : ℕ) where
           sym (ap as_number number_longest
           ∙ ap (λ (n : ℕ). as_number (run_token (part start (n - start) text) start n)) (sym to_past)
           ∙ number_run _ start end some_digit digits_alone)
+
+-- ---- what the functions that look for one kind cite
+
+pub ruleset word = (word_found, word_missed)
+
+pub ruleset number = (digits_some, digits_inside, digits_alone, number_found, number_missed)

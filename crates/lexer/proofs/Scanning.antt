@@ -71,6 +71,12 @@ module _ (stops : ℕ → Bool) where
       → true ≡ eqb at (scan_of stops text at)
   scan_stops_end text at h = sym (eq-eqb at _ (sym (scan_end text at h)))
 
+-- ---- the laws of one turn, and of one look
+
+pub ruleset one_turn = (scan_here, scan_next, scan_end)
+
+pub ruleset one_look = (scan_stops, scan_stops_end)
+
 -- ---- every byte passes a test
 
 module _ (test : ℕ → Bool) where

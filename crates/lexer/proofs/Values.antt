@@ -30,10 +30,6 @@ value_end digits i value h = rw (drop_of_length-le digits h)
 pub digit_more : (i value digit : ℕ) → value < 10 ^ i → digit < 10 → value * 10 + digit < 10 ^ (i + 1)
 digit_more i value digit h d = rw (add-one, pow-suc) (omega arith)
 
--- ten digits write a number below 10 ^ 10
-pub ten_digits : (i value : ℕ) → value < 10 ^ i → i ≤ 10 → value < 10_000_000_000
-ten_digits i value h k = omega (arith, pow-le-pow_right {n = 10} (lit< tt) k)
-
 -- a digit is one of ten bytes
 pub digit_limits : (byte : ℕ) → is_digit byte ≡ true → (48 ≤ byte) × (byte ≤ 57)
 digit_limits byte e =

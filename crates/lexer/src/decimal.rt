@@ -11,20 +11,20 @@ use crate::limits::WIDEST_DIGITS;
 fn store(out: &mut [u8], at: usize, byte: u8)
     ensures { out.new ≡ set out.old at byte }
 {
+    // No `get_mut`: of a slice written through one, a proof knows the length alone.
     if at < out.len() {
         out[at] = byte;
     }
 }
 
 // Writes bytes as they are.
+#[tactic(auto, using(lists::proofs::Stores::sets_next))]
 pub fn write_bytes(out: &mut [u8], at: usize, bytes: &[u8]) -> usize
     requires { at + length bytes.now < 2 ^ 64 }
     ensures { Wrote out.old at bytes.now out.new result }
 {
-    let mut i = 0;
-    while i < bytes.len() {
-        store(out, at + i, bytes[i]);
-        i += 1;
+    for (i, byte) in bytes.iter().enumerate() {
+        store(out, at + i, *byte);
     }
     at + bytes.len()
 }
@@ -37,10 +37,11 @@ pub fn write_decimal(out: &mut [u8], at: usize, number: u64) -> usize
     let mut digits = [b'0'; WIDEST_DIGITS];
     let mut left = number;
     let mut first: usize = WIDEST_DIGITS;
+    // A while: it has as many turns as the number has digits, which no range counts.
     while 9 < left {
         first -= 1;
         digits[first] = b'0' + (left % 10) as u8;
-        left = left / 10;
+        left /= 10;
     }
     first -= 1;
     digits[first] = b'0' + left as u8;

@@ -59,6 +59,7 @@ pub enum Lookahead {
 }
 
 // What stands at `start`, where no space stands.
+#[tactic(auto, unfolding(crate::specs::Lookaheads::lookahead_from))]
 fn lookahead_from(text: &[u8], start: usize) -> Lookahead
     ensures { result ≡ lookahead_from text.now start }
 {
@@ -79,11 +80,11 @@ fn lookahead_from(text: &[u8], start: usize) -> Lookahead
 }
 
 // What stands next in the line from `at` on: spaces are passed over.
-fn find_lookahead(text: &[u8], at: usize) -> Lookahead
+#[tactic(auto, unfolding(crate::specs::Lookaheads::lookahead_at))]
+pub fn lookahead_at(text: &[u8], at: usize) -> Lookahead
     ensures { result ≡ lookahead_at text.now at }
 {
-    let start = skip_spaces(text, at);
-    lookahead_from(text, start)
+    lookahead_from(text, skip_spaces(text, at))
 }
 
 // The offset of the first byte of what stands next, or of the line's end.
@@ -112,24 +113,16 @@ impl<'a> Reader<'a> {
             × (self.new.text ≡ self.old.text)
             × (self.new.at ≡ lookahead_start result) }
     {
-        let next = find_lookahead(self.text, self.at);
+        let next = lookahead_at(self.text, self.at);
         self.at = lookahead_start(next);
         next
     }
 }
 
-// What a reader at `at` hands out next.
-pub fn lookahead_at(text: &[u8], at: usize) -> Lookahead
-    ensures { result ≡ lookahead_at text.now at }
-{
-    let mut reader = Reader { text, at };
-    reader.next()
-}
-
 // What stands first in the line that begins at `at`: the spaces before it are passed over first.
+#[tactic(auto, using(crate::proofs::Lookaheads::past_indent))]
 pub fn first_in_line(text: &[u8], at: usize) -> Lookahead
     ensures { result ≡ lookahead_at text.now at }
 {
-    let first = skip_indent(text, at);
-    lookahead_at(text, first)
+    lookahead_at(text, skip_indent(text, at))
 }

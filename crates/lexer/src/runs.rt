@@ -16,15 +16,14 @@ fn decimal_value(digits: &[u8]) -> u64
     ensures { result ≡ decimal_value digits.now }
 {
     let mut value: u64 = 0;
-    let mut i: usize = 0;
-    while i < digits.len() {
-        value = value * 10 + (digits[i] - b'0') as u64;
-        i += 1;
+    for digit in digits {
+        value = value * 10 + u64::from(*digit - b'0');
     }
     value
 }
 
 // A run of digits: a number, or one of too many digits.
+#[tactic(auto, unfolding(crate::specs::Tokens::digits_token))]
 fn digits_token(run: &[u8], start: usize, end: usize) -> Token
     requires { all_bytes is_digit run.now ≡ true }
     ensures { result ≡ digits_token run.now start end }
@@ -41,6 +40,7 @@ fn digits_token(run: &[u8], start: usize, end: usize) -> Token
 }
 
 // The run from `start` on where a word is due: that word, or a run that is none.
+#[tactic(auto, using(crate::proofs::LettersAndDigits::word))]
 pub fn word_from(text: &[u8], start: usize) -> Token
     ensures { result ≡ as_word (longest_run text.now start) }
 {
@@ -53,6 +53,7 @@ pub fn word_from(text: &[u8], start: usize) -> Token
 }
 
 // The run from `start` on where a number is due: that number, or a run that is none.
+#[tactic(auto, using(crate::proofs::LettersAndDigits::number), unfolding(lists::specs::Part::part))]
 pub fn number_from(text: &[u8], start: usize) -> Token
     ensures { result ≡ as_number (longest_run text.now start) }
 {

@@ -27,12 +27,6 @@ use script::limits::MOST_OPS;
 use script::{Op, fetch};
 use state::State;
 
-fn later(one: u64, other: u64) -> u64
-    ensures { result ≡ max one other }
-{
-    if one < other { other } else { one }
-}
-
 // What a switch leaves of the line that it touched: the run's last empties it again.
 fn settle(cache: &mut [u16], last: bool)
     requires { length cache.old ≡ table_length }
@@ -50,34 +44,21 @@ fn switch(cache: &mut [u16], clock: u64, end: u64, pad: u64, last: bool) -> u64
     ensures { (result ≡ padded_clock end pad (touched_clock clock end cache.old))
         × (cache.new ≡ switched_cache last cache.old) }
 {
-    let begun = later(clock, end);
+    let begun = clock.max(end);
     let kernel = flush_kernel(cache);
     let l1 = flush_l1(cache);
     let touch = access(cache, KERNEL_ENTRY_LINE, false);
     settle(cache, last);
-    later(begun + kernel + l1 + touch.ticks, end + pad)
-}
-
-fn lesser(one: u64, other: u64) -> u64
-    ensures { result ≡ min one other }
-{
-    if one < other { one } else { other }
-}
-
-// What remains of a number of which some are used, and nothing where all are.
-fn remaining(whole: u64, used: u64) -> u64
-    ensures { result ≡ whole - used }
-{
-    if used < whole { whole - used } else { 0 }
+    (begun + kernel + l1 + touch.ticks).max(end + pad)
 }
 
 // How many ops more limit, log and positions allow; clock and stored numbers may end it sooner.
 fn ops_allowed(limit: u64, first: Turn) -> u64
     ensures { result ≡ ops_allowed limit first }
 {
-    let records = remaining(first.quota, first.records);
-    let positions = remaining(MOST_OPS as u64, first.position);
-    lesser(lesser(limit, records), positions)
+    let records = first.quota.saturating_sub(first.records);
+    let positions = (MOST_OPS as u64).saturating_sub(first.position);
+    limit.min(records).min(positions)
 }
 
 // The next step after some ops of a window, which end at a clock, where one op more is allowed.
@@ -222,7 +203,8 @@ fn run_turn(
     }
 }
 
-// The declared window that follows one: after the last comes the first.
+// The declared window that follows one: after the last comes the first. A test in place of `%`, so
+// that no window takes a division.
 fn next_slot(slot: usize, declared: usize) -> usize
     requires { slot < declared }
     ensures { result ≡ (slot + 1) % declared }

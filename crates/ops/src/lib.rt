@@ -33,12 +33,6 @@ pub struct OpResult {
     pub second: Option<u16>,
 }
 
-fn wide(number: u16) -> u32
-    ensures { result ≡ number }
-{
-    number as u32
-}
-
 // Whether a line is a domain's own, and so a line.
 fn owns_line(masks: &[u16; DOMAIN_ENTRIES], domain: usize, line: u16) -> bool
     requires { domain < most_domains }
@@ -49,7 +43,7 @@ fn owns_line(masks: &[u16; DOMAIN_ENTRIES], domain: usize, line: u16) -> bool
         return false;
     }
     let colour = line as usize % SET_COUNT / SETS_PER_COLOUR;
-    has_bit(wide(masks[domain]), colour as u32)
+    has_bit(u32::from(masks[domain]), colour as u32)
 }
 
 // What an access shows.

@@ -7,9 +7,14 @@ use native.Mathlib.Omega.{arith}
 use mathlib.Core.List.{List}
 use native.Mathlib.Numerals.{add-one}
 use lib.Dec.{eqb, leb-suc-zero, ltb}
-use lib.ListN.{get_or, get_or-replicate, length, replicate, set}
+use lib.ListN.{get_or, get_or-replicate, length, replicate, set, take}
 use lib.Seq.{get_or-set_other, get_or-set_same}
 use borrow.Author.Tests.{eqb-true, eqb-false, le-ltb, lt-ltb, ltb-false, ltb-true}
+use Rattle.std.specs.Int.{from_bool}
+use Rattle.std.specs.List.{list_all, sum, sum_by}
+use Rattle.std.proofs.lemmas.List.{take_all}
+use Rattle.std.proofs.lemmas.List.Folds.{list_all_more}
+use Rattle.std.proofs.lemmas.List.Sums.{sum_by_more}
 use Rattle.plan.specs.Sums.{sum_to, all_below}
 use Rattle.plan.specs.Limits.{most_domains}
 
@@ -198,3 +203,38 @@ all_below_block_fails test total count more within fails = go (all_below test to
         λ k below. all_below_lem test total (count + k) e (omega arith) in
         absurd (false≢true (sym fails ∙ below_all (λ k. test (count + k)) more each))
     go false e = sym e
+
+-- ---- std's words for a list, index by index, and for a test as a number
+
+-- 1 for true, 0 for false
+pub number_of : (test : Bool) → from_bool test ≡ cond test 1 0
+number_of true = refl
+number_of false = refl
+
+-- a sum over the front of a list
+pub sum_front : (f : ℕ → ℕ) (list : List ℕ) (count : ℕ) → count ≤ length list → sum_by f (take count list) ≡ sum_to (λ index. f (get_or list index 0)) count
+unfolding sum_to
+sum_front f list zero within = refl
+sum_front f list (suc count) within =
+    let more : sum_by f (take (count + 1) list) ≡ sum_by f (take count list) + f (get_or list count 0) = sum_by_more f list count 0 (omega arith) in
+    (rw add-one at more) ∙ ap (λ (total : ℕ). total + f (get_or list count 0)) (sum_front f list count (omega arith))
+
+-- the sum of a whole list
+pub sum_entries : (list : List ℕ) (count : ℕ) → length list ≡ count → sum list ≡ sum_to (λ index. get_or list index 0) count
+sum_entries list count long =
+    ap sum (sym (take_all count list (omega arith))) ∙ sum_front (λ entry. entry) list count (omega arith)
+
+all_front : (test : ℕ → Bool) (list : List ℕ) (count : ℕ) → count ≤ length list → list_all test (take count list) ≡ all_below (λ index. test (get_or list index 0)) count
+unfolding all_below
+all_front test list zero within = refl
+all_front test list (suc count) within =
+    let more : list_all test (take (count + 1) list) ≡ list_all test (take count list) && test (get_or list count 0) = list_all_more test list count 0 (omega arith) in
+    (rw add-one at more) ∙ ap (λ (before : Bool). before && test (get_or list count 0)) (all_front test list count (omega arith))
+
+-- a test of every entry of a list
+pub all_entries :
+    (test : ℕ → Bool) (list : List ℕ) (count : ℕ)
+    → length list ≡ count
+    → list_all test list ≡ all_below (λ index. test (get_or list index 0)) count
+all_entries test list count long =
+    ap (list_all test) (sym (take_all count list (omega arith))) ∙ all_front test list count (omega arith)

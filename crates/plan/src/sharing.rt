@@ -38,9 +38,8 @@ fn mask_from(first: u32, count: u32) -> u16
 pub fn holding(plan: Plan, domain: usize) -> u32
     ensures { result ≡ holding_of plan domain }
 {
-    let masks = plan.masks;
     if domain < DOMAIN_ENTRIES {
-        return u16::count_ones(masks[domain]);
+        return plan.masks[domain].count_ones();
     }
     0
 }
@@ -50,13 +49,10 @@ pub fn shares_total(plan: Plan) -> u32
     requires { SharesBounded plan }
     ensures { result ≡ shares_total plan plan.domains }
 {
-    let shares = plan.shares;
     let domains = plan.domains as usize;
     let mut total: u32 = 0;
-    let mut i: usize = 0;
-    while i < domains {
-        total += shares[i];
-        i += 1;
+    for i in 0..domains {
+        total += plan.shares[i];
     }
     total
 }
@@ -66,13 +62,10 @@ pub fn colours_total(plan: Plan) -> u32
     requires { SharesBounded plan }
     ensures { result ≡ colours_total plan }
 {
-    let shares = plan.shares;
     let domains = plan.domains as usize;
     let mut colours: u32 = 0;
-    let mut i: usize = 0;
-    while i < domains {
-        colours += colours_of(shares[i]);
-        i += 1;
+    for i in 0..domains {
+        colours += colours_of(plan.shares[i]);
     }
     colours
 }
@@ -82,16 +75,13 @@ pub fn masks_of(plan: Plan) -> [u16; DOMAIN_ENTRIES]
     requires { ColoursBounded plan }
     ensures { result ≡ masks_from plan most_domains 0 }
 {
-    let shares = plan.shares;
     let domains = plan.domains as usize;
     let mut masks = [0u16; DOMAIN_ENTRIES];
     let mut first: u32 = 0;
-    let mut i: usize = 0;
-    while i < domains {
-        let count = colours_of(shares[i]);
+    for i in 0..domains {
+        let count = colours_of(plan.shares[i]);
         masks[i] = mask_from(first, count);
         first += count;
-        i += 1;
     }
     masks
 }

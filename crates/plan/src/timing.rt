@@ -15,14 +15,10 @@ fn padded_lengths(plan: Plan, count: usize) -> u64
         × ((slot : ℕ) → slot < count → get_or plan.lengths slot 0 ≤ most_length) }
     ensures { result ≡ sum_to (padded_length plan) count }
 {
-    let lengths = plan.lengths;
     let pad = plan.pad as u64;
     let mut total: u64 = 0;
-    let mut i: usize = 0;
-    while i < count {
-        let length = lengths[i] as u64;
-        total += length + pad;
-        i += 1;
+    for i in 0..count {
+        total += plan.lengths[i] as u64 + pad;
     }
     total
 }
@@ -32,10 +28,8 @@ pub fn ticks_total(plan: Plan) -> u64
     requires { TicksBounded plan }
     ensures { result ≡ ticks_total plan }
 {
-    let windows = plan.windows as usize;
-    let frame = padded_lengths(plan, windows);
-    let run = plan.run as u64;
-    run * frame
+    let frame = padded_lengths(plan, plan.windows as usize);
+    plan.run as u64 * frame
 }
 
 // The number of windows of the whole run.
@@ -43,9 +37,7 @@ pub fn windows_total(plan: Plan) -> u64
     requires { (plan.run ≤ most_run) × (plan.windows ≤ most_windows) }
     ensures { result ≡ windows_total plan }
 {
-    let run = plan.run as u64;
-    let windows = plan.windows as u64;
-    run * windows
+    plan.run as u64 * plan.windows as u64
 }
 
 // The domain whose window it is.
@@ -53,10 +45,8 @@ pub fn window_owner(plan: Plan, window: u64) -> u32
     requires { plan_valid plan ≡ true }
     ensures { result ≡ window_owner plan window }
 {
-    let owners = plan.owners;
-    let windows = plan.windows as u64;
-    let slot = (window % windows) as usize;
-    owners[slot]
+    let slot = (window % plan.windows as u64) as usize;
+    plan.owners[slot]
 }
 
 // How long a window is.
@@ -64,10 +54,8 @@ pub fn window_length(plan: Plan, window: u64) -> u32
     requires { plan_valid plan ≡ true }
     ensures { result ≡ window_length plan window }
 {
-    let lengths = plan.lengths;
-    let windows = plan.windows as u64;
-    let slot = (window % windows) as usize;
-    lengths[slot]
+    let slot = (window % plan.windows as u64) as usize;
+    plan.lengths[slot]
 }
 
 // When a window starts: whole repeats, and the windows of this repeat before it.
@@ -76,10 +64,9 @@ pub fn window_start(plan: Plan, window: u64) -> u64
     ensures { result ≡ window_start plan window }
 {
     let windows = plan.windows as u64;
-    let count = plan.windows as usize;
     let slot = (window % windows) as usize;
     let before = padded_lengths(plan, slot);
-    let frame = padded_lengths(plan, count);
+    let frame = padded_lengths(plan, plan.windows as usize);
     let repeats = window / windows;
     repeats * frame + before
 }

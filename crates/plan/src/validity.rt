@@ -38,10 +38,8 @@ fn declared_valid(plan: Plan, domain: usize) -> bool
     requires { (domain < most_domains) × (plan.domains ≤ most_domains) }
     ensures { result ≡ declared_valid plan domain }
 {
-    let shares = plan.shares;
-    let rights = plan.rights;
-    let share = shares[domain];
-    let right = rights[domain];
+    let share = plan.shares[domain];
+    let right = plan.rights[domain];
     if !is_within(LEAST_SHARE, MOST_SHARE, share) {
         return false;
     }
@@ -55,13 +53,10 @@ fn domain_valid(plan: Plan, domain: usize) -> bool
     requires { (domain < most_domains) × (plan.domains ≤ most_domains) }
     ensures { result ≡ domain_valid plan domain }
 {
-    let domains = plan.domains as usize;
-    if domain < domains {
+    if domain < plan.domains as usize {
         return declared_valid(plan, domain);
     }
-    let shares = plan.shares;
-    let rights = plan.rights;
-    (shares[domain] == 0) & (rights[domain] == 0)
+    (plan.shares[domain] == 0) & (plan.rights[domain] == 0)
 }
 
 // Whether every entry for a domain is valid, but for its mask.
@@ -69,12 +64,10 @@ fn domains_valid(plan: Plan) -> bool
     requires { plan.domains ≤ most_domains }
     ensures { result ≡ all_below (domain_valid plan) most_domains }
 {
-    let mut domain: usize = 0;
-    while domain < DOMAIN_ENTRIES {
+    for domain in 0..DOMAIN_ENTRIES {
         if !domain_valid(plan, domain) {
             return false;
         }
-        domain += 1;
     }
     true
 }
@@ -84,16 +77,7 @@ fn masks_valid(plan: Plan) -> bool
     requires { ColoursBounded plan }
     ensures { result ≡ all_below (mask_valid plan) most_domains }
 {
-    let kept = plan.masks;
-    let given = masks_of(plan);
-    let mut domain: usize = 0;
-    while domain < DOMAIN_ENTRIES {
-        if kept[domain] != given[domain] {
-            return false;
-        }
-        domain += 1;
-    }
-    true
+    plan.masks == masks_of(plan)
 }
 
 // Whether an entry for a window is valid, by its numbers and by whether a window is declared there.
@@ -115,13 +99,10 @@ fn windows_valid(plan: Plan) -> bool
 {
     let windows = plan.windows as usize;
     let mut valid = true;
-    let mut slot: usize = 0;
-    while slot < WINDOW_ENTRIES {
+    for slot in 0..WINDOW_ENTRIES {
         let owner = plan.owners[slot];
         let length = plan.lengths[slot];
-        let here = window_valid(owner, length, plan.domains, slot < windows);
-        valid = valid & here;
-        slot += 1;
+        valid &= window_valid(owner, length, plan.domains, slot < windows);
     }
     valid
 }

@@ -28,12 +28,9 @@ fn write_domain(out: &mut [u8], at: usize, domain: u32, log: &[u8]) -> usize
     ensures { Wrote out.old at (domain_lines domain log.now)
         out.new result }
 {
-    let count = log.len() / RECORD_SIZE;
     let mut next = at;
-    let mut number: usize = 0;
-    while number < count {
-        next = write_seen(out, next, domain as u64, log, RECORD_SIZE * number);
-        number += 1;
+    for number in 0..log.len() / RECORD_SIZE {
+        next = write_seen(out, next, u64::from(domain), log, RECORD_SIZE * number);
     }
     next
 }
@@ -47,11 +44,9 @@ fn write_domains(out: &mut [u8], plan: Plan, state: State, log: &[u8]) -> usize
         out.new result }
 {
     let mut next = 0;
-    let mut domain: u32 = 0;
-    while domain < plan.domains {
+    for domain in 0..plan.domains {
         let own = log_of(plan, state, log, domain);
         next = write_domain(out, next, domain, own);
-        domain += 1;
     }
     next
 }
@@ -76,7 +71,7 @@ fn write_refusal(code: Code, out: &mut [u8]) -> usize
         out,
         0,
         b"(refused ",
-        code.number as u64,
+        u64::from(code.number),
         code.companion as u64,
     )
 }

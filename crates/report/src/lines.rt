@@ -1,6 +1,6 @@
 // The lines, each written into a lent buffer from an offset on. Each function answers the offset
 // past what it wrote.
-ghost use Rattle.std.specs.Prelude.{◌+◌, ◌*◌, ◌^◌, ◌<◌, ◌≤◌, length};
+ghost use Rattle.std.specs.Prelude.{◌≡◌, ◌+◌, ◌*◌, ◌^◌, ◌<◌, ◌≤◌, length};
 ghost use Rattle.lists.specs.Ascii.{bytes_of};
 ghost use Rattle.records.specs.Records.{record_size};
 ghost use Rattle.report.specs.Limits.{most_decimal, most_end_line, most_kind_word, most_seen_line};
@@ -31,22 +31,21 @@ pub fn write_end(out: &mut [u8], at: usize, state: State) -> usize
     write_pair(out, at, b"(end ", state.windows, state.clock)
 }
 
-// Writes the word of a record's kind.
-fn write_kind(out: &mut [u8], at: usize, kind: u8) -> usize
-    requires { at + most_kind_word < 2 ^ 64 }
-    ensures { Wrote out.old at (bytes_of (kind_word kind)) out.new result }
+// The word of a record's kind.
+fn kind_word(kind: u8) -> &'static [u8]
+    ensures { result.now ≡ bytes_of (kind_word kind) }
 {
     match kind {
-        1 => write_bytes(out, at, b"hit1"),
-        2 => write_bytes(out, at, b"hit2"),
-        3 => write_bytes(out, at, b"miss"),
-        4 => write_bytes(out, at, b"sent"),
-        5 => write_bytes(out, at, b"got"),
-        6 => write_bytes(out, at, b"empty"),
-        7 => write_bytes(out, at, b"denied"),
-        8 => write_bytes(out, at, b"ran"),
-        9 => write_bytes(out, at, b"barred"),
-        _ => write_bytes(out, at, b"none"),
+        1 => b"hit1",
+        2 => b"hit2",
+        3 => b"miss",
+        4 => b"sent",
+        5 => b"got",
+        6 => b"empty",
+        7 => b"denied",
+        8 => b"ran",
+        9 => b"barred",
+        _ => b"none",
     }
 }
 
@@ -56,7 +55,7 @@ fn write_kind_and_value(out: &mut [u8], at: usize, kind: u8, value: u64) -> usiz
     ensures { Wrote out.old at (kind_and_value kind value) out.new result }
 {
     let word = write_bytes(out, at, b" (");
-    let space = write_kind(out, word, kind);
+    let space = write_bytes(out, word, kind_word(kind));
     let close = write_numbered(out, space, b" ", value);
     write_bytes(out, close, b"))\n")
 }

@@ -1,12 +1,12 @@
--- Numbers that are all empty: a walk over them with no way out before the last; sets and boxes
--- that hold nothing are valid. Assumes nothing.
+-- Numbers that are all empty: the walks over them; sets and boxes that hold nothing are valid. Assumes nothing.
 use mathlib.Core.Path.{◌≡◌, refl, sym, ap, ◌∙◌}
 use mathlib.Core.Bool.{Bool, true, false, ◌&&◌, and_assoc}
-use mathlib.Core.List.{List, [], ◌∷◌}
-use Prim.Native.Nat.{ℕ, zero, suc, ◌+◌, ◌*◌, ◌≤◌, ◌<◌}
+use mathlib.Core.List.{List, [], ◌∷◌, ◌++◌}
+use Rattle.std.specs.List.{list_all}
+use Prim.Native.Nat.{ℕ, zero, suc, ◌+◌, ◌*◌, ◌<◌}
 use native.Mathlib.Omega.{arith}
 use lib.Dec.{eqb}
-use lib.ListN.{drop, drop_of_length-le, get_or, length}
+use lib.ListN.{get_or, length}
 use borrow.Author.Tests.{eq-eqb, eqb-true}
 use Rattle.lists.specs.Part.{part}
 use Rattle.lists.proofs.Parts.{part_at, part_limit}
@@ -16,40 +16,31 @@ use Rattle.plan.specs.Sums.{all_below}
 use Rattle.plan.proofs.Sums.{below_all}
 use Rattle.cache.specs.Lines.{set_index, ways_per_set}
 use Rattle.state.specs.TableValidity.{all_empty, box_valid, set_valid, ways_valid}
-use Rattle.state.proofs.TableLaws.{here_first}
 
--- ---- a walk that keeps whether all so far were empty
+-- ---- the library's walks
 
--- what was seen up to an index, and what is left from there on, decide the whole list's answer
-abbrev pub EmptySoFar : Bool → List ℕ → ℕ → Type 0
-EmptySoFar none list index = (none && all_empty (drop index list)) ≡ all_empty list
-
--- one number more is seen
-pub empty_next :
-    (none : Bool) (list : List ℕ) (index : ℕ)
-    → index < length list
-    → EmptySoFar none list index
-    → EmptySoFar (none && eqb (get_or list index 0) 0) list (index + 1)
+-- every number is 0
+pub all_zero : (list : List ℕ) → list_all (λ number. eqb number 0) list ≡ all_empty list
 unfolding all_empty
-empty_next none list index within so_far =
-    and_assoc none (eqb (get_or list index 0) 0) (all_empty (drop (index + 1) list))
-    ∙ ap (λ (rest : Bool). none && rest) (sym (here_first all_empty list index within))
-    ∙ so_far
+all_zero [] = refl
+all_zero (number ∷ rest) = ap (λ (others : Bool). eqb number 0 && others) (all_zero rest)
 
--- all are seen
-pub empty_end :
-    (none : Bool) (list : List ℕ) (index : ℕ)
-    → length list ≤ index
-    → EmptySoFar none list index
-    → none ≡ all_empty list
+-- no number
+pub all_none : all_empty [] ≡ true
 unfolding all_empty
-empty_end none list index past so_far =
-    let nothing = sym (drop_of_length-le list past) in
-    go none (ap (λ (rest : List ℕ). none && all_empty rest) nothing ∙ so_far)
+all_none = refl
+
+-- one number more is seen, by a walk that keeps whether all so far were empty
+pub empty_more : (seen : List ℕ) (none : Bool) (number : ℕ) → none ≡ all_empty seen
+    → none && eqb number 0 ≡ all_empty (seen ++ (number ∷ []))
+unfolding all_empty
+empty_more [] none number is = rw is (sym (and_comm_true (eqb number 0)))
   where
-    go : (seen : Bool) → (seen && all_empty []) ≡ all_empty list → seen ≡ all_empty list
-    go true is = is
-    go false is = is
+    and_comm_true : (here : Bool) → (here && true) ≡ here
+    and_comm_true true = refl
+    and_comm_true false = refl
+empty_more (first ∷ seen) none number is =
+    rw is (and_assoc (eqb first 0) (all_empty seen) (eqb number 0) ∙ ap (λ (others : Bool). eqb first 0 && others) (empty_more seen (all_empty seen) number refl))
 
 -- ---- the numbers of an empty list
 

@@ -15,6 +15,8 @@ use Rattle.plan.specs.declared.Plan.{Plan}
 use Rattle.plan.specs.Colours.{has_bit, mask_at}
 use Rattle.lists.proofs.Tests.{both}
 use Rattle.cache.specs.Lines.{clean_entry, colour_of, kernel_colour, l1_index, most_line}
+use Rattle.cache.specs.Sets.{has}
+use Rattle.std.specs.List.{list_any}
 use Rattle.state.specs.declared.State.{State}
 use Rattle.state.specs.TableValidity.{l1_entry_valid, line_allowed, entry_line, stands_for_line}
 use Rattle.state.specs.TableValidity.{unmarked}
@@ -59,6 +61,12 @@ decides_end test list index past decides = sym (ap test (drop_of_length-le list 
 -- what stands from an index on, lent as a part up to the list's end
 pub rest_whole : (list : List ℕ) (index : ℕ) → take (length list - index) (drop index list) ≡ drop index list
 rest_whole list index = take_all (length list - index) (drop index list) (simp length-drop (omega arith))
+
+-- some number is the entry
+pub any_equal : (entry : ℕ) (ways : List ℕ) → list_any (λ way. eqb way entry) ways ≡ has entry ways
+unfolding has
+any_equal entry [] = refl
+any_equal entry (way ∷ ways) = ap (λ (others : Bool). eqb way entry || others) (any_equal entry ways)
 
 -- `count` numbers from an index on, lent as a part from there to the index behind them
 pub lent_part : (first count : ℕ) (table : List ℕ)

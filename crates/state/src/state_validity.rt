@@ -53,12 +53,10 @@ pub fn state_valid(plan: Plan, quota: u64, state: State) -> bool
     if !clock_valid(plan, state) {
         return false;
     }
-    let mut domain = 0;
-    while domain < DOMAIN_ENTRIES {
+    for domain in 0..DOMAIN_ENTRIES {
         if !domain_counts_valid(plan, quota, state, domain) {
             return false;
         }
-        domain += 1;
     }
     true
 }

@@ -74,43 +74,12 @@ fn l1_valid(cache: &[u16], ended: bool, mask: u16) -> bool
         → mask_at plan (running_of plan state) ≡ mask
         → result ≡ all_below (l1_entry_valid plan state cache.now) l1_length }
 {
-    let mut index = 0;
-    while index < L1_LENGTH {
+    for index in 0..L1_LENGTH {
         if !l1_entry_valid(cache, index, ended, mask) {
             return false;
         }
-        index += 1;
     }
     true
-}
-
-// Whether every number is empty. It ends at the first that is not: for the few numbers behind an
-// empty way. `none_held` answers the same of a block.
-fn all_empty(ways: &[u16]) -> bool
-    ensures { result ≡ all_empty ways.now }
-{
-    let mut way = 0;
-    while way < ways.len() {
-        if ways[way] != 0 {
-            return false;
-        }
-        way += 1;
-    }
-    true
-}
-
-// Whether some number is this entry.
-fn has_entry(ways: &[u16], entry: u16) -> bool
-    ensures { result ≡ has entry ways.now }
-{
-    let mut way = 0;
-    while way < ways.len() {
-        if ways[way] == entry {
-            return true;
-        }
-        way += 1;
-    }
-    false
 }
 
 // Whether a full way of a set is a line of this set that no way behind it repeats.
@@ -123,8 +92,7 @@ fn way_valid(ways: &[u16], way: usize, set: usize) -> bool
     if !is_line(entry) {
         return false;
     }
-    let next = way + 1;
-    let repeated = has_entry(&ways[next..], entry);
+    let repeated = ways[way + 1..].contains(&entry);
     ((entry - 1) as usize % SET_COUNT == set) & !repeated
 }
 
@@ -132,16 +100,13 @@ fn way_valid(ways: &[u16], way: usize, set: usize) -> bool
 fn ways_valid(ways: &[u16], set: usize) -> bool
     ensures { result ≡ ways_valid set ways.now }
 {
-    let mut way = 0;
-    while way < ways.len() {
-        let next = way + 1;
+    for way in 0..ways.len() {
         if ways[way] == 0 {
-            return all_empty(&ways[next..]);
+            return ways[way + 1..].iter().all(|&behind| behind == 0);
         }
         if !way_valid(ways, way, set) {
             return false;
         }
-        way = next;
     }
     true
 }
@@ -156,37 +121,25 @@ fn set_valid(cache: &[u16], set: usize) -> bool
     ways_valid(&cache[from..to], set)
 }
 
-// Whether every number is empty, as `all_empty` answers, but of a block: all are looked at, with
-// no way out before the last, so that the compiler can look at several at once.
-fn none_held(numbers: &[u16]) -> bool
-    ensures { result ≡ all_empty numbers.now }
-{
-    let mut none = true;
-    let mut index = 0;
-    while index < numbers.len() {
-        none = none & (numbers[index] == 0);
-        index += 1;
-    }
-    none
-}
-
 // Whether the sets of a block are valid: `count` sets from `first` on. Most blocks hold no line:
-// that is seen at once, before the sets are walked.
+// that is seen at once, before the sets are walked. All numbers are looked at, with no way out
+// before the last, so that the compiler can look at several at once.
 fn block_valid(cache: &[u16], first: usize, count: usize) -> bool
     requires { (length cache.now ≡ table_length) × (first + count ≤ set_count) }
     ensures { result ≡ all_below (λ k. set_valid cache.now (first + k)) count }
 {
     let from = L1_LENGTH + WAYS_PER_SET * first;
     let to = from + WAYS_PER_SET * count;
-    if none_held(&cache[from..to]) {
+    let none_held = cache[from..to]
+        .iter()
+        .fold(true, |none, &number| none & (number == 0));
+    if none_held {
         return true;
     }
-    let mut set = 0;
-    while set < count {
+    for set in 0..count {
         if !set_valid(cache, first + set) {
             return false;
         }
-        set += 1;
     }
     true
 }
@@ -196,12 +149,10 @@ fn sets_valid(cache: &[u16]) -> bool
     requires { length cache.now ≡ table_length }
     ensures { result ≡ all_below (set_valid cache.now) set_count }
 {
-    let mut first = 0;
-    while first < SET_COUNT {
+    for first in (0..SET_COUNT).step_by(SETS_PER_BLOCK) {
         if !block_valid(cache, first, SETS_PER_BLOCK) {
             return false;
         }
-        first += SETS_PER_BLOCK;
     }
     true
 }
@@ -223,35 +174,24 @@ fn box_valid(rights: &[u32; DOMAIN_ENTRIES], boxes: &[u32], index: usize) -> boo
     (number <= MOST_WORD + 1) & may
 }
 
-// Whether no box holds a word. All are looked at, as in `none_held`.
-fn no_word(boxes: &[u32]) -> bool
-    ensures { result ≡ all_empty boxes.now }
-{
-    let mut none = true;
-    let mut index = 0;
-    while index < boxes.len() {
-        none = none & (boxes[index] == 0);
-        index += 1;
-    }
-    none
-}
-
-// Whether every box is valid. That all are empty is seen at once, before they are walked.
+// Whether every box is valid. That all are empty is seen at once, before they are walked: as in
+// `block_valid`, with no way out before the last.
 fn boxes_valid(rights: &[u32; DOMAIN_ENTRIES], boxes: &[u32]) -> bool
     requires { length boxes.now ≡ boxes_length }
     ensures { (plan : Plan)
         → plan.rights ≡ rights.now
         → result ≡ all_below (box_valid plan boxes.now) boxes_length }
 {
-    if no_word(boxes) {
+    let no_word = boxes
+        .iter()
+        .fold(true, |none, &number| none & (number == 0));
+    if no_word {
         return true;
     }
-    let mut index = 0;
-    while index < BOXES_LENGTH {
+    for index in 0..BOXES_LENGTH {
         if !box_valid(rights, boxes, index) {
             return false;
         }
-        index += 1;
     }
     true
 }

@@ -39,11 +39,7 @@ fn hand_over(text: &[u8], count: usize, out: &mut [u8])
     requires { (count ≤ length text.now) × (count ≤ length out.old) }
     ensures { out.new ≡ take count text.now ++ drop count out.old }
 {
-    let mut index: usize = 0;
-    while index < count {
-        out[index] = text[index];
-        index += 1;
-    }
+    out[..count].copy_from_slice(&text[..count]);
 }
 
 // A plan and its scripts are written in the single form, or refused. The text is made in a buffer of

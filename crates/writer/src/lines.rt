@@ -41,10 +41,8 @@ fn write_recipients(out: &mut [u8], at: usize, rights: u32) -> usize
     ensures { Wrote out.old at (spaced (recipients_of rights)) out.new result }
 {
     let mut next = at;
-    let mut domain: u32 = 0;
-    while domain < MOST_DOMAINS {
+    for domain in 0..MOST_DOMAINS {
         next = write_recipient(out, next, rights, domain);
-        domain += 1;
     }
     next
 }

@@ -28,14 +28,10 @@ fn rest_empty(scripts: &[u32], domain: usize, ops: usize) -> bool
     ensures { result ≡ all_below (λ position. ltb position ops
         || eqb (get_or scripts.now (most_ops * domain + position) 0) 0) most_ops }
 {
-    let mut position = ops;
-    while position < MOST_OPS {
-        if scripts[MOST_OPS * domain + position] != 0 {
-            return false;
-        }
-        position += 1;
-    }
-    true
+    let first = MOST_OPS * domain;
+    scripts[first + ops..first + MOST_OPS]
+        .iter()
+        .all(|number| *number == 0)
 }
 
 // Whether every part does.
@@ -44,13 +40,11 @@ pub fn ops_alone(plan: Plan, scripts: &[u32]) -> bool
     ensures { result ≡ ops_alone plan scripts.now }
 {
     let domains = plan.domains as usize;
-    let mut domain: usize = 0;
-    while domain < DOMAIN_ENTRIES {
+    for domain in 0..DOMAIN_ENTRIES {
         let ops = written_ops(domains, scripts, domain);
         if !rest_empty(scripts, domain, ops) {
             return false;
         }
-        domain += 1;
     }
     true
 }

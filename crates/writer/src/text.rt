@@ -25,10 +25,8 @@ fn write_domains(out: &mut [u8], at: usize, plan: Plan) -> usize
     let rights = plan.rights;
     let domains = plan.domains as usize;
     let mut next = at;
-    let mut domain: usize = 0;
-    while domain < domains {
+    for domain in 0..domains {
         next = write_domain(out, next, domain as u32, shares[domain], rights[domain]);
-        domain += 1;
     }
     next
 }
@@ -44,10 +42,8 @@ fn write_windows(out: &mut [u8], at: usize, plan: Plan) -> usize
     let lengths = plan.lengths;
     let windows = plan.windows as usize;
     let mut next = at;
-    let mut slot: usize = 0;
-    while slot < windows {
+    for slot in 0..windows {
         next = write_window(out, next, owners[slot], lengths[slot]);
-        slot += 1;
     }
     next
 }
@@ -85,10 +81,8 @@ fn write_scripts(out: &mut [u8], at: usize, scripts: &[u32], domains: usize) -> 
         out.new result }
 {
     let mut next = at;
-    let mut domain: usize = 0;
-    while domain < domains {
+    for domain in 0..domains {
         next = write_script(out, next, scripts, domain);
-        domain += 1;
     }
     next
 }

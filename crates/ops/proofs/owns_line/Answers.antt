@@ -17,5 +17,5 @@ returns c =
       λ owns.
           within,
       λ plan handed. rw (le-ltb _ _ within, handed)
-          (c.has_bit.ensures ∙ ap₂ has_bit c.wide.ensures refl),
+          (c.has_bit.ensures ∙ ap₂ has_bit c.from.ensures refl),
     )

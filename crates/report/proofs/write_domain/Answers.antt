@@ -13,13 +13,13 @@ use Rattle.report.proofs.write_domain.Goals as goal
 
 pub loop-number-init : goal.loop-number-init
 unfolding record_lines
-loop-number-init c = (omega arith, (omega arith, refl))
+loop-number-init c = (omega arith, refl)
 
 pub write_seen-next-requires : goal.write_seen-next-requires
 write_seen-next-requires c =
     let l = c.loop-number in
     let args = c.args in
-    omega (arith, l.invariant.1.0, records_limit args.domain args.log.now l.number)
+    omega (arith, l.invariant.0, records_limit args.domain args.log.now l.number)
 
 pub loop-number-preserved : goal.loop-number-preserved
 unfolding record_lines
@@ -27,11 +27,8 @@ loop-number-preserved c =
     let l = c.loop-number in
     let args = c.args in
     let passed = record_lines args.domain args.log.now l.number in
-    let next = seen_line args.domain args.log.now (record_size * l.number) in (
-      omega (arith, c.loop-number-test),
-      rw (add-one l.number)
-          (wrote_both args.out.now args.at passed next l.invariant.1 c.write_seen-next.ensures),
-    )
+    let next = seen_line args.domain args.log.now (record_size * l.number) in
+    rw (add-one l.number) (wrote_both args.out.now args.at passed next l.invariant (rw c.from.ensures at c.write_seen-next.ensures))
 
 pub returns : goal.returns
 unfolding domain_lines
@@ -39,4 +36,4 @@ returns c =
     let l = c.loop-number in
     let args = c.args in
     let all : l.number ≡ length args.log.now / record_size = omega arith in
-    rw (← all) l.invariant.1
+    rw (← all) l.invariant

@@ -1,7 +1,7 @@
 -- `report::write_domains` meets its contract. The loop's invariant: the logs of the domains passed are written.
 -- Assumes nothing.
 use mathlib.Core.Path.{◌≡◌, refl, subst}
-use Prim.Native.Nat.{ℕ}
+use Prim.Native.Nat.{ℕ, ◌<◌}
 use native.Mathlib.Numerals.{add-one}
 use native.Mathlib.Omega.{arith}
 use lib.ListN.{length}
@@ -17,7 +17,7 @@ use Rattle.report.proofs.write_domains.Goals as goal
 
 pub loop-domain-init : goal.loop-domain-init
 unfolding seen_lines
-loop-domain-init c = (omega arith, (refl, refl))
+loop-domain-init c = (refl, refl)
 
 pub write_domain-next-requires : goal.write_domain-next-requires
 write_domain-next-requires c =
@@ -26,12 +26,12 @@ write_domain-next-requires c =
     let state = c.args.state in
     let log = c.args.log.now in
     let few = domains_most plan c.requires.0 in
-    let declared = c.loop-domain-test.true in
+    let declared : l.domain < plan.domains = omega arith in
     rw c.log_of-own.ensures.0
     (omega (
       arith,
-      l.invariant.1.0,
-      domains_limit plan state log few c.requires.1 l.domain l.invariant.0,
+      l.invariant.0,
+      domains_limit plan state log few c.requires.1 l.domain (omega arith),
       query_limit plan state log few c.requires.1 l.domain declared,
       part_ends (part_records plan (length log)) l.domain plan.domains declared,
       parts_fit plan (length log),
@@ -44,12 +44,9 @@ loop-domain-preserved c =
     let l = c.loop-domain in
     let args = c.args in
     let passed = seen_lines args.plan args.state args.log.now l.domain in
-    let next = domain_lines l.domain (log_query_of args.plan args.state args.log.now l.domain) in (
-      omega (arith, c.loop-domain-test.true),
-      rw (add-one l.domain)
-          (wrote_both args.out.now 0 passed next l.invariant.1
-          (rw c.log_of-own.ensures.0 at c.write_domain-next.ensures)),
-    )
+    let next = domain_lines l.domain (log_query_of args.plan args.state args.log.now l.domain) in
+    rw (add-one l.domain)
+    (wrote_both args.out.now 0 passed next l.invariant (rw c.log_of-own.ensures.0 at c.write_domain-next.ensures))
 
 pub returns : goal.returns
 returns c =
@@ -57,4 +54,4 @@ returns c =
     let args = c.args in
     let all : l.domain ≡ args.plan.domains = omega arith in
     let lines = seen_lines args.plan args.state args.log.now in
-    subst (λ (n : ℕ). Wrote args.out.now 0 (lines n) l.out l.next) all l.invariant.1
+    subst (λ (n : ℕ). Wrote args.out.now 0 (lines n) l.out l.next) all l.invariant

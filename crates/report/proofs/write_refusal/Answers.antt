@@ -5,4 +5,4 @@ use Rattle.report.proofs.write_refusal.Goals as goal
 
 pub returns : goal.returns
 unfolding bytes_of refusal_line
-returns c = c.write_pair.ensures
+returns c = rw c.from.ensures at c.write_pair.ensures

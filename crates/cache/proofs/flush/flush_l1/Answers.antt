@@ -1,25 +1,25 @@
 -- `flush_l1` meets its contract: the count is taken before the part is emptied. Assumes nothing.
-use Prim.Native.Nat.{◌≤◌}
 use native.Mathlib.Omega.{arith}
+use Rattle.lists.specs.Part.{part}
 use Rattle.cache.specs.Flush.{dirty_lines, l1_flushed, l1_flush_ticks}
 use Rattle.cache.specs.Lines.{is_dirty, l1_length}
-use Rattle.cache.proofs.Emptied.{flush_outcome}
 use Rattle.cache.proofs.Ticks.{count_part_limit}
+use Rattle.cache.proofs.Emptied.{emptied_part}
 use Rattle.cache.proofs.flush.flush_l1.Goals as goal
 
 pub overflow_mul-result : goal.overflow_mul-result
-overflow_mul-result c = omega (arith, (let it : c.count_dirty-dirty.result ≤ l1_length = rw c.count_dirty-dirty.ensures (count_part_limit is_dirty 0 l1_length _) in it))
+unfolding part
+overflow_mul-result c =
+    omega (arith, c.count_over-dirty.ensures, count_part_limit is_dirty 0 l1_length c.args.table.now)
 
 pub overflow_add-result : goal.overflow_add-result
-overflow_add-result c = omega (arith, (let it : c.count_dirty-dirty.result ≤ l1_length = rw c.count_dirty-dirty.ensures (count_part_limit is_dirty 0 l1_length _) in it))
+unfolding part
+overflow_add-result c =
+    omega (arith, c.count_over-dirty.ensures, count_part_limit is_dirty 0 l1_length c.args.table.now)
 
 pub returns : goal.returns
-unfolding dirty_lines l1_flushed l1_flush_ticks
+unfolding dirty_lines l1_flushed l1_flush_ticks part
 returns c =
-    let start = c in
-    let counted = c.count_dirty-dirty in
-    let emptied = c.empty in
-    let outcome =
-    flush_outcome is_dirty 0 l1_length counted.result emptied.new.entries start.args.table.now
-    (omega (arith, start.requires)) counted.ensures emptied.ensures in
-    (rw outcome.0, outcome.1)
+    let table = c.args.table.now in
+    let emptied = c.fill.ensures.after (λ number is. is) in
+    (rw c.count_over-dirty.ensures, emptied_part 0 l1_length c.fill.new.self table (omega arith) emptied)

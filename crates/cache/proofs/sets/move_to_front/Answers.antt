@@ -29,30 +29,30 @@ pub returns-then-held-entry : goal.returns-then-held-entry
 returns-then-held-entry c =
     let args = c.args in
     let l = c.loop-way in
-    let many = here-length args.entry l.way args.set.now l.set l.invariant.0 l.invariant.1 in
-    let within : l.way < length args.set.now = omega (arith, many) in
-    let here = held-here args.entry l.way args.set.now l.set within l.invariant.1 in
-    let found = use_found args.entry l.way args.set.now within l.invariant.3 (sym here ∙ c.if-held-entry.true) in
-    (found.0, rw (l.invariant.1, l.invariant.2) (shifted_next args.entry l.way args.set.now within) ∙ found.1)
+    let many = here-length args.entry l.way-index args.set.now l.set l.invariant.0 l.invariant.1 in
+    let within : l.way-index < length args.set.now = omega (arith, many) in
+    let here = held-here args.entry l.way-index args.set.now l.set within l.invariant.1 in
+    let found = use_found args.entry l.way-index args.set.now within l.invariant.3 (sym here ∙ c.if-held-entry.true) in
+    (found.0, rw (l.invariant.1, l.invariant.2) (shifted_next args.entry l.way-index args.set.now within) ∙ found.1)
 
 pub loop-way-preserved : goal.loop-way-preserved
 loop-way-preserved c =
     let args = c.args in
     let l = c.loop-way in
-    let many = here-length args.entry l.way args.set.now l.set l.invariant.0 l.invariant.1 in
-    let within : l.way < length args.set.now = omega (arith, many) in
-    let here = held-here args.entry l.way args.set.now l.set within l.invariant.1 in (
+    let many = here-length args.entry l.way-index args.set.now l.set l.invariant.0 l.invariant.1 in
+    let within : l.way-index < length args.set.now = omega (arith, many) in
+    let here = held-here args.entry l.way-index args.set.now l.set within l.invariant.1 in (
       omega arith,
-      rw (l.invariant.1, l.invariant.2) (shifted_next args.entry l.way args.set.now within),
-      rw l.invariant.1 (shifted_read args.entry l.way args.set.now within),
-      search_next args.entry l.way args.set.now within l.invariant.3 (λ is. c.if-held-entry.false (here ∙ is)),
+      rw (l.invariant.1, l.invariant.2) (shifted_next args.entry l.way-index args.set.now within),
+      rw l.invariant.1 (shifted_read args.entry l.way-index args.set.now within),
+      search_next args.entry l.way-index args.set.now within l.invariant.3 (λ is. c.if-held-entry.false (here ∙ is)),
     )
 
 pub returns : goal.returns
 returns c =
     let args = c.args in
     let l = c.loop-way in
-    let many = here-length args.entry l.way args.set.now l.set l.invariant.0 l.invariant.1 in
-    let all : l.way ≡ length args.set.now = omega (arith, many) in
-    let lacks = use_lacks args.entry l.way args.set.now (omega arith) l.invariant.3 in
+    let many = here-length args.entry l.way-index args.set.now l.set l.invariant.0 l.invariant.1 in
+    let all : l.way-index ≡ length args.set.now = omega (arith, many) in
+    let lacks = use_lacks args.entry l.way-index args.set.now (omega arith) l.invariant.3 in
     (lacks.0, l.invariant.1 ∙ ap (λ (way : ℕ). shifted args.entry way args.set.now) all ∙ lacks.1)

@@ -1,6 +1,6 @@
 -- `move_to_front` meets its contract. The loop's invariant: the ways passed lack the entry and have moved on by one,
 -- and the last of them is carried. Assumes nothing.
-use Prim.Native.Nat.{◌-◌, ◌≤◌}
+use Prim.Native.Nat.{◌≤◌}
 use mathlib.Core.Path.{◌≡◌}
 use mathlib.Core.Bool.{false}
 use mathlib.Core.List.{◌∷◌}
@@ -11,10 +11,7 @@ use Rattle.cache.proofs.sets.move_to_front.Given as goal
 
 abbrev pub invariant-loop-way : goal.invariant-loop-way
 invariant-loop-way l =
-    (l.way ≤ length l.initial.set)
-    × (l.set ≡ shifted l.entry l.way l.initial.set)
-    × (l.carry ≡ get_or (l.entry ∷ l.initial.set) l.way 0)
-    × (has l.entry (take l.way l.initial.set) ≡ false)
-
-abbrev pub decreases-loop-way : goal.decreases-loop-way
-decreases-loop-way l = length l.initial.set - l.way
+    (l.way-index ≤ length l.initial.set)
+    × (l.set ≡ shifted l.entry l.way-index l.initial.set)
+    × (l.carry ≡ get_or (l.entry ∷ l.initial.set) l.way-index 0)
+    × (has l.entry (take l.way-index l.initial.set) ≡ false)

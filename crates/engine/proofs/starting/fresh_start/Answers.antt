@@ -11,5 +11,5 @@ returns-in-Accepted c =
     fresh_started _ _ _ _ _ _ _
     (sym c.in-Accepted.is ∙
     c.check_fresh-verdict.ensures)
-    c.fresh_state.ensures c.empty.ensures
-    c.clear_boxes.ensures
+    c.fresh_state.ensures (c.fill.ensures.after (λ number is. is))
+    (c.fill-in-Accepted.ensures.after (λ number is. is))

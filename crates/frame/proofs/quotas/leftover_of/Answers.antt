@@ -1,29 +1,32 @@
--- `frame::quotas::leftover_of` meets its contract. The loop's invariant: what is left and the whole parts passed make up all
--- windows. Assumes nothing.
-use mathlib.Core.Path.{◌≡◌}
+-- `frame::quotas::leftover_of` meets its contract. Assumes nothing.
+use mathlib.Core.Path.{◌∙◌, ◌≡◌, ap}
+use Prim.Native.Nat.{◌<◌, ◌-◌, ℕ}
 use native.Mathlib.Omega.{arith}
+use lib.ListN.{length}
+use Rattle.std.proofs.Common.{rules}
+use Rattle.std.specs.List.{sum}
 use Rattle.plan.specs.Limits.{most_domains}
-use Rattle.frame.proofs.Counting.{all_passed, none_passed, one_passed, still_there}
+use Rattle.plan.specs.Sums.{sum_to}
+use Rattle.plan.proofs.Sums.{sum_entries}
+use Rattle.frame.specs.Quotas.{entry_of}
 use Rattle.frame.proofs.quotas.leftover_of.Goals as goal
 
-pub loop-domain-init : goal.loop-domain-init
-loop-domain-init c = (omega arith, none_passed _ _, c.requires)
+pub sum-given-requires-clause-fits : goal.sum-given-requires-clause-fits
+sum-given-requires-clause-fits c =
+    let eight : length c.args.wholes ≡ most_domains = search rules in
+    let entries = sum_entries c.args.wholes most_domains eight in
+    let fits : sum c.args.wholes < 4_294_967_296 = omega arith in
+    search (rules, fits)
 
-pub overflow_sub-left : goal.overflow_sub-left
-overflow_sub-left c =
-    let loop = c.loop-domain in
-    still_there _ loop.left loop.domain most_domains _ loop.invariant.1 loop.invariant.2 (omega arith)
+-- what is given out
+given : (c : goal.After-sum-given) → c.sum-given.result ≡ sum_to (entry_of c.args.wholes) most_domains
+given c =
+    let eight : length c.args.wholes ≡ most_domains = search rules in
+    let all : c.sum-given.result ≡ sum c.args.wholes = search rules in
+    all ∙ sum_entries c.args.wholes most_domains eight
 
-pub loop-domain-preserved : goal.loop-domain-preserved
-loop-domain-preserved c =
-    let loop = c.loop-domain in (
-      omega arith,
-      one_passed _ loop.left loop.domain most_domains _ loop.invariant.1 loop.invariant.2 (omega arith),
-      loop.invariant.2,
-    )
+pub overflow_sub-result : goal.overflow_sub-result
+overflow_sub-result c = let entries = given c in omega arith
 
 pub returns : goal.returns
-returns c =
-    let loop = c.loop-domain in
-    let ended : loop.domain ≡ most_domains = omega arith in
-    all_passed _ loop.left loop.domain most_domains _ loop.invariant.1 ended
+returns c = ap (λ (total : ℕ). c.args.count - total) (given c)

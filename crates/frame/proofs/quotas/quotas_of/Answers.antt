@@ -15,13 +15,13 @@ pub total_weight-total-requires : goal.total_weight-total-requires
 total_weight-total-requires c = (taken _ _ c.requires).within
 
 pub loop-domain-init : goal.loop-domain-init
-loop-domain-init c = (omega arith, refl, refl, filled_none _, filled_none _)
+loop-domain-init c = (refl, refl, filled_none _, filled_none _)
 
 pub overflow_mul-parts : goal.overflow_mul-parts
 overflow_mul-parts c =
     let start = c in
     let facts = taken _ _ start.requires in
-    let light = weight_within _ c.loop-domain.domain facts.within c.loop-domain-test.true in
+    let light = weight_within _ c.loop-domain.domain facts.within (omega arith) in
     omega (arith, mul-le-mul facts.most light)
 
 pub nonzero_div-wholes : goal.nonzero_div-wholes
@@ -32,21 +32,20 @@ loop-domain-preserved c =
     let loop = c.loop-domain in
     let start = c in
     let total = c.total_weight-total.ensures in (
-      omega (arith, c.loop-domain-test),
+      simp length-set loop.invariant.0,
       simp length-set loop.invariant.1,
-      simp length-set loop.invariant.2,
       rw (whole_with start.args.count start.args.weights loop.domain _ total)
-          (filled_more _ loop.wholes loop.domain loop.invariant.1 c.loop-domain-test.true loop.invariant.3),
+          (filled_more _ loop.wholes loop.domain loop.invariant.0 (omega arith) loop.invariant.2),
       rw (remainder_with start.args.count start.args.weights loop.domain _ total)
-          (filled_more _ loop.remainders loop.domain loop.invariant.2 c.loop-domain-test.true loop.invariant.4),
+          (filled_more _ loop.remainders loop.domain loop.invariant.1 (omega arith) loop.invariant.3),
     )
 
 pub returns : goal.returns
 returns c domain below =
     let loop = c.loop-domain in
     let ended : loop.domain ≡ most_domains = omega arith in (
-      filled_all _ loop.wholes loop.domain loop.invariant.3 ended domain below,
-      filled_all _ loop.remainders loop.domain loop.invariant.4 ended domain below,
+      filled_all _ loop.wholes loop.domain loop.invariant.2 ended domain below,
+      filled_all _ loop.remainders loop.domain loop.invariant.3 ended domain below,
     )
 
 pub nonzero_rem-remainders : goal.nonzero_rem-remainders

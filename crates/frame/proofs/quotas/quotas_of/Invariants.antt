@@ -2,7 +2,7 @@
 -- Assumes nothing.
 use mathlib.Core.Bool.{cond}
 use mathlib.Core.Path.{◌≡◌}
-use Prim.Native.Nat.{◌-◌, ◌<◌, ◌≤◌, ℕ}
+use Prim.Native.Nat.{◌<◌, ℕ}
 use lib.Dec.{ltb}
 use lib.ListN.{get_or, length}
 use Rattle.plan.specs.Limits.{most_domains}
@@ -11,11 +11,7 @@ use Rattle.frame.proofs.quotas.quotas_of.Given as goal
 
 abbrev pub invariant-loop-domain : goal.invariant-loop-domain
 invariant-loop-domain l =
-    (l.domain ≤ most_domains)
-    × (length l.wholes ≡ most_domains)
+    (length l.wholes ≡ most_domains)
     × (length l.remainders ≡ most_domains)
     × ((index : ℕ) → index < most_domains → get_or l.wholes index 0 ≡ cond (ltb index l.domain) (whole_part l.count l.weights index) 0)
     × ((index : ℕ) → index < most_domains → get_or l.remainders index 0 ≡ cond (ltb index l.domain) (remainder_of l.count l.weights index) 0)
-
-abbrev pub decreases-loop-domain : goal.decreases-loop-domain
-decreases-loop-domain l = most_domains - l.domain

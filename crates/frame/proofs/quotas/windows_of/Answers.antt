@@ -1,24 +1,18 @@
 -- `frame::quotas::windows_of` meets its contract. The loop's invariant: the array is filled for the domains passed.
 -- Assumes nothing.
 use mathlib.Core.Bool.{cond}
-use mathlib.Core.List.{List}
 use mathlib.Core.Path.{◌∙◌, ◌≡◌, ap, refl}
-use Prim.Native.Nat.{◌+◌, ℕ}
+use Prim.Native.Nat.{ℕ}
 use native.Mathlib.Omega.{arith}
 use lib.Dec.{ltb}
 use lib.ListN.{length-set}
 use Rattle.plan.specs.Limits.{most_domains}
-use Rattle.plan.proofs.Sums.{filled_more, filled_none}
+use Rattle.plan.proofs.Sums.{filled_more, filled_none, number_of}
 use Rattle.frame.specs.Quotas.{entry_of, ahead_of}
 use Rattle.frame.proofs.Counting.{filled_all}
 use Rattle.frame.proofs.Shares.{worked_fit, worked_most, worked_windows}
 use Rattle.frame.proofs.Taken.{taken}
 use Rattle.frame.proofs.quotas.windows_of.Goals as goal
-
--- the windows of a domain, from the quotas' parts and the leftover windows
-abbrev rule_of : List ℕ → List ℕ → ℕ → ℕ → ℕ
-rule_of wholes remainders left domain =
-    entry_of wholes domain + cond (ltb (ahead_of (entry_of remainders) domain) left) 1 0
 
 pub leftover_of-left-requires : goal.leftover_of-left-requires
 leftover_of-left-requires c =
@@ -26,7 +20,7 @@ leftover_of-left-requires c =
     worked_fit start.args.count start.args.weights _ _ c.quotas_of-quotas.ensures (taken _ _ start.requires).total
 
 pub loop-domain-init : goal.loop-domain-init
-loop-domain-init c = (omega arith, refl, filled_none _)
+loop-domain-init c = (refl, filled_none _)
 
 pub overflow_add-windows : goal.overflow_add-windows
 overflow_add-windows c =
@@ -34,8 +28,8 @@ overflow_add-windows c =
     let facts = taken _ _ start.requires in
     let most = worked_most start.args.count start.args.weights _ _
     c.quotas_of-quotas.ensures _ c.loop-domain.domain _ _
-    facts.total c.leftover_of-left.ensures c.loop-domain-test.true
-    c.ahead_of-ahead.ensures c.number_of.ensures in
+    facts.total c.leftover_of-left.ensures (omega arith)
+    c.ahead_of-ahead.ensures (c.from.ensures ∙ number_of _) in
     omega (arith, facts.most)
 
 pub loop-domain-preserved : goal.loop-domain-preserved
@@ -43,11 +37,10 @@ loop-domain-preserved c =
     let loop = c.loop-domain in
     let left = c.leftover_of-left.result in
     let remainders = c.quotas_of-quotas.result.remainders in
-    let more : c.number_of.result ≡ cond (ltb (ahead_of (entry_of remainders) loop.domain) left) 1 0 =
-    c.number_of.ensures ∙ ap (λ (ahead : ℕ). cond (ltb ahead left) 1 0) c.ahead_of-ahead.ensures in (
-      omega (arith, c.loop-domain-test),
-      simp length-set loop.invariant.1,
-      rw more (filled_more _ loop.windows loop.domain loop.invariant.1 c.loop-domain-test.true loop.invariant.2),
+    let more : c.from.result ≡ cond (ltb (ahead_of (entry_of remainders) loop.domain) left) 1 0 =
+    c.from.ensures ∙ number_of _ ∙ ap (λ (ahead : ℕ). cond (ltb ahead left) 1 0) c.ahead_of-ahead.ensures in (
+      simp length-set loop.invariant.0,
+      rw more (filled_more _ loop.windows loop.domain loop.invariant.0 (omega arith) loop.invariant.1),
     )
 
 pub returns : goal.returns
@@ -55,7 +48,7 @@ returns c domain below =
     let loop = c.loop-domain in
     let start = c in
     let ended : loop.domain ≡ most_domains = omega arith in
-    filled_all _ loop.windows loop.domain loop.invariant.2 ended domain below
+    filled_all _ loop.windows loop.domain loop.invariant.1 ended domain below
     ∙ worked_windows start.args.count start.args.weights _ _ c.quotas_of-quotas.ensures _ domain
     c.leftover_of-left.ensures below
 

@@ -1,7 +1,7 @@
 -- `frame::turns::lay_turn` meets its contract. The loop's invariant: the frame has the windows of the domains passed.
 -- Assumes nothing.
 use mathlib.Core.Path.{◌∙◌, ◌≡◌, ap, refl}
-use Prim.Native.Nat.{◌+◌, ◌≤◌, ℕ}
+use Prim.Native.Nat.{ℕ}
 use native.Mathlib.Omega.{arith}
 use mathlib.Core.List.{List}
 use lib.ListN.{set}
@@ -14,23 +14,23 @@ use Rattle.frame.proofs.turns.lay_turn.Goals.{then-turn-windows, else-turn-windo
 
 pub loop-domain-init : goal.loop-domain-init
 unfolding turn_windows
-loop-domain-init c = (omega arith, omega arith, refl)
+loop-domain-init c = (omega arith, refl)
 
 pub bounds-frame-next : goal.bounds-frame-next
 bounds-frame-next c =
-    laying_room _ c.args.turn c.loop-domain.domain c.args.first c.loop-domain.next c.args.frame.now c.loop-domain.invariant.1
-    most_windows c.if-turn-windows.true c.loop-domain-test.true c.requires
+    laying_room _ c.args.turn c.loop-domain.domain c.args.first c.loop-domain.next c.args.frame.now c.loop-domain.invariant.0
+    most_windows c.if-turn-windows.true (omega arith) c.requires
 
 pub offset_bounds-frame-next : goal.offset_bounds-frame-next
 offset_bounds-frame-next c =
-    let within = laying_room _ c.args.turn c.loop-domain.domain c.args.first c.loop-domain.next c.args.frame.now c.loop-domain.invariant.1
-    most_windows c.if-turn-windows.true c.loop-domain-test.true c.requires in
+    let within = laying_room _ c.args.turn c.loop-domain.domain c.args.first c.loop-domain.next c.args.frame.now c.loop-domain.invariant.0
+    most_windows c.if-turn-windows.true (omega arith) c.requires in
     omega arith
 
 pub overflow_add-next : goal.overflow_add-next
 overflow_add-next c =
-    let within = laying_room _ c.args.turn c.loop-domain.domain c.args.first c.loop-domain.next c.args.frame.now c.loop-domain.invariant.1
-    most_windows c.if-turn-windows.true c.loop-domain-test.true c.requires in
+    let within = laying_room _ c.args.turn c.loop-domain.domain c.args.first c.loop-domain.next c.args.frame.now c.loop-domain.invariant.0
+    most_windows c.if-turn-windows.true (omega arith) c.requires in
     omega arith
 
 pub loop-domain-preserved : goal.loop-domain-preserved
@@ -38,19 +38,16 @@ loop-domain-preserved c =
     let loop = c.loop-domain in
     let start = c in
     let windows = entry_of start.args.windows.now in
-    let below : loop.domain + 1 ≤ most_domains = omega (arith, c.loop-domain-test) in
     elim c.if-turn-windows.branch [
       | then-turn-windows w ↦ (
-        below,
-        w.next-is ∙ laid_index windows start.args.turn loop.domain _ loop.next start.args.frame.now loop.invariant.1 w.if-turn-windows.true,
-        w.frame-is ∙ ap (λ (frame : List ℕ). set frame loop.next loop.domain) loop.invariant.2
-            ∙ laid_frame windows start.args.turn loop.domain _ loop.next start.args.frame.now loop.invariant.1 w.if-turn-windows.true,
+        w.next-is ∙ laid_index windows start.args.turn loop.domain _ loop.next start.args.frame.now loop.invariant.0 w.if-turn-windows.true,
+        w.frame-is ∙ ap (λ (frame : List ℕ). set frame loop.next loop.domain) loop.invariant.1
+            ∙ laid_frame windows start.args.turn loop.domain _ loop.next start.args.frame.now loop.invariant.0 w.if-turn-windows.true,
       )
       | else-turn-windows w ↦ (
-        below,
-        w.next-is ∙ skipped_index windows start.args.turn loop.domain _ loop.next start.args.frame.now loop.invariant.1 w.if-turn-windows.false,
-        w.frame-is ∙ loop.invariant.2
-            ∙ skipped_frame windows start.args.turn loop.domain _ loop.next start.args.frame.now loop.invariant.1 w.if-turn-windows.false,
+        w.next-is ∙ skipped_index windows start.args.turn loop.domain _ loop.next start.args.frame.now loop.invariant.0 w.if-turn-windows.false,
+        w.frame-is ∙ loop.invariant.1
+            ∙ skipped_frame windows start.args.turn loop.domain _ loop.next start.args.frame.now loop.invariant.0 w.if-turn-windows.false,
       )
     ]
 
@@ -58,4 +55,4 @@ pub returns : goal.returns
 returns c =
     let loop = c.loop-domain in
     let ended : loop.domain ≡ most_domains = omega arith in
-    (rw (← ended) loop.invariant.1, rw (← ended) loop.invariant.2)
+    (rw (← ended) loop.invariant.0, rw (← ended) loop.invariant.1)

@@ -15,7 +15,7 @@ use Rattle.frame.proofs.turns.lay_turns.Goals as goal
 
 pub loop-turn-init : goal.loop-turn-init
 unfolding first_turns
-loop-turn-init c = (omega arith, refl, refl)
+loop-turn-init c = (refl, refl)
 
 pub lay_turn-next-requires : goal.lay_turn-next-requires
 lay_turn-next-requires c =
@@ -23,7 +23,7 @@ lay_turn-next-requires c =
     let start = c in
     let windows = entry_of start.args.windows in
     let longer = turns_longer windows loop.turn in
-    let within = turns_grow windows (loop.turn + 1) start.args.turns (omega (arith, c.loop-turn-test)) in
+    let within = turns_grow windows (loop.turn + 1) start.args.turns (omega arith) in
     omega (arith, start.requires, loop.invariant)
 
 pub loop-turn-preserved : goal.loop-turn-preserved
@@ -31,10 +31,9 @@ loop-turn-preserved c =
     let loop = c.loop-turn in
     let windows = entry_of c.args.windows in
     let longer = turns_longer windows loop.turn in (
-      omega (arith, c.loop-turn-test),
       omega (arith, c.lay_turn-next.ensures.0, loop.invariant),
       c.lay_turn-next.ensures.1
-          ∙ ap₂ (λ (frame : List ℕ) (next : ℕ). sets frame next (turn_windows windows loop.turn most_domains)) loop.invariant.2 loop.invariant.1
+          ∙ ap₂ (λ (frame : List ℕ) (next : ℕ). sets frame next (turn_windows windows loop.turn most_domains)) loop.invariant.1 loop.invariant.0
           ∙ turns_stored windows loop.turn (replicate most_windows 0),
     )
 
@@ -43,6 +42,6 @@ returns c =
     let loop = c.loop-turn in
     let start = c in
     let ended : loop.turn ≡ start.args.turns = omega arith in
-    loop.invariant.2
+    loop.invariant.1
     ∙ ap (λ (turns : ℕ). sets (replicate most_windows 0) 0 (first_turns (entry_of start.args.windows) turns)) ended
     ∙ stored_in_zeros most_windows _ start.requires

@@ -1,7 +1,6 @@
 -- `frame::turns::lay_turns` meets its contract. The loop's invariant: zeros, with the turns so far stored into them.
 -- Assumes nothing.
 use mathlib.Core.Path.{◌≡◌}
-use Prim.Native.Nat.{◌-◌, ◌≤◌}
 use lib.ListN.{length, replicate}
 use lib.Seq.{sets}
 use Rattle.plan.specs.Limits.{most_windows}
@@ -11,9 +10,5 @@ use Rattle.frame.proofs.turns.lay_turns.Given as goal
 
 abbrev pub invariant-loop-turn : goal.invariant-loop-turn
 invariant-loop-turn l =
-    (l.turn ≤ l.turns)
-    × (l.next ≡ length (first_turns (entry_of l.windows) l.turn))
+    (l.next ≡ length (first_turns (entry_of l.windows) l.turn))
     × (l.frame ≡ sets (replicate most_windows 0) 0 (first_turns (entry_of l.windows) l.turn))
-
-abbrev pub decreases-loop-turn : goal.decreases-loop-turn
-decreases-loop-turn l = l.turns - l.turn

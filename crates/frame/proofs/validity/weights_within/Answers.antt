@@ -1,28 +1,25 @@
--- `frame::validity::weights_within` meets its contract. The loop's invariant: every weight passed is within the limit.
--- Assumes nothing.
-use mathlib.Core.Path.{◌∙◌, ◌≡◌, ap, refl, sym}
-use native.Mathlib.Omega.{arith}
-use borrow.Author.Tests.{le-leb, lt-leb}
+-- `frame::validity::weights_within` meets its contract. Assumes nothing.
+use mathlib.Core.Bool.{Bool}
+use mathlib.Core.Path.{◌∙◌, ◌≡◌}
+use Prim.Native.Nat.{ℕ}
+use lib.Dec.{leb}
+use lib.ListN.{length}
+use borrow.Author.Tests.{tests}
+use Rattle.std.proofs.Common.{rules}
+use Rattle.std.specs.List.{list_all}
+use Rattle.std.proofs.lemmas.Iterator.{YieldsList-from_slice}
+use Rattle.std.proofs.lemmas.Iterator.Search.{all_from_yields_List}
 use Rattle.plan.specs.Limits.{most_domains}
-use Rattle.plan.specs.Sums.{all_below}
-use Rattle.plan.proofs.Sums.{all_below_fails, all_below_more}
+use Rattle.plan.proofs.Sums.{all_entries}
 use Rattle.frame.specs.Frame.{weights_within}
+use Rattle.frame.specs.Limits.{most_weight}
 use Rattle.frame.proofs.validity.weights_within.Goals as goal
-
-pub loop-domain-init : goal.loop-domain-init
-unfolding all_below
-loop-domain-init c = (omega arith, refl)
-
-pub returns-then-weights-domain-gt-MOST_WEIGHT : goal.returns-then-weights-domain-gt-MOST_WEIGHT
-unfolding weights_within
-returns-then-weights-domain-gt-MOST_WEIGHT c = all_below_fails _ most_domains c.loop-domain.domain c.loop-domain-test.true (lt-leb _ _ c.if-weights-domain-gt-MOST_WEIGHT.true)
-
-pub loop-domain-preserved : goal.loop-domain-preserved
-loop-domain-preserved c =
-    let loop = c.loop-domain in
-    (omega (arith, c.loop-domain-test), all_below_more _ loop.domain loop.invariant.1 (le-leb _ _ c.if-weights-domain-gt-MOST_WEIGHT.false))
 
 pub returns : goal.returns
 unfolding weights_within
 returns c =
-    let ended : c.loop-domain.domain ≡ most_domains = omega arith in sym c.loop-domain.invariant.1 ∙ ap (all_below _) ended
+    let eight : length c.args.weights ≡ most_domains = search rules in
+    let light : ℕ → Bool = λ weight. leb weight most_weight in
+    let all : c.all.result ≡ list_all light c.args.weights =
+    all_from_yields_List light _ _ c.all.result c.all.ensures.ran (YieldsList-from_slice c.args.weights cc) (λ weight within after call. search (rules, tests)) in
+    all ∙ all_entries light c.args.weights most_domains eight

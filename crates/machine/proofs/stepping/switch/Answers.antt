@@ -10,7 +10,7 @@ overflow_add-begun c =
     let l1 = c.flush_l1-l1.ensures in
     let touch = c.access-touch.ensures in
     let flushes = flushes_most _ _ _ _ _ _ _ kernel.0 kernel.1 l1.0 l1.1 touch.1 touch.3 in
-    omega (arith, flushes, c.later-begun.ensures, c.requires)
+    omega (arith, flushes, c.max-begun.ensures, c.requires)
 
 pub overflow_add-begun-2 : goal.overflow_add-begun-2
 overflow_add-begun-2 c =
@@ -18,7 +18,7 @@ overflow_add-begun-2 c =
     let l1 = c.flush_l1-l1.ensures in
     let touch = c.access-touch.ensures in
     let flushes = flushes_most _ _ _ _ _ _ _ kernel.0 kernel.1 l1.0 l1.1 touch.1 touch.3 in
-    omega (arith, flushes, c.later-begun.ensures, c.requires)
+    omega (arith, flushes, c.max-begun.ensures, c.requires)
 
 pub overflow_add-begun-3 : goal.overflow_add-begun-3
 overflow_add-begun-3 c =
@@ -27,14 +27,14 @@ overflow_add-begun-3 c =
     let touch = c.access-touch.ensures in
     let flushes = flushes_most _ _ _ _ _ _ _ kernel.0 kernel.1 l1.0 l1.1 touch.1 touch.3 in
     let touches = touches_most _ _ _ _ _ _ _ kernel.0 kernel.1 l1.0 l1.1 touch.1 touch.3 in
-    omega (arith, flushes, touches, c.later-begun.ensures, c.requires)
+    omega (arith, flushes, touches, c.max-begun.ensures, c.requires)
 
 pub returns : goal.returns
 returns c =
     let kernel = c.flush_kernel-kernel.ensures in
     let l1 = c.flush_l1-l1.ensures in
     let touch = c.access-touch.ensures in (
-      switch_clocks _ _ _ _ _ _ _ kernel.0 kernel.1 l1.0 l1.1 touch.1 touch.3 _ _ _ _ _ c.later-begun.ensures
-          c.later.ensures,
+      switch_clocks _ _ _ _ _ _ _ kernel.0 kernel.1 l1.0 l1.1 touch.1 touch.3 _ _ _ _ _ c.max-begun.ensures
+          c.max.ensures,
       switch_leaves _ _ _ _ _ _ _ kernel.0 kernel.1 l1.0 l1.1 touch.1 touch.3 _ _ c.settle.ensures,
     )

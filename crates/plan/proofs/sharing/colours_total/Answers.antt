@@ -12,10 +12,7 @@ use Rattle.plan.proofs.sharing.colours_total.Goals as goal
 
 pub loop-i-init : goal.loop-i-init
 unfolding sum_to
-loop-i-init c = (omega arith, refl, c.requires.0)
-
-pub colours_of-colours-requires : goal.colours_of-colours-requires
-colours_of-colours-requires c = c.requires.1 _ (omega arith)
+loop-i-init c = refl
 
 pub overflow_add-colours : goal.overflow_add-colours
 overflow_add-colours c =
@@ -28,14 +25,9 @@ overflow_add-colours c =
 
 pub loop-i-preserved : goal.loop-i-preserved
 loop-i-preserved c =
-    let loop = c.loop-i in (
-      omega arith,
-      ap (λ (n : ℕ). loop.colours + n) c.colours_of-colours.ensures ∙ sum_more _ _ loop.i loop.invariant.1,
-      loop.invariant.2,
-    )
+    let loop = c.loop-i in
+    ap (λ (n : ℕ). loop.colours + n) c.colours_of-colours.ensures ∙ sum_more _ _ loop.i loop.invariant
 
 pub returns : goal.returns
 unfolding first_colour
-returns c =
-    let ended : c.loop-i.i ≡ c.args.plan.domains = omega arith in
-    c.loop-i.invariant.1 ∙ ap (sum_to _) ended
+returns c = let ended : c.loop-i.i ≡ c.args.plan.domains = omega arith in c.loop-i.invariant ∙ ap (sum_to _) ended

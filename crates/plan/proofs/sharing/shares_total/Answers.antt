@@ -11,7 +11,7 @@ use Rattle.plan.proofs.sharing.shares_total.Goals as goal
 
 pub loop-i-init : goal.loop-i-init
 unfolding sum_to
-loop-i-init c = (omega arith, refl, c.requires.0)
+loop-i-init c = refl
 
 pub overflow_add-total : goal.overflow_add-total
 overflow_add-total c =
@@ -22,10 +22,8 @@ overflow_add-total c =
     omega (arith, pre.1 loop.i (omega arith))
 
 pub loop-i-preserved : goal.loop-i-preserved
-loop-i-preserved c = (omega arith, sum_more _ _ c.loop-i.i c.loop-i.invariant.1, c.loop-i.invariant.2)
+loop-i-preserved c = sum_more _ _ c.loop-i.i c.loop-i.invariant
 
 pub returns : goal.returns
 unfolding shares_total
-returns c =
-    let ended : c.loop-i.i ≡ c.args.plan.domains = omega arith in
-    c.loop-i.invariant.1 ∙ ap (sum_to _) ended
+returns c = let ended : c.loop-i.i ≡ c.args.plan.domains = omega arith in c.loop-i.invariant ∙ ap (sum_to _) ended

@@ -9,13 +9,10 @@ use Rattle.plan.proofs.timing.padded_lengths.Goals as goal
 
 pub loop-i-init : goal.loop-i-init
 unfolding sum_to
-loop-i-init c = (omega arith, refl)
-
-pub bounds-lengths-i : goal.bounds-lengths-i
-bounds-lengths-i c = omega (arith, c.requires)
+loop-i-init c = refl
 
 pub overflow_add-total : goal.overflow_add-total
-overflow_add-total c = omega (arith, c.requires.2 c.loop-i.i c.loop-i-test.true, c.requires)
+overflow_add-total c = omega (arith, c.requires.2 c.loop-i.i (omega arith), c.requires)
 
 pub overflow_add-total-in-loop-i : goal.overflow_add-total-in-loop-i
 overflow_add-total-in-loop-i c =
@@ -24,10 +21,10 @@ overflow_add-total-in-loop-i c =
     let rule : ℕ → ℕ = λ slot. get_or start.args.plan.lengths slot 0 + start.args.plan.pad in
     let most : sum_to rule loop.i ≤ 2_000_000 * loop.i =
     sum_most rule 2_000_000 loop.i (λ slot below. omega (arith, start.requires.2 slot (omega arith), start.requires)) in
-    omega (arith, start.requires.2 loop.i c.loop-i-test.true, start.requires, loop.invariant)
+    omega (arith, start.requires.2 loop.i (omega arith), start.requires, loop.invariant)
 
 pub loop-i-preserved : goal.loop-i-preserved
-loop-i-preserved c = (omega arith, sum_more _ _ c.loop-i.i c.loop-i.invariant.1)
+loop-i-preserved c = sum_more _ _ c.loop-i.i c.loop-i.invariant
 
 pub returns : goal.returns
-returns c = let ended : c.loop-i.i ≡ c.args.count = omega arith in c.loop-i.invariant.1 ∙ ap (sum_to _) ended
+returns c = let ended : c.loop-i.i ≡ c.args.count = omega arith in c.loop-i.invariant ∙ ap (sum_to _) ended

@@ -8,20 +8,13 @@ use Rattle.plan.proofs.validity.domains_valid.Goals as goal
 
 pub loop-domain-init : goal.loop-domain-init
 unfolding all_below
-loop-domain-init c = (omega arith, refl)
-
-pub domain_valid-requires : goal.domain_valid-requires
-domain_valid-requires c = (c.loop-domain-test.true, c.requires)
+loop-domain-init c = refl
 
 pub returns-then-not-domain_valid : goal.returns-then-not-domain_valid
-returns-then-not-domain_valid c = all_below_fails _ most_domains c.loop-domain.domain c.loop-domain-test.true (sym c.domain_valid.ensures ∙ c.if-not-domain_valid.true)
+returns-then-not-domain_valid c = all_below_fails _ most_domains c.loop-domain.domain (omega arith) (sym c.domain_valid.ensures ∙ c.if-not-domain_valid.true)
 
 pub loop-domain-preserved : goal.loop-domain-preserved
-loop-domain-preserved c =
-    let loop = c.loop-domain in (
-      omega (arith, c.loop-domain-test),
-      all_below_more _ loop.domain loop.invariant.1 (sym c.domain_valid.ensures ∙ c.if-not-domain_valid.false),
-    )
+loop-domain-preserved c = all_below_more _ c.loop-domain.domain c.loop-domain.invariant (sym c.domain_valid.ensures ∙ c.if-not-domain_valid.false)
 
 pub returns : goal.returns
-returns c = let ended : c.loop-domain.domain ≡ most_domains = omega arith in sym c.loop-domain.invariant.1 ∙ ap (all_below _) ended
+returns c = let ended : c.loop-domain.domain ≡ most_domains = omega arith in sym c.loop-domain.invariant ∙ ap (all_below _) ended

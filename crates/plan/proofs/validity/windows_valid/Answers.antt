@@ -10,12 +10,12 @@ use Rattle.plan.proofs.validity.windows_valid.Goals as goal
 
 pub loop-slot-init : goal.loop-slot-init
 unfolding all_below
-loop-slot-init c = (omega arith, refl)
+loop-slot-init c = refl
 
 pub loop-slot-preserved : goal.loop-slot-preserved
 loop-slot-preserved c =
     let l = c.loop-slot in
-    (omega (arith, c.loop-slot-test), all_below_next (window_valid _) l.slot _ _ l.invariant.1 (c.window_valid-here.ensures _ l.slot refl refl refl refl))
+    all_below_next (window_valid _) l.slot _ _ l.invariant (c.window_valid-valid.ensures _ l.slot refl refl refl refl)
 
 pub returns : goal.returns
-returns c = let ended : c.loop-slot.slot ≡ most_windows = omega arith in c.loop-slot.invariant.1 ∙ ap (all_below _) ended
+returns c = let ended : c.loop-slot.slot ≡ most_windows = omega arith in c.loop-slot.invariant ∙ ap (all_below _) ended

@@ -2,7 +2,7 @@
 -- block passed are sound. Assumes nothing.
 use mathlib.Core.Bool.{true}
 use mathlib.Core.Path.{◌≡◌}
-use Prim.Native.Nat.{◌+◌, ◌-◌, ◌≤◌}
+use Prim.Native.Nat.{◌+◌, ◌≤◌}
 use Rattle.plan.specs.Sums.{all_below}
 use Rattle.state.specs.TableValidity.{set_valid}
 use Rattle.state.proofs.table_validity.block_valid.Given as goal
@@ -10,6 +10,3 @@ use Rattle.state.proofs.table_validity.block_valid.Given as goal
 abbrev pub invariant-loop-set : goal.invariant-loop-set
 invariant-loop-set l =
     (l.set ≤ l.count) × (all_below (λ k. set_valid l.cache (l.first + k)) l.set ≡ true)
-
-abbrev pub decreases-loop-set : goal.decreases-loop-set
-decreases-loop-set l = l.count - l.set

@@ -2,7 +2,7 @@
 -- are sound. Assumes nothing.
 use mathlib.Core.Bool.{true}
 use mathlib.Core.Path.{◌≡◌}
-use Prim.Native.Nat.{◌-◌, ◌≤◌}
+use Prim.Native.Nat.{◌≤◌}
 use Rattle.ops.specs.Ops.{boxes_length}
 use Rattle.state.specs.TableValidity.{box_valid}
 use Rattle.plan.specs.Sums.{all_below}
@@ -13,6 +13,3 @@ abbrev pub invariant-loop-index : goal.invariant-loop-index
 invariant-loop-index l =
     (l.index ≤ boxes_length)
     × ((plan : Plan) → plan.rights ≡ l.rights → all_below (box_valid plan l.boxes) l.index ≡ true)
-
-abbrev pub decreases-loop-index : goal.decreases-loop-index
-decreases-loop-index l = boxes_length - l.index

@@ -2,7 +2,7 @@
 -- nothing.
 use mathlib.Core.Bool.{true}
 use mathlib.Core.Path.{◌≡◌}
-use Prim.Native.Nat.{◌-◌, ◌≤◌}
+use Prim.Native.Nat.{◌≤◌}
 use Rattle.state.specs.TableValidity.{l1_entry_valid}
 use Rattle.state.specs.World.{ended_of, running_of}
 use Rattle.state.specs.declared.State.{State}
@@ -18,6 +18,3 @@ invariant-loop-index l =
     → ended_of plan state ≡ l.ended
     → mask_at plan (running_of plan state) ≡ l.mask
     → all_below (l1_entry_valid plan state l.cache) l.index ≡ true)
-
-abbrev pub decreases-loop-index : goal.decreases-loop-index
-decreases-loop-index l = 16 - l.index

@@ -2,7 +2,7 @@
 use mathlib.Core.Path.{◌∙◌, refl, sym}
 use native.Mathlib.Omega.{arith}
 use lib.ListN.{get_or}
-use Rattle.state.proofs.TableLaws.{line_limits, rest_whole}
+use Rattle.state.proofs.TableLaws.{any_equal, line_limits, rest_whole}
 use Rattle.state.proofs.table_validity.way_valid.Goals as goal
 
 pub returns-then-not-is_line : goal.returns-then-not-is_line
@@ -21,4 +21,4 @@ overflow_cast-result c =
 pub returns : goal.returns
 returns c =
     let line = sym c.is_line.ensures ∙ c.if-not-is_line.false in
-    rw (line, c.has_entry-repeated.ensures, rest_whole) refl
+    rw (line, c.contains-repeated.ensures.value, any_equal (get_or c.args.ways.now c.args.way 0), rest_whole) refl

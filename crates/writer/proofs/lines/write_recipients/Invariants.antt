@@ -1,7 +1,5 @@
 -- `writer::lines::write_recipients` meets its contract. The loop's invariant: the recipients from
 -- the domain on are left to write. Assumes nothing.
-use Prim.Native.Nat.{◌-◌, ◌≤◌}
-use Rattle.plan.specs.Limits.{most_domains}
 use Rattle.writer.specs.Lines.{recipients_of, spaced}
 use Rattle.writer.proofs.Recipients.{recipients_left}
 use Rattle.writer.proofs.Rest.{Writing}
@@ -9,7 +7,4 @@ use Rattle.writer.proofs.lines.write_recipients.Given as goal
 
 abbrev pub invariant-loop-domain : goal.invariant-loop-domain
 invariant-loop-domain l =
-    (l.domain ≤ most_domains) × Writing l.initial.out l.at (spaced (recipients_of l.rights)) (recipients_left l.rights l.domain) l.out l.next
-
-abbrev pub decreases-loop-domain : goal.decreases-loop-domain
-decreases-loop-domain l = most_domains - l.domain
+    Writing l.initial.out l.at (spaced (recipients_of l.rights)) (recipients_left l.rights l.domain) l.out l.next

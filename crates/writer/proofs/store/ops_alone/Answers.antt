@@ -11,49 +11,33 @@ use Rattle.writer.proofs.store.ops_alone.Goals as goal
 
 pub loop-domain-init : goal.loop-domain-init
 unfolding all_below
-loop-domain-init c = (omega arith, refl)
+loop-domain-init c = refl
 
 pub returns-then-not-rest_empty : goal.returns-then-not-rest_empty
 unfolding ops_alone
 returns-then-not-rest_empty c =
-    let at4 = c in
-    let args = at4.args in
+    let args = c.args in
     let declared = args.plan.domains in
     let scripts = args.scripts.now in
-    let loop = at4.loop-domain in
+    let loop = c.loop-domain in
     let found = part_test declared scripts loop.domain _ c.written_ops-ops.ensures.0 in
-    all_below_fails (λ part. all_below (op_or_zero declared scripts part) most_ops) most_domains loop.domain (omega (arith, c.loop-domain-test.true))
+    all_below_fails (λ part. all_below (op_or_zero declared scripts part) most_ops) most_domains loop.domain c.loop-domain-test.true
     (sym found ∙ sym c.rest_empty.ensures ∙ c.if-not-rest_empty.true)
 
 pub loop-domain-preserved : goal.loop-domain-preserved
 loop-domain-preserved c =
-    let at4 = c in
-    let args = at4.args in
+    let args = c.args in
     let declared = args.plan.domains in
     let scripts = args.scripts.now in
-    let loop = at4.loop-domain in
-    let found = part_test declared scripts loop.domain _ c.written_ops-ops.ensures.0 in (
-      omega (arith, c.loop-domain-test.true),
-      all_below_more (λ part. all_below (op_or_zero declared scripts part) most_ops) loop.domain loop.invariant.1
-          (sym found ∙ sym c.rest_empty.ensures ∙ c.if-not-rest_empty.false),
-    )
+    let loop = c.loop-domain in
+    let found = part_test declared scripts loop.domain _ c.written_ops-ops.ensures.0 in
+    all_below_more (λ part. all_below (op_or_zero declared scripts part) most_ops) loop.domain loop.invariant
+    (sym found ∙ sym c.rest_empty.ensures ∙ c.if-not-rest_empty.false)
 
 pub returns : goal.returns
 unfolding ops_alone
 returns c =
     let loop = c.loop-domain in
     let args = c.args in
-    let ended : loop.domain ≡ most_domains = omega (arith, loop.invariant.0, c.loop-domain-test.false) in
-    sym loop.invariant.1 ∙ ap (all_below (λ part. all_below (op_or_zero args.plan.domains args.scripts.now part) most_ops)) ended
-
-pub written_ops-ops-requires : goal.written_ops-ops-requires
-written_ops-ops-requires c = (c.requires, omega (arith, c.loop-domain-test.true))
-
-pub rest_empty-requires : goal.rest_empty-requires
-rest_empty-requires c = (c.requires, omega (arith, c.loop-domain-test.true), c.written_ops-ops.ensures.1)
-
-pub overflow_add-domain : goal.overflow_add-domain
-overflow_add-domain c = omega (arith, c.loop-domain-test.true)
-
-pub loop-domain-smaller : goal.loop-domain-smaller
-loop-domain-smaller c = omega (arith, c.loop-domain-test.true)
+    let ended : loop.domain ≡ most_domains = omega arith in
+    sym loop.invariant ∙ ap (all_below (λ part. all_below (op_or_zero args.plan.domains args.scripts.now part) most_ops)) ended

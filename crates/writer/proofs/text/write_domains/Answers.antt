@@ -6,33 +6,26 @@ use native.Mathlib.Omega.{arith}
 use lib.ListN.{get_or}
 use Rattle.writer.specs.Canonical.{followed, lines_from}
 use Rattle.writer.specs.Lines.{domain_line, domain_text}
-use Rattle.writer.proofs.Rest.{line_room, line_written, lines_begun, lines_written}
+use Rattle.writer.proofs.Rest.{line_room, line_written, lines_written}
 use Rattle.writer.proofs.text.write_domains.Goals as goal
 
 -- the line of an index, by the arrays
 abbrev line : List ℕ → List ℕ → ℕ → List ℕ
 line shares rights = λ (index : ℕ). domain_text index (get_or shares index 0) (get_or rights index 0)
 
-pub loop-domain-init : goal.loop-domain-init
-loop-domain-init c =
-    let plan = c.args.plan in
-    (c.requires.0, lines_begun (line plan.shares plan.rights) plan.domains _ _)
-
 pub write_domain-next-requires : goal.write_domain-next-requires
 unfolding domain_line
 write_domain-next-requires c =
     let loop = c.loop-domain in
     let plan = c.args.plan in
-    let room = line_room (line plan.shares plan.rights) plan.domains loop.domain c.loop-domain-test.true loop.invariant.1 in
+    let room = line_room (line plan.shares plan.rights) plan.domains loop.domain c.loop-domain-test.true loop.invariant in
     omega (arith, room, c.requires.1)
 
 pub loop-domain-preserved : goal.loop-domain-preserved
 loop-domain-preserved c =
     let loop = c.loop-domain in
-    let plan = c.args.plan in (
-      loop.invariant.0,
-      line_written (line plan.shares plan.rights) plan.domains loop.domain c.loop-domain-test.true loop.invariant.1 c.write_domain-next.ensures,
-    )
+    let plan = c.args.plan in
+    line_written (line plan.shares plan.rights) plan.domains loop.domain c.loop-domain-test.true loop.invariant c.write_domain-next.ensures
 
 pub returns : goal.returns
 unfolding domain_line
@@ -40,22 +33,4 @@ returns c =
     let args = c.args in
     let plan = args.plan in
     lines_written (line plan.shares plan.rights) plan.domains c.loop-domain.domain args.out.now args.at
-    (followed (lines_from (line plan.shares plan.rights) plan.domains 0)) c.loop-domain-test.false c.loop-domain.invariant.1
-
-pub overflow_cast-domains : goal.overflow_cast-domains
-overflow_cast-domains c = omega (arith, c.requires.0)
-
-pub overflow_cast-domain : goal.overflow_cast-domain
-overflow_cast-domain c = omega (arith, c.loop-domain.invariant.0, c.loop-domain-test.true)
-
-pub bounds-shares-domain : goal.bounds-shares-domain
-bounds-shares-domain c = omega (arith, c.loop-domain.invariant.0, c.loop-domain-test.true)
-
-pub bounds-rights-domain : goal.bounds-rights-domain
-bounds-rights-domain c = omega (arith, c.loop-domain.invariant.0, c.loop-domain-test.true)
-
-pub overflow_add-domain : goal.overflow_add-domain
-overflow_add-domain c = omega (arith, c.loop-domain.invariant.0, c.loop-domain-test.true)
-
-pub loop-domain-smaller : goal.loop-domain-smaller
-loop-domain-smaller c = omega (arith, c.loop-domain-test.true)
+    (followed (lines_from (line plan.shares plan.rights) plan.domains 0)) c.loop-domain-test.false c.loop-domain.invariant

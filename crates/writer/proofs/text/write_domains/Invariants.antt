@@ -1,9 +1,8 @@
 -- `writer::text::write_domains` meets its contract. The loop's invariant: the lines from the index on are left to
 -- write. Assumes nothing.
 use mathlib.Core.List.{List}
-use Prim.Native.Nat.{ℕ, ◌-◌, ◌≤◌}
+use Prim.Native.Nat.{ℕ}
 use lib.ListN.{get_or}
-use Rattle.plan.specs.Limits.{most_domains}
 use Rattle.writer.specs.Canonical.{followed, lines_from}
 use Rattle.writer.specs.Lines.{domain_text}
 use Rattle.writer.proofs.Rest.{Writing, rest_from}
@@ -15,8 +14,4 @@ line shares rights = λ (index : ℕ). domain_text index (get_or shares index 0)
 
 abbrev pub invariant-loop-domain : goal.invariant-loop-domain
 invariant-loop-domain l =
-    (l.domains ≤ most_domains)
-    × Writing l.initial.out l.at (followed (lines_from (line l.shares l.rights) l.domains 0)) (rest_from (line l.shares l.rights) l.domains l.domain) l.out l.next
-
-abbrev pub decreases-loop-domain : goal.decreases-loop-domain
-decreases-loop-domain l = l.domains - l.domain
+    Writing l.initial.out l.at (followed (lines_from (line l.shares l.rights) l.domains 0)) (rest_from (line l.shares l.rights) l.domains l.domain) l.out l.next

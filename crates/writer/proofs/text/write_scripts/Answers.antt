@@ -2,7 +2,7 @@
 -- left to write. Assumes nothing.
 use native.Mathlib.Omega.{arith}
 use Rattle.writer.specs.Canonical.{followed, op_lines_from}
-use Rattle.writer.proofs.Scripts.{script_room, script_written, scripts_begun, scripts_written}
+use Rattle.writer.proofs.Scripts.{script_room, script_written, scripts_written}
 use Rattle.writer.proofs.text.write_scripts.Goals as goal
 
 pub write_script-next-requires : goal.write_script-next-requires
@@ -26,12 +26,3 @@ returns c =
     let scripts = args.scripts.now in
     scripts_written scripts args.domains loop.domain args.out.now args.at (followed (op_lines_from scripts args.domains 0))
     c.loop-domain-test.false loop.invariant
-
-pub loop-domain-init : goal.loop-domain-init
-loop-domain-init c = scripts_begun _ _ _ _
-
-pub overflow_add-domain : goal.overflow_add-domain
-overflow_add-domain c = omega (arith, c.loop-domain-test.true, c.requires.1)
-
-pub loop-domain-smaller : goal.loop-domain-smaller
-loop-domain-smaller c = omega (arith, c.loop-domain-test.true)

@@ -1,9 +1,8 @@
 -- `writer::text::write_windows` meets its contract. The loop's invariant: the lines from the index on are left to
 -- write. Assumes nothing.
 use mathlib.Core.List.{List}
-use Prim.Native.Nat.{ℕ, ◌-◌, ◌≤◌}
+use Prim.Native.Nat.{ℕ}
 use lib.ListN.{get_or}
-use Rattle.plan.specs.Limits.{most_windows}
 use Rattle.writer.specs.Canonical.{followed, lines_from}
 use Rattle.writer.specs.Lines.{window_text}
 use Rattle.writer.proofs.Rest.{Writing, rest_from}
@@ -15,8 +14,4 @@ line owners lengths = λ (slot : ℕ). window_text (get_or owners slot 0) (get_o
 
 abbrev pub invariant-loop-slot : goal.invariant-loop-slot
 invariant-loop-slot l =
-    (l.windows ≤ most_windows)
-    × Writing l.initial.out l.at (followed (lines_from (line l.owners l.lengths) l.windows 0)) (rest_from (line l.owners l.lengths) l.windows l.slot) l.out l.next
-
-abbrev pub decreases-loop-slot : goal.decreases-loop-slot
-decreases-loop-slot l = l.windows - l.slot
+    Writing l.initial.out l.at (followed (lines_from (line l.owners l.lengths) l.windows 0)) (rest_from (line l.owners l.lengths) l.windows l.slot) l.out l.next

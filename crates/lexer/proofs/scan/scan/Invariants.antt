@@ -1,0 +1,11 @@
+-- `lexer::scan::scan` meets its contract: from the offset reached the walk goes on as it would from
+-- the first. Assumes nothing.
+use Rattle.std.proofs.Common.{ℕ, Bool, ◌≡◌, ◌<◌}
+use Rattle.lexer.specs.Scan.{scan_of}
+use Rattle.lexer.proofs.scan.scan.Given as goal
+
+abbrev pub invariant-loop-here : goal.invariant-loop-here
+invariant-loop-here g l =
+    (stops : ℕ → Bool)
+    → ((byte : ℕ) (ended : Bool) → byte < 256 → goal.F-post g l.ends byte ended → ended ≡ stops byte)
+    → scan_of stops l.text l.here ≡ scan_of stops l.text l.at
