@@ -44,17 +44,11 @@ pub enum Form {
     Refused(Refusal),
 }
 
-// A form and the offset past what stands within its brackets, or the refusal.
-#[derive(Drop)]
-pub enum FormParse {
-    Form { form: Form, end: usize },
-    Refused(Refusal),
-}
-
-// The same of a domain form, which notes the recipients that it names.
-#[derive(Drop)]
+// A domain form and the offset past what stands within its brackets, or the refusal; beside
+// either the recipients that it names.
+#[derive(Clone, Copy)]
 pub struct DomainParse {
-    pub parse: FormParse,
+    pub parse: Result<(Form, usize), Refusal>,
     // where the text up to there first names each domain as a recipient, plus one; else 0
     pub named: [usize; 8],
 }

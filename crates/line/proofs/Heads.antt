@@ -10,15 +10,15 @@ use Rattle.forms.specs.declared.Form.{Form}
 use Rattle.forms.specs.declared.Form.TheVariants.{Blank, Pad, Run, Domain, Window}
 use Rattle.forms.specs.declared.Form.TheVariants.{Op as Script, Refused as NoForm}
 use Rattle.forms.specs.declared.OpLine.{OpLine}
-use Rattle.forms.specs.Forms.{declared_domain, op_form}
+use Rattle.forms.specs.Forms.{declared_domain, domain_form, op_form, pad_form, run_form, window_form}
 use Rattle.lexer.specs.declared.Token.{Token}
 use Rattle.lexer.specs.Tokens.{line_end_kind, open_kind, token_at, token_kind, token_start}
 use Rattle.refusal.specs.declared.Refusal.{Refusal}
 use Rattle.refusal.specs.declared.Refusal.TheVariants.{BrokenShape}
 use Rattle.syntax.proofs.ByKeyword.{by_keyword}
-use Rattle.syntax.specs.declared.KeywordParse.{KeywordParse}
-use Rattle.syntax.specs.declared.KeywordParse.TheVariants.{First, Second, Third, Fourth, Fifth}
-use Rattle.syntax.specs.declared.KeywordParse.TheVariants.{Refused as RefusedKeyword}
+use Rattle.syntax.specs.declared.FormWord.{FormWord}
+use Rattle.syntax.specs.declared.FormWord.TheVariants.{Pad as PadWord, Run as RunWord, Domain as DomainWord}
+use Rattle.syntax.specs.declared.FormWord.TheVariants.{Window as WindowWord, Op as OpWord}
 use Rattle.syntax.specs.Brackets.{bracketed_op}
 use Rattle.syntax.specs.Ops.{then_op}
 use Rattle.syntax.specs.Keywords.{form_words, keyword_at}
@@ -27,7 +27,7 @@ use Rattle.line.specs.declared.Head.TheVariants.{Plain}
 use Rattle.line.specs.declared.Line.{Line}
 use Rattle.line.specs.declared.PlainHead.TheVariants.{Blank as NoToken, Refused}
 use Rattle.line.specs.Heads.{closed_end, form_head, head_at, head_line, word_head}
-use Rattle.line.specs.Lines.{form_keywords, form_line, line_at, line_with, refused_line}
+use Rattle.line.specs.Lines.{closed_line, form_keywords, form_line, line_at, line_with, noted_line, refused_line}
 use Rattle.syntax.specs.declared.Numeral.{Numeral}
 use Rattle.script.specs.declared.Op.{Op}
 
@@ -39,15 +39,23 @@ module _ (text : List ℕ) (declared : ℕ) (named : List ℕ) where
   unfolding form_line form_keywords form_head
   form_by_head bracket = go (keyword_at form_words text (bracket + 1)) refl
     where
-      go : (keyword : KeywordParse) → keyword_at form_words text (bracket + 1) ≡ keyword
+      -- what follows a form's word
+      follow : FormWord → ℕ → Line
+      follow PadWord at = closed_line text bracket named (pad_form text at)
+      follow RunWord at = closed_line text bracket named (run_form text at)
+      follow DomainWord at = noted_line text bracket (domain_form text declared named at)
+      follow WindowWord at = closed_line text bracket named (window_form text declared at)
+      follow OpWord at = closed_line text bracket named (op_form text declared at)
+
+      go : (keyword : Result (FormWord × ℕ) Refusal) → keyword_at form_words text (bracket + 1) ≡ keyword
           → form_line text declared named bracket
           ≡ head_line text declared named (word_head bracket keyword)
-      go (First inside) is = sym (by_keyword _ _ _ _ _ _ _ _ refl is refl)
-      go (Second inside) is = sym (by_keyword _ _ _ _ _ _ _ _ refl is refl)
-      go (Third inside) is = sym (by_keyword _ _ _ _ _ _ _ _ refl is refl)
-      go (Fourth inside) is = sym (by_keyword _ _ _ _ _ _ _ _ refl is refl)
-      go (Fifth inside) is = sym (by_keyword _ _ _ _ _ _ _ _ refl is refl)
-      go (RefusedKeyword refusal) is = sym (by_keyword _ _ _ _ _ _ _ _ refl is refl)
+      go (Ok (PadWord, inside)) is = sym (by_keyword (refused_line bracket named) follow form_words _ _ refl is refl)
+      go (Ok (RunWord, inside)) is = sym (by_keyword (refused_line bracket named) follow form_words _ _ refl is refl)
+      go (Ok (DomainWord, inside)) is = sym (by_keyword (refused_line bracket named) follow form_words _ _ refl is refl)
+      go (Ok (WindowWord, inside)) is = sym (by_keyword (refused_line bracket named) follow form_words _ _ refl is refl)
+      go (Ok (OpWord, inside)) is = sym (by_keyword (refused_line bracket named) follow form_words _ _ refl is refl)
+      go (Err refusal) is = sym (by_keyword (refused_line bracket named) follow form_words _ _ refl is refl)
 
   -- the line at an offset is the line of its beginning
   pub line_by_head : (at : ℕ)

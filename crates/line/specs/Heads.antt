@@ -4,9 +4,9 @@
 use Rattle.std.specs.Prelude.{ℕ, ◌+◌, cond, List, eqb, Result, Ok, Err}
 use Rattle.forms.specs.declared.Form.TheVariants.{Blank, Op as Script}
 use Rattle.forms.specs.Forms.{domain_form, op_form, pad_form, run_form, window_form}
-use Rattle.syntax.specs.declared.KeywordParse.{KeywordParse}
-use Rattle.syntax.specs.declared.KeywordParse.TheVariants.{First, Second, Third, Fourth, Fifth}
-use Rattle.syntax.specs.declared.KeywordParse.TheVariants.{Refused as RefusedKeyword}
+use Rattle.syntax.specs.declared.FormWord.{FormWord}
+use Rattle.syntax.specs.declared.FormWord.TheVariants.{Pad as PadWord, Run as RunWord, Domain as DomainWord}
+use Rattle.syntax.specs.declared.FormWord.TheVariants.{Window as WindowWord, Op as OpWord}
 use Rattle.syntax.specs.Keywords.{form_words, keyword_at}
 use Rattle.syntax.specs.Tokens.{due, pass_close, pass_line_end, then}
 use Rattle.lexer.specs.declared.Token.{Token}
@@ -24,13 +24,13 @@ use Rattle.refusal.specs.declared.Refusal.{Refusal}
 -- ---- the beginning of a line
 
 -- by the word that was found past the bracket
-abbrev pub word_head : ℕ → KeywordParse → Head
-word_head bracket (First inside) = Plain (Pad bracket inside)
-word_head bracket (Second inside) = Plain (Run bracket inside)
-word_head bracket (Third inside) = Plain (Domain bracket inside)
-word_head bracket (Fourth inside) = Plain (Window bracket inside)
-word_head bracket (Fifth inside) = Op bracket inside
-word_head bracket (RefusedKeyword refusal) = Plain (Refused bracket refusal)
+abbrev pub word_head : ℕ → Result (FormWord × ℕ) Refusal → Head
+word_head bracket (Ok (PadWord, inside)) = Plain (Pad bracket inside)
+word_head bracket (Ok (RunWord, inside)) = Plain (Run bracket inside)
+word_head bracket (Ok (DomainWord, inside)) = Plain (Domain bracket inside)
+word_head bracket (Ok (WindowWord, inside)) = Plain (Window bracket inside)
+word_head bracket (Ok (OpWord, inside)) = Op bracket inside
+word_head bracket (Err refusal) = Plain (Refused bracket refusal)
 
 -- past an opening bracket
 unfoldable pub form_head : List ℕ → ℕ → Head

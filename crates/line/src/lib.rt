@@ -11,12 +11,12 @@ use forms::domains::domain_form;
 use forms::op_lines::op_form;
 use forms::pad_and_run::{pad_form, run_form};
 use forms::windows::window_form;
-use forms::{DomainParse, Form, FormParse, OpLine};
+use forms::{DomainParse, Form, OpLine};
 use lexer::{Lookahead, first_in_line, lookahead_start};
 use refusal::Refusal;
 use syntax::keywords::form_keyword_at;
 use syntax::tokens::{pass_close, pass_line_end};
-use syntax::{KeywordParse, TokenParse};
+use syntax::FormWord;
 
 // A line's form, the offset of its first bracket, and the offset of its end.
 #[derive(Drop)]
@@ -50,26 +50,22 @@ pub enum PlainHead {
     Window { bracket: usize, inside: usize },
 }
 
-// An op line past its word: what it says and the offset of its end, or the refusal.
-#[derive(Drop)]
-pub enum OpLineParse {
-    Op { line: OpLine, end: usize },
-    Refused(Refusal),
-}
-
 // The beginning of a line past its opening bracket, by the word that stands there.
+#[tactic(auto, unfolding(crate::specs::Heads::form_head))]
 fn form_head(text: &[u8], bracket: usize) -> Head
     requires { bracket + 1 < 2 ^ 64 }
     ensures { result ≡ form_head text.now bracket }
 {
-    let keyword = form_keyword_at(text, bracket + 1);
-    match keyword {
-        KeywordParse::First(inside) => Head::Plain(PlainHead::Pad { bracket, inside }),
-        KeywordParse::Second(inside) => Head::Plain(PlainHead::Run { bracket, inside }),
-        KeywordParse::Third(inside) => Head::Plain(PlainHead::Domain { bracket, inside }),
-        KeywordParse::Fourth(inside) => Head::Plain(PlainHead::Window { bracket, inside }),
-        KeywordParse::Fifth(inside) => Head::Op { bracket, inside },
-        KeywordParse::Refused(refusal) => Head::Plain(PlainHead::Refused { bracket, refusal }),
+    let (word, inside) = match form_keyword_at(text, bracket + 1) {
+        Ok(found) => found,
+        Err(refusal) => return Head::Plain(PlainHead::Refused { bracket, refusal }),
+    };
+    match word {
+        FormWord::Pad => Head::Plain(PlainHead::Pad { bracket, inside }),
+        FormWord::Run => Head::Plain(PlainHead::Run { bracket, inside }),
+        FormWord::Domain => Head::Plain(PlainHead::Domain { bracket, inside }),
+        FormWord::Window => Head::Plain(PlainHead::Window { bracket, inside }),
+        FormWord::Op => Head::Op { bracket, inside },
     }
 }
 
@@ -92,40 +88,28 @@ pub fn head_at(text: &[u8], at: usize) -> Head
 }
 
 // A form's closing bracket and the line's end.
-fn closed_end(text: &[u8], at: usize) -> TokenParse
+#[tactic(auto, unfolding(crate::specs::Heads::closed_end))]
+fn closed_end(text: &[u8], at: usize) -> Result<usize, Refusal>
     ensures { result ≡ closed_end text.now at }
 {
-    let closing = pass_close(text, at);
-    match closing {
-        TokenParse::To(closed) => pass_line_end(text, closed),
-        TokenParse::Refused(refusal) => TokenParse::Refused(refusal),
-    }
+    let closed = pass_close(text, at)?;
+    pass_line_end(text, closed)
 }
 
-// An op line past its word, with `declared` domains above it. It is the line of any bracket, and it
-// leaves what is named as it was.
-pub fn op_line(text: &[u8], declared: u32, inside: usize) -> OpLineParse
+// An op line past its word, with `declared` domains above it: what it says and the offset of its
+// end. It is the line of any bracket, and it leaves what is named as it was.
+pub fn op_line(text: &[u8], declared: u32, inside: usize) -> Result<(OpLine, usize), Refusal>
     ensures { (bracket : ℕ) (named : List ℕ)
         → op_line_with bracket named result
         ≡ op_line_of text.now declared named bracket inside }
 {
-    let parse = op_form(text, declared, inside);
-    match parse {
-        FormParse::Refused(refusal) => OpLineParse::Refused(refusal),
-        FormParse::Form { form, end } => {
-            let ending = closed_end(text, end);
-            match ending {
-                TokenParse::Refused(refusal) => OpLineParse::Refused(refusal),
-                TokenParse::To(ended) => {
-                    let Form::Op(line) = form else {
-                        // never: an op form is an op, so any answer would do
-                        return OpLineParse::Refused(Refusal::BrokenShape(inside));
-                    };
-                    OpLineParse::Op { line, end: ended }
-                }
-            }
-        }
-    }
+    let (form, end) = op_form(text, declared, inside)?;
+    let ended = closed_end(text, end)?;
+    let Form::Op(line) = form else {
+        // an op form gives an op, so any answer would do
+        return Err(Refusal::BrokenShape(inside));
+    };
+    Ok((line, ended))
 }
 
 // A refused line; on refusal its end is unspecified.
@@ -141,27 +125,31 @@ fn refused_line(bracket: usize, named: [usize; 8], refusal: Refusal) -> Line
 }
 
 // A form, its closing bracket and the line's end.
-fn closed_line(text: &[u8], bracket: usize, named: [usize; 8], parse: FormParse) -> Line
+fn closed_line(
+    text: &[u8],
+    bracket: usize,
+    named: [usize; 8],
+    parse: Result<(Form, usize), Refusal>,
+) -> Line
     ensures { result ≡ closed_line text.now bracket named parse }
 {
-    match parse {
-        FormParse::Refused(refusal) => refused_line(bracket, named, refusal),
-        FormParse::Form { form, end } => {
-            let ending = closed_end(text, end);
-            match ending {
-                TokenParse::Refused(refusal) => refused_line(bracket, named, refusal),
-                TokenParse::To(ended) => Line {
-                    form,
-                    bracket,
-                    end: ended,
-                    named,
-                },
-            }
-        }
+    let (form, end) = match parse {
+        Ok(taken) => taken,
+        Err(refusal) => return refused_line(bracket, named, refusal),
+    };
+    match closed_end(text, end) {
+        Err(refusal) => refused_line(bracket, named, refusal),
+        Ok(ended) => Line {
+            form,
+            bracket,
+            end: ended,
+            named,
+        },
     }
 }
 
 // The same of a domain form.
+#[tactic(auto, unfolding(crate::specs::Lines::noted_line))]
 fn noted_line(text: &[u8], bracket: usize, domain: DomainParse) -> Line
     ensures { result ≡ noted_line text.now bracket domain }
 {

@@ -3,27 +3,22 @@ use Rattle.line.proofs.Heads.{closed_then}
 use Rattle.line.specs.Lines.{closed_line}
 use Rattle.line.proofs.closed_line.Goals as goal
 
-pub returns-in-Refused : goal.returns-in-Refused
+pub returns-in-Err : goal.returns-in-Err
 unfolding closed_line
-returns-in-Refused c = simp (c.in-Refused.is, ← c.refused_line.ensures)
+returns-in-Err c = simp (c.in-Err.is, ← c.refused_line.ensures)
 
-pub returns-in-Refused-ending : goal.returns-in-Refused-ending
+pub returns-in-Err-closed_end : goal.returns-in-Err-closed_end
 unfolding closed_line
-returns-in-Refused-ending c =
+returns-in-Err-closed_end c =
     simp (
-      c.in-Form.is,
+      c.in-Ok.is,
       closed_then,
-      ← c.closed_end-ending.ensures,
-      c.in-Refused-ending.is,
-      ← c.refused_line-in-Refused-ending.ensures,
+      ← c.closed_end.ensures,
+      c.in-Err-closed_end.is,
+      ← c.refused_line-in-Err-closed_end.ensures,
     )
 
-pub returns-in-To : goal.returns-in-To
+pub returns-in-Ok-closed_end : goal.returns-in-Ok-closed_end
 unfolding closed_line
-returns-in-To c =
-    simp (
-      c.in-Form.is,
-      closed_then,
-      ← c.closed_end-ending.ensures,
-      c.in-To.is,
-    )
+returns-in-Ok-closed_end c =
+    simp (c.in-Ok.is, closed_then, ← c.closed_end.ensures, c.in-Ok-closed_end.is)
