@@ -26,7 +26,7 @@ use Rattle.reader.specs.Draft.{take_domain, take_form, take_line, take_op, take_
 use Rattle.reader.specs.Draft.{take_window}
 use Rattle.reader.specs.DraftParts.{TakenOp, draft_with, form_verdict, outcome_with}
 use Rattle.reader.specs.DraftParts.{passed_verdict, plan_with_form}
-use Rattle.refusal.specs.Verdict.{Verdict}
+use Rattle.refusal.specs.Verdict.{Verdict, refused_with}
 
 -- ---- a line other than an op
 
@@ -40,7 +40,7 @@ module _ (bracket : ℕ) (draft : Draft) (marked store : List ℕ) where
 
   -- a test that accepts a form, and what is taken up if it does
   by_test_lem : (accepts : Bool) (plan : Plan) (why : Refusal) → marked ≡ draft.named
-      → cond accepts (Ok tt) (Err why) ≡ Ok tt
+      → cond {A = Verdict} accepts (Ok tt) (Err why) ≡ Ok tt
       → outcome_with (Ok tt) (draft_with plan draft.counts marked) store
       ≡ outcome_of (cond accepts (taken (with_plan draft plan)) (refused why draft)) store
   by_test_lem true plan why same e = with_plan_lem plan same
@@ -48,7 +48,7 @@ module _ (bracket : ℕ) (draft : Draft) (marked store : List ℕ) where
 
   -- a test that refuses a form
   but_test : (refuses : Bool) (plan : Plan) (why : Refusal) → marked ≡ draft.named
-      → cond refuses (Err why) (Ok tt) ≡ Ok tt
+      → cond {A = Verdict} refuses (Err why) (Ok tt) ≡ Ok tt
       → outcome_with (Ok tt) (draft_with plan draft.counts marked) store
       ≡ outcome_of (cond refuses (refused why draft) (taken (with_plan draft plan))) store
   but_test true plan why same e = absurd (not_refused why e)
@@ -75,19 +75,19 @@ module _ (bracket : ℕ) (draft : Draft) (marked store : List ℕ) where
   plain_taken (RefusedForm refusal) same e = absurd (not_refused refusal e)
 
   -- the same refusal leaves the same
-  as_refused : (why : Refusal) {other : Refusal} → Err other ≡ Err why
+  as_refused : (why : Refusal) {other : Refusal} → refused_with other ≡ Err why
       → outcome_with (Err why) draft store ≡ outcome_of (refused other draft) store
   as_refused why e = ap (λ (verdict : Verdict). outcome_with verdict draft store) (sym e)
 
   not_by_test : (accepts : Bool) (plan : Plan) (why other : Refusal)
-      → cond accepts (Ok tt) (Err other) ≡ Err why
+      → cond {A = Verdict} accepts (Ok tt) (Err other) ≡ Err why
       → outcome_with (Err why) draft store
       ≡ outcome_of (cond accepts (taken (with_plan draft plan)) (refused other draft)) store
   not_by_test true plan why other e = absurd (not_refused why (sym e))
   not_by_test false plan why other e = as_refused why e
 
   not_but_test : (refuses : Bool) (plan : Plan) (why other : Refusal)
-      → cond refuses (Err other) (Ok tt) ≡ Err why
+      → cond {A = Verdict} refuses (Err other) (Ok tt) ≡ Err why
       → outcome_with (Err why) draft store
       ≡ outcome_of (cond refuses (refused other draft) (taken (with_plan draft plan))) store
   not_but_test true plan why other e = as_refused why e
@@ -110,18 +110,18 @@ module _ (bracket : ℕ) (draft : Draft) (marked store : List ℕ) where
 
 -- a window that is accepted has room
 pub window_room : (windows bracket : ℕ)
-    → cond (leb most_windows windows) (Err (TooMany bracket)) (Ok tt) ≡ Ok tt
+    → cond {A = Verdict} (leb most_windows windows) (Err (TooMany bracket)) (Ok tt) ≡ Ok tt
     → windows < most_windows
 window_room windows bracket e = go (leb most_windows windows) refl e
   where
     go : (full : Bool) → leb most_windows windows ≡ full
-        → cond full (Err (TooMany bracket)) (Ok tt) ≡ Ok tt → windows < most_windows
+        → cond {A = Verdict} full (Err (TooMany bracket)) (Ok tt) ≡ Ok tt → windows < most_windows
     go true is e = absurd (not_refused (TooMany bracket) e)
     go false is e = leb-false _ _ is
 
 -- ---- an op line
 
-to_end : (here end : ℕ) → Ok here ≡ Ok end → here ≡ end
+to_end : (here end : ℕ) → ◌≡◌ {A = Result ℕ Refusal} (Ok here) (Ok end) → here ≡ end
 to_end here end same = ap (λ (passed : Result ℕ Refusal). then passed (λ _. here) (λ at. at)) same
 
 module _ (text : List ℕ) (declared bracket inside : ℕ) {parse : Result (OpLine × ℕ) Refusal}

@@ -22,6 +22,7 @@ use Rattle.reader.proofs.LastChecks.{may_none}
 use Rattle.reader.specs.declared.Draft.{Draft}
 use Rattle.reader.specs.Final.{final_verdict, first_colourless, may_verdict, shares_verdict, undeclared_mentions}
 use Rattle.reader.specs.Theorems.{OverFifteen, SixteenTold}
+use Rattle.refusal.specs.Verdict.{refused_with}
 
 told : (text_length : ℕ) (draft : Draft) → OverFifteen draft
     → final_verdict text_length draft ≡ Err (ColoursOverFifteen (colours_total draft.plan))
@@ -39,7 +40,7 @@ module _ (colours : ℕ) where
   abbrev sixteen : Refusal
   sixteen = ColoursOverFifteen colours
 
-  other_number : (why : Refusal) → ((refusal_code why).number ≡ 16 → ⊥) → Err why ≡ Err sixteen → ⊥
+  other_number : (why : Refusal) → ((refusal_code why).number ≡ 16 → ⊥) → refused_with why ≡ Err sixteen → ⊥
   other_number why differ e = differ (same_number why sixteen e)
 
   not_may : (mentions : List ℕ) → may_verdict mentions ≡ Err sixteen → ⊥

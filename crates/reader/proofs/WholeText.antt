@@ -17,12 +17,8 @@ use Rattle.reader.proofs.Walking.{lines_good}
 use Rattle.reader.specs.declared.DraftResult.{DraftResult}
 use Rattle.reader.specs.Draft.{outcome_of}
 use Rattle.reader.specs.Final.{final_verdict, plan_with_masks}
-use Rattle.reader.specs.Read.{ReadOutcome, lines_of, read_of, read_verdict, read_with}
+use Rattle.reader.specs.Read.{lines_of, read_of, read_result, read_verdict, read_with}
 use Rattle.refusal.specs.Verdict.{Verdict}
-
--- an answer that is the definition's, part by part
-abbrev pub Answers : ReadOutcome → Verdict → Plan → List ℕ → Type 0
-Answers answer verdict plan scripts = (verdict ≡ answer.verdict) × (plan ≡ answer.plan) × (scripts ≡ answer.scripts)
 
 -- what the walk over the lines comes to is good
 pub walked_good : (text : List ℕ) (result : DraftResult) (store : List ℕ) → outcome_of result store ≡ lines_of text
@@ -35,22 +31,20 @@ module _ (text scripts : List ℕ) where
   unfolding read_of
   read_by verdict is = ap (λ (v : Verdict). read_with v (lines_of text) scripts) is
 
-  refused_by : (why : Refusal) (verdict : Verdict) (plan : Plan) → read_verdict text scripts (lines_of text) ≡ Err why
-      → verdict ≡ Err why → plan ≡ no_plan → Answers (read_of text scripts) verdict plan scripts
-  refused_by why verdict plan is v p = rw (read_by (Err why) is) (v, p, refl)
+  refused_by : (why : Refusal) → read_verdict text scripts (lines_of text) ≡ Err why
+      → read_result (Err why) scripts ≡ read_of text scripts
+  refused_by why is = sym (read_by (Err why) is)
 
   -- ---- 11, then 1
 
-  pub read_wrong_length : (verdict : Verdict) (plan : Plan) → (length scripts ≡ scripts_length → ⊥)
-      → verdict ≡ Err WrongLength → plan ≡ no_plan → Answers (read_of text scripts) verdict plan scripts
+  pub read_wrong_length : (length scripts ≡ scripts_length → ⊥) → read_result (Err WrongLength) scripts ≡ read_of text scripts
   unfolding read_verdict
-  read_wrong_length verdict plan wrong = refused_by WrongLength verdict plan (rw (ne_eqb _ _ wrong))
+  read_wrong_length wrong = refused_by WrongLength (rw (ne_eqb _ _ wrong))
 
   module _ (fits : length scripts ≡ scripts_length) where
-    pub read_too_long : (verdict : Verdict) (plan : Plan) → most_text_bytes < length text
-        → verdict ≡ Err TextTooLong → plan ≡ no_plan → Answers (read_of text scripts) verdict plan scripts
+    pub read_too_long : most_text_bytes < length text → read_result (Err TextTooLong) scripts ≡ read_of text scripts
     unfolding read_verdict
-    read_too_long verdict plan long = refused_by TextTooLong verdict plan (rw (eq-eqb _ _ fits, lt-ltb _ _ long))
+    read_too_long long = refused_by TextTooLong (rw (eq-eqb _ _ fits, lt-ltb _ _ long))
 
     -- ---- after the walk over the lines
 
@@ -60,20 +54,17 @@ module _ (text scripts : List ℕ) where
       unfolding read_verdict
       checked = rw (← walked, eq-eqb _ _ fits, le-ltb _ _ short)
 
-      pub read_refused : (why : Refusal) (verdict : Verdict) (plan : Plan) → result.verdict ≡ Err why
-          → verdict ≡ Err why → plan ≡ no_plan → Answers (read_of text scripts) verdict plan scripts
-      read_refused why verdict plan known =
-          refused_by why verdict plan (checked ∙ ap (λ (v : Verdict). and_then v (final_verdict (length text) result.draft)) known)
+      pub read_refused : (why : Refusal) → result.verdict ≡ Err why → read_result (Err why) scripts ≡ read_of text scripts
+      read_refused why known =
+          refused_by why (checked ∙ ap (λ (v : Verdict). and_then v (final_verdict (length text) result.draft)) known)
 
       module _ (good : result.verdict ≡ Ok tt) (last : Verdict) (final : last ≡ final_verdict (length text) result.draft) where
         judged : (verdict : Verdict) → last ≡ verdict → read_verdict text scripts (lines_of text) ≡ verdict
         judged verdict known =
             checked ∙ ap (λ (v : Verdict). and_then v (final_verdict (length text) result.draft)) good ∙ sym final ∙ known
 
-        pub read_unfit : (why : Refusal) (verdict : Verdict) (plan : Plan) → last ≡ Err why
-            → verdict ≡ Err why → plan ≡ no_plan → Answers (read_of text scripts) verdict plan scripts
-        read_unfit why verdict plan known = refused_by why verdict plan (judged (Err why) known)
+        pub read_unfit : (why : Refusal) → last ≡ Err why → read_result (Err why) scripts ≡ read_of text scripts
+        read_unfit why known = refused_by why (judged (Err why) known)
 
-        pub read_accepted : (verdict : Verdict) (plan : Plan) (filled : List ℕ) → last ≡ Ok tt → verdict ≡ Ok tt
-            → plan ≡ plan_with_masks result.draft.plan → filled ≡ store → Answers (read_of text scripts) verdict plan filled
-        read_accepted verdict plan filled known v p s = rw (read_by (Ok tt) (judged (Ok tt) known), ← walked) (v, p, s)
+        pub read_accepted : last ≡ Ok tt → read_result (Ok (plan_with_masks result.draft.plan)) store ≡ read_of text scripts
+        read_accepted known = rw (read_by (Ok tt) (judged (Ok tt) known), ← walked) refl

@@ -1,6 +1,6 @@
 -- Document 01, "The plan text": reading a plan. 11, then 1; then line by line; then the checks after the
 -- last line. Assumes nothing.
-use Rattle.std.specs.Prelude.{ℕ, zero, suc, ◌+◌, true, false, List, eqb, ltb, length, Ok, Err}
+use Rattle.std.specs.Prelude.{ℕ, zero, suc, ◌+◌, true, false, List, eqb, ltb, length, Ok, Err, Result}
 use Rattle.script.specs.Limits.{scripts_length}
 use Rattle.line.specs.declared.Line.{Line}
 use Rattle.line.specs.Lines.{line_at}
@@ -8,6 +8,7 @@ use Rattle.plan.specs.declared.Plan.{Plan}
 use Rattle.plan.specs.Limits.{most_text_bytes}
 use Rattle.plan.specs.Zeros.{no_plan}
 use Rattle.refusal.specs.Checks.{and_then, unless, when}
+use Rattle.refusal.specs.declared.Refusal.{Refusal}
 use Rattle.refusal.specs.declared.Refusal.TheVariants.{TextTooLong, WrongLength}
 use Rattle.reader.specs.declared.Draft.{Draft}
 use Rattle.reader.specs.Draft.{DraftOutcome, no_draft, no_ops, outcome_of, take_line, taken}
@@ -58,6 +59,11 @@ read_with (Ok tt) lines scripts =
     record { verdict = Ok tt; plan = plan_with_masks lines.draft.plan; scripts = lines.store }
 read_with (Err refusal) lines scripts =
     record { verdict = Err refusal; plan = no_plan; scripts = scripts }
+
+-- what is answered, with the store after the call; beside a refusal there is no plan, and zeros stand for it
+abbrev pub read_result : Result Plan Refusal → List ℕ → ReadOutcome
+read_result (Ok plan) scripts = record { verdict = Ok tt; plan = plan; scripts = scripts }
+read_result (Err refusal) scripts = record { verdict = Err refusal; plan = no_plan; scripts = scripts }
 
 -- a text read into a script store
 unfoldable pub read_of : List ℕ → List ℕ → ReadOutcome

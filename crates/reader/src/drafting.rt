@@ -9,7 +9,7 @@ use crate::Draft;
 use forms::{DomainLine, Form, OpLine, WindowLine};
 use plan::limits::{DOMAIN_ENTRIES, MOST_WINDOWS};
 use plan::{Plan, no_plan};
-use refusal::{Refusal, Verdict};
+use refusal::Refusal;
 use script::limits::{MOST_OPS, SCRIPTS_LENGTH};
 use script::stored;
 
@@ -27,32 +27,32 @@ pub fn no_draft() -> Draft
 
 // What is held against a form other than an op: a second pad or run, a 33rd window, or the line's
 // own refusal. A domain line always fits: its number was the next one.
-pub fn form_verdict(form: Form, bracket: usize, pad: u32, run: u32, windows: u32) -> Verdict
+pub fn form_verdict(form: Form, bracket: usize, pad: u32, run: u32, windows: u32) -> Result<(), Refusal>
     ensures { result ≡ form_verdict form bracket pad run windows }
 {
     match form {
-        Form::Blank => Verdict::Accepted,
+        Form::Blank => Ok(()),
         Form::Pad(_) => {
             if pad != 0 {
-                return Verdict::Refused(Refusal::RepeatedOrMissing(bracket));
+                return Err(Refusal::RepeatedOrMissing(bracket));
             }
-            Verdict::Accepted
+            Ok(())
         }
         Form::Run(_) => {
             if run != 0 {
-                return Verdict::Refused(Refusal::RepeatedOrMissing(bracket));
+                return Err(Refusal::RepeatedOrMissing(bracket));
             }
-            Verdict::Accepted
+            Ok(())
         }
-        Form::Domain(_) => Verdict::Accepted,
+        Form::Domain(_) => Ok(()),
         Form::Window(_) => {
             if MOST_WINDOWS <= windows {
-                return Verdict::Refused(Refusal::TooMany(bracket));
+                return Err(Refusal::TooMany(bracket));
             }
-            Verdict::Accepted
+            Ok(())
         }
-        Form::Op(_) => Verdict::Accepted,
-        Form::Refused(refusal) => Verdict::Refused(refusal),
+        Form::Op(_) => Ok(()),
+        Form::Refused(refusal) => Err(refusal),
     }
 }
 
@@ -95,7 +95,7 @@ pub fn take_op(
     bracket: usize,
     counts: &mut [usize; DOMAIN_ENTRIES],
     store: &mut [u32; SCRIPTS_LENGTH],
-) -> Verdict
+) -> Result<(), Refusal>
     requires { line.domain < most_domains }
     ensures { (plan : Plan) (named : List ℕ)
         → outcome_with result (draft_with plan counts.new named) store.new
@@ -105,9 +105,9 @@ pub fn take_op(
     let op = line.op;
     let index = counts[domain];
     if MOST_OPS <= index {
-        return Verdict::Refused(Refusal::TooMany(bracket));
+        return Err(Refusal::TooMany(bracket));
     }
     store[MOST_OPS * domain + index] = stored(op);
     counts[domain] = index + 1;
-    Verdict::Accepted
+    Ok(())
 }

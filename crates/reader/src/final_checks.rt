@@ -10,7 +10,7 @@ use plan::Plan;
 use plan::limits::{DOMAIN_COLOURS, DOMAIN_ENTRIES, MOST_RUN_TICKS, MOST_SHARES};
 use plan::sharing::{colours_of, colours_total, masks_of, shares_total};
 use plan::timing::ticks_total;
-use refusal::{Refusal, Verdict};
+use refusal::Refusal;
 
 // No pad, domain, window or run.
 fn is_lacking(plan: Plan) -> bool
@@ -33,7 +33,7 @@ fn earlier_kept(a: usize, b: usize) -> usize
 }
 
 // Whether some list names a domain that is not declared: where the text does so first.
-fn may_verdict(named: [usize; DOMAIN_ENTRIES], declared: u32) -> Verdict
+fn may_verdict(named: [usize; DOMAIN_ENTRIES], declared: u32) -> Result<(), Refusal>
     ensures { result ≡ may_verdict (undeclared_mentions named declared) }
 {
     let mut found: usize = 0;
@@ -43,9 +43,9 @@ fn may_verdict(named: [usize; DOMAIN_ENTRIES], declared: u32) -> Verdict
         domain += 1;
     }
     if found == 0 {
-        return Verdict::Accepted;
+        return Ok(());
     }
-    Verdict::Refused(Refusal::WrongDomain(found - 1))
+    Err(Refusal::WrongDomain(found - 1))
 }
 
 // The lowest domain whose share gives no colour, or the number of domains.
@@ -66,47 +66,40 @@ fn first_colourless(plan: Plan) -> usize
 }
 
 // Whether the shares fit: all together, by the colours that they give, and each by itself.
-fn shares_verdict(plan: Plan) -> Verdict
+fn shares_verdict(plan: Plan) -> Result<(), Refusal>
     requires { SharesBounded plan }
     ensures { result ≡ shares_verdict plan }
 {
     let shares = shares_total(plan) as usize;
     if (MOST_SHARES as usize) < shares {
-        return Verdict::Refused(Refusal::SharesOverThousand(shares));
+        return Err(Refusal::SharesOverThousand(shares));
     }
     let colours = colours_total(plan) as usize;
     if (DOMAIN_COLOURS as usize) < colours {
-        return Verdict::Refused(Refusal::ColoursOverFifteen(colours));
+        return Err(Refusal::ColoursOverFifteen(colours));
     }
     let colourless = first_colourless(plan);
     if colourless < plan.domains as usize {
-        return Verdict::Refused(Refusal::NoColour(colourless));
+        return Err(Refusal::NoColour(colourless));
     }
-    Verdict::Accepted
+    Ok(())
 }
 
 // The checks in their order.
-pub fn final_verdict(length: usize, draft: Draft) -> Verdict
+pub fn final_verdict(length: usize, draft: Draft) -> Result<(), Refusal>
     requires { SharesBounded draft.plan × TicksBounded draft.plan }
     ensures { result ≡ final_verdict length draft }
 {
     let plan = draft.plan;
     if is_lacking(plan) {
-        return Verdict::Refused(Refusal::RepeatedOrMissing(length));
+        return Err(Refusal::RepeatedOrMissing(length));
     }
-    let named = draft.named;
-    let recipients = may_verdict(named, plan.domains);
-    if let Verdict::Refused(refusal) = recipients {
-        return Verdict::Refused(refusal);
-    }
-    let sharing = shares_verdict(plan);
-    if let Verdict::Refused(refusal) = sharing {
-        return Verdict::Refused(refusal);
-    }
+    may_verdict(draft.named, plan.domains)?;
+    shares_verdict(plan)?;
     if MOST_RUN_TICKS < ticks_total(plan) {
-        return Verdict::Refused(Refusal::RunTooLong);
+        return Err(Refusal::RunTooLong);
     }
-    Verdict::Accepted
+    Ok(())
 }
 
 // An accepted plan keeps its colour masks.

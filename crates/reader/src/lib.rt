@@ -6,13 +6,12 @@ mod final_checks;
 mod walk;
 
 ghost use Rattle.std.specs.Prelude.{◌≡◌};
-ghost use Rattle.plan.specs.Zeros.{no_plan};
-ghost use Rattle.reader.specs.Read.{read_of};
+ghost use Rattle.reader.specs.Read.{read_of, read_result};
 
 use final_checks::{final_verdict, plan_with_masks};
 use plan::limits::{DOMAIN_ENTRIES, MOST_TEXT_BYTES};
-use plan::{Plan, no_plan};
-use refusal::{Refusal, Verdict};
+use plan::Plan;
+use refusal::Refusal;
 use script::limits::SCRIPTS_LENGTH;
 use walk::{hand_over, walk};
 
@@ -27,60 +26,30 @@ pub struct Draft {
     pub named: [usize; DOMAIN_ENTRIES],
 }
 
-// What lines come to: that they were taken up, and the draft with them; or the refusal, and the draft
-// as it was before the refused line.
-#[derive(Drop)]
+// What lines come to: that they were taken up, and the draft with them; or the refusal, and beside it
+// the draft as it was before the refused line.
+#[derive(Clone, Copy)]
 pub struct DraftResult {
-    pub verdict: Verdict,
+    pub verdict: Result<(), Refusal>,
     pub draft: Draft,
-}
-
-// What reading answers, beside the script store.
-#[derive(Drop)]
-pub struct ReadResult {
-    pub verdict: Verdict,
-    pub plan: Plan,
-}
-
-// On refusal the plan is all zeros.
-fn refused_reading(refusal: Refusal) -> ReadResult
-    ensures { (result.verdict ≡ Verdict.Refused refusal) × (result.plan ≡ no_plan) }
-{
-    let plan = no_plan();
-    ReadResult {
-        verdict: Verdict::Refused(refusal),
-        plan,
-    }
 }
 
 // A plan text is read: the plan, with its scripts in the store lent, or a refusal. The store is written
 // only once every check has passed.
-pub fn read_plan(text: &[u8], scripts: &mut [u32]) -> ReadResult
-    ensures { (result.verdict ≡ (read_of text.now scripts.old).verdict)
-        × (result.plan ≡ (read_of text.now scripts.old).plan)
-        × (scripts.new ≡ (read_of text.now scripts.old).scripts) }
+pub fn read_plan(text: &[u8], scripts: &mut [u32]) -> Result<Plan, Refusal>
+    ensures { read_result result scripts.new ≡ read_of text.now scripts.old }
 {
     if scripts.len() != SCRIPTS_LENGTH {
-        return refused_reading(Refusal::WrongLength);
+        return Err(Refusal::WrongLength);
     }
     if MOST_TEXT_BYTES < text.len() {
-        return refused_reading(Refusal::TextTooLong);
+        return Err(Refusal::TextTooLong);
     }
     let mut store = [0u32; SCRIPTS_LENGTH];
     let walked = walk(text, &mut store);
-    let verdict = walked.verdict;
-    if let Verdict::Refused(refusal) = verdict {
-        return refused_reading(refusal);
-    }
+    walked.verdict?;
     let draft = walked.draft;
-    let judged = final_verdict(text.len(), draft);
-    if let Verdict::Refused(refusal) = judged {
-        return refused_reading(refusal);
-    }
+    final_verdict(text.len(), draft)?;
     hand_over(&store, scripts);
-    let plan = plan_with_masks(draft.plan);
-    ReadResult {
-        verdict: Verdict::Accepted,
-        plan,
-    }
+    Ok(plan_with_masks(draft.plan))
 }

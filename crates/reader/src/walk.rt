@@ -10,12 +10,11 @@ ghost use Rattle.reader.specs.Read.{walk_from};
 
 use crate::drafting::{form_verdict, no_draft, plan_with_form, take_op};
 use crate::{Draft, DraftResult};
-use line::{Head, OpLineParse, head_at, line_of, op_line};
+use line::{Head, head_at, line_of, op_line};
 use plan::Plan;
 use plan::limits::DOMAIN_ENTRIES;
-use refusal::Verdict;
+use refusal::Refusal;
 use script::limits::SCRIPTS_LENGTH;
-use syntax::TokenParse;
 
 // An op line is taken up, from past its word: the offset of its end, or the refusal, with counts
 // and store as they were.
@@ -26,29 +25,21 @@ fn take_op_line(
     inside: usize,
     counts: &mut [usize; DOMAIN_ENTRIES],
     store: &mut [u32; SCRIPTS_LENGTH],
-) -> TokenParse
+) -> Result<usize, Refusal>
     requires { declared ≤ most_domains }
     ensures { (plan : Plan) (named : List ℕ) → TakenOp result
         (op_line_of text.now declared named bracket inside)
         (draft_with plan counts.old named) store.old
         (draft_with plan counts.new named) store.new }
 {
-    let read = op_line(text, declared, inside);
-    match read {
-        OpLineParse::Refused(refusal) => TokenParse::Refused(refusal),
-        OpLineParse::Op { line, end } => {
-            let verdict = take_op(line, bracket, counts, store);
-            match verdict {
-                Verdict::Accepted => TokenParse::To(end),
-                Verdict::Refused(refusal) => TokenParse::Refused(refusal),
-            }
-        }
-    }
+    let (line, end) = op_line(text, declared, inside)?;
+    take_op(line, bracket, counts, store)?;
+    Ok(end)
 }
 
 // What lines come to, by the parts of the draft.
 fn draft_result(
-    verdict: Verdict,
+    verdict: Result<(), Refusal>,
     plan: Plan,
     counts: [usize; DOMAIN_ENTRIES],
     named: [usize; DOMAIN_ENTRIES],
@@ -83,10 +74,8 @@ pub fn walk(text: &[u8], store: &mut [u32; SCRIPTS_LENGTH]) -> DraftResult
             Head::Op { bracket, inside } => {
                 let taken = take_op_line(text, declared, bracket, inside, &mut counts, store);
                 let end = match taken {
-                    TokenParse::To(offset) => offset,
-                    TokenParse::Refused(refusal) => {
-                        return draft_result(Verdict::Refused(refusal), plan, counts, named);
-                    }
+                    Ok(offset) => offset,
+                    Err(refusal) => return draft_result(Err(refusal), plan, counts, named),
                 };
                 at = end + 1;
                 continue;
@@ -95,14 +84,14 @@ pub fn walk(text: &[u8], store: &mut [u32; SCRIPTS_LENGTH]) -> DraftResult
         let line = line_of(text, declared, named, plain);
         let form = line.form;
         let verdict = form_verdict(form, line.bracket, plan.pad, plan.run, plan.windows);
-        if let Verdict::Refused(_) = verdict {
-            return draft_result(verdict, plan, counts, named);
+        if let Err(refusal) = verdict {
+            return draft_result(Err(refusal), plan, counts, named);
         }
         plan = plan_with_form(plan, form);
         named = line.named;
         at = line.end + 1;
     }
-    draft_result(Verdict::Accepted, plan, counts, named)
+    draft_result(Ok(()), plan, counts, named)
 }
 
 // A store's numbers are handed over, all of them.

@@ -17,13 +17,13 @@ pub take_op_line-taken-requires : goal.take_op_line-taken-requires
 take_op_line-taken-requires c =
     c.loop-at.invariant.good.domains.most
 
-pub returns-in-Refused : goal.returns-in-Refused
-returns-in-Refused c =
+pub returns-in-Err : goal.returns-in-Err
+returns-in-Err c =
     let left = c.loop-at.invariant in
     rw (c.draft_result.ensures _)
     (op_refused left c.loop-at-test.true c.head_at-head.ensures
     c.in-Op.is (c.take_op_line-taken.ensures _ _)
-    c.in-Refused.is)
+    c.in-Err.is)
 
 pub overflow_add-at : goal.overflow_add-at
 overflow_add-at c =
@@ -32,7 +32,7 @@ overflow_add-at c =
       arith,
       op_within left c.loop-at-test.true c.head_at-head.ensures
           c.in-Op.is (c.take_op_line-taken.ensures _ _)
-          c.in-To.is,
+          c.in-Ok.is,
     )
 
 pub loop-at-smaller-in-Op : goal.loop-at-smaller-in-Op
@@ -43,22 +43,22 @@ loop-at-smaller-in-Op c =
       arith,
       below,
       op_reach left below c.head_at-head.ensures c.in-Op.is
-          (c.take_op_line-taken.ensures _ _) c.in-To.is,
+          (c.take_op_line-taken.ensures _ _) c.in-Ok.is,
     )
 
 pub loop-at-preserved-in-Op : goal.loop-at-preserved-in-Op
 loop-at-preserved-in-Op c =
     let left = c.loop-at.invariant in
     op_next left c.loop-at-test.true c.head_at-head.ensures c.in-Op.is
-    (c.take_op_line-taken.ensures _ _) c.in-To.is
+    (c.take_op_line-taken.ensures _ _) c.in-Ok.is
 
-pub returns-in-Refused-verdict : goal.returns-in-Refused-verdict
-returns-in-Refused-verdict c =
+pub returns-in-Err-verdict : goal.returns-in-Err-verdict
+returns-in-Err-verdict c =
     let left = c.loop-at.invariant in
-    rw (c.draft_result-in-Refused-verdict.ensures _)
+    rw (c.draft_result-in-Err-verdict.ensures _, ← c.in-Err-verdict.is)
     (other_refused left c.loop-at-test.true c.head_at-head.ensures
     c.in-Plain.is c.line_of-line.ensures c.form_verdict-verdict.ensures
-    c.in-Refused-verdict.is)
+    c.in-Err-verdict.is)
 
 pub plan_with_form-plan-requires : goal.plan_with_form-plan-requires
 plan_with_form-plan-requires c =
