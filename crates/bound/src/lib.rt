@@ -21,7 +21,7 @@ pub struct BoundAnswer {
 }
 
 // The ops stored in all scripts together.
-#[tactic(auto, using(crate::proofs::Largest::one_more_lem), unfolding(plan::specs::Sums::sum_to, crate::specs::Bound::ops_stored))]
+#[tactic(auto, unfolding(plan::specs::Sums::sum_to, crate::specs::Bound::ops_stored))]
 fn ops_stored(scripts: &[u32]) -> u64
     requires { length scripts.now ≡ scripts_length }
     ensures { result ≡ ops_stored scripts.now }

@@ -1,4 +1,4 @@
--- `bound::ops_stored` meets its contract: eight scripts of 256 ops at most. Assumes nothing.
+-- `bound::ops_stored` meets its contract: one script more, of 256 ops at most. Assumes nothing.
 use native.Mathlib.Omega.{arith}
 use Rattle.bound.proofs.Largest.{one_more_lem}
 use Rattle.bound.proofs.ops_stored.Goals as goal
@@ -8,3 +8,8 @@ overflow_add-total c =
     let loop = c.loop-domain in
     let most = (one_more_lem _ loop.domain loop.total _ loop.invariant c.stored_ops-total.ensures).most in
     omega arith
+
+pub loop-domain-preserved : goal.loop-domain-preserved
+loop-domain-preserved c =
+    let loop = c.loop-domain in
+    (one_more_lem _ loop.domain loop.total _ loop.invariant c.stored_ops-total.ensures).is
