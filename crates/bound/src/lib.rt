@@ -21,15 +21,14 @@ pub struct BoundAnswer {
 }
 
 // The ops stored in all scripts together.
+#[tactic(auto, unfolding(plan::specs::Sums::sum_to, crate::specs::Bound::ops_stored))]
 fn ops_stored(scripts: &[u32]) -> u64
     requires { length scripts.now ≡ scripts_length }
     ensures { result ≡ ops_stored scripts.now }
 {
     let mut total: u64 = 0;
-    let mut domain: usize = 0;
-    while domain < DOMAIN_ENTRIES {
+    for domain in 0..DOMAIN_ENTRIES {
         total += stored_ops(scripts, domain);
-        domain += 1;
     }
     total
 }

@@ -8,23 +8,19 @@ use Prim.Native.Nat.{ℕ}
 use native.Mathlib.Omega.{arith}
 use lib.Dec.{eqb}
 use lib.ListN.{length, replicate}
-use lib.Seq.{sets}
 use borrow.Author.Tests.{eqb-true}
 use Rattle.frame.specs.declared.FrameAnswer.{FrameAnswer}
 use Rattle.frame.specs.Frame.{frame_answer_of, frame_of, inputs_valid}
 use Rattle.frame.specs.Theorems.{FrameByWeights}
-use Rattle.frame.proofs.Making.{made_entries, made_refused, made_valid}
+use Rattle.frame.proofs.Making.{made_refused, made_valid}
 use Rattle.frame.proofs.Promises.{frames_by_weights}
 use Rattle.frame.proofs.Taken.{limits_valid, valid_limits}
 use Rattle.plan.specs.Limits.{most_domains, most_windows}
 use Rattle.refusal.specs.declared.Refusal.TheVariants.{FrameOutOfLimits}
 use Rattle.pirkvezo.specs.Answers.{answer_length, answer_of, wrong_length}
 use Rattle.pirkvezo.specs.Framing.{FrameCall, frame_done, frame_fits, host_frame, host_frame_with}
-use Rattle.pirkvezo.specs.Numbers.{numbers_from}
 use Rattle.pirkvezo.specs.Theorems.{FrameAcceptedExactly, FrameKeepsPromises, RefusedFrameLeaves}
 use Rattle.pirkvezo.proofs.Calls.{Told}
-use Rattle.pirkvezo.proofs.Runs.{whole_stored}
-use Rattle.pirkvezo.proofs.Whole.{run_all}
 
 pub record FrameLengths (weights frame answer : List ℕ) : Type 0 where
   pub weights_are : length weights ≡ most_domains
@@ -51,21 +47,15 @@ module _ (count : ℕ) (weights frame answer : List ℕ) (number : ℕ) (written
   pub frame_fit :
       (handed stored : List ℕ) (made : FrameAnswer)
       → frame_fits weights frame answer ≡ true
-      → handed ≡ numbers_from weights 0 most_domains
+      → handed ≡ weights
       → made ≡ frame_answer_of count handed
-      → stored ≡ sets frame 0 (numbers_from made.frame 0 most_windows)
+      → stored ≡ made.frame
       → Told made.verdict 0 0 answer number written
       → host_frame_with number stored written ≡ host_frame count weights frame answer
   unfolding host_frame frame_done
   frame_fit handed stored made fit handed-is made-is stored_is tells =
-      let long = frame_lengths weights frame answer fit in
-      let all : made ≡ frame_answer_of count weights =
-      made-is ∙ ap (frame_answer_of count) (handed-is ∙ run_all weights most_domains long.weights_are) in
-      let full : length made.frame ≡ most_windows = rw made-is (made_entries count handed) in
-      let whole : stored ≡ made.frame =
-      stored_is ∙ ap (sets frame 0) (run_all made.frame most_windows full)
-      ∙ whole_stored frame made.frame (long.frame_is ∙ sym full) in
-      rw (fit, host_frame, tells.number_is, tells.answer_is, whole) (ap (λ (frame_made : FrameAnswer). frame_done frame_made answer) all)
+      let all : made ≡ frame_answer_of count weights = made-is ∙ ap (frame_answer_of count) handed-is in
+      rw (fit, host_frame, tells.number_is, tells.answer_is, stored_is) (ap (λ (frame_made : FrameAnswer). frame_done frame_made answer) all)
 
 -- ---- accepted and refused calls
 

@@ -4,16 +4,29 @@ use mathlib.Core.List.{List, [], ◌∷◌, ◌++◌}
 use Prim.Native.Nat.{ℕ, ◌+◌, ◌≤◌}
 use native.Mathlib.Omega.{arith}
 use lib.ListN.{length, take}
+use borrow.Rule.Slice.PartMut.{put_mid}
 use lib.Seq.{length-sets, sets, take_all}
+use Rattle.lists.specs.Part.{splice}
+use Rattle.lists.proofs.Agree.{splice_sets}
 use Rattle.plan.specs.declared.Plan.{Plan}
 use Rattle.state.specs.declared.State.{State}
 use Rattle.pirkvezo.specs.Numbers.{numbers_from, plan_length, positions_offset, shares_offset, state_length}
 use Rattle.pirkvezo.proofs.Runs.{front_more, front_run}
+use Rattle.pirkvezo.proofs.Whole.{run_all}
 
 -- a table of `size` numbers whose first `count` are written
 pub record Front (size : ℕ) (table : List ℕ) (count : ℕ) (written : List ℕ) : Type 0 where
   pub long : length table ≡ size
   pub holds : take count table ≡ written
+
+-- a part of a table that a whole list is copied into
+pub copied :
+    (table list : List ℕ) (first count : ℕ)
+    → first + count ≤ length table
+    → length list ≡ count
+    → put_mid first count table list ≡ sets table first (numbers_from list 0 count)
+unfolding splice
+copied table list first count fits long = rw (run_all list count long) (splice_sets first count list table long fits)
 
 -- the next run is written
 pub next :
@@ -27,6 +40,17 @@ next {first = first} {table = table} {written = written} numbers list count fron
       long = ap length stored ∙ length-sets table first (numbers_from list 0 count) ∙ front.long;
       holds = rw stored (front_run table list written first count (omega (arith, front.long)) front.holds);
     }
+
+-- the next run is written, from a whole list
+pub next_copied :
+    {size first : ℕ} {table written fresh list : List ℕ} (count : ℕ)
+    → Front size table first written
+    → first + count ≤ size
+    → fresh ≡ list
+    → length list ≡ count
+    → Front size (put_mid first count table fresh) (first + count) (written ++ numbers_from list 0 count)
+next_copied {first = first} {table = table} {list = list} count front fits same long =
+    next _ list count front fits (rw same (copied table list first count (omega (arith, front.long)) long))
 
 -- all is written
 pub full : {size : ℕ} {table written : List ℕ} → Front size table size written → table ≡ written

@@ -4,7 +4,6 @@ ghost use Rattle.pirkvezo.specs.Framing.{host_frame, host_frame_with};
 
 use crate::answers::{put_answer, refuse_length};
 use crate::offsets::ANSWER_LENGTH;
-use crate::words::{put_words, take_words};
 use frame::make_frame;
 use plan::limits::{DOMAIN_ENTRIES, WINDOW_ENTRIES};
 
@@ -26,10 +25,10 @@ pub extern "C" fn pirkvezo_frame(
         return refuse_length(answer);
     }
     let mut handed = [0u32; DOMAIN_ENTRIES];
-    take_words(weights, 0, &mut handed);
+    handed.copy_from_slice(weights);
     let made = make_frame(count, handed);
     let verdict = made.verdict;
     let windows = made.frame;
-    put_words(frame, 0, &windows, WINDOW_ENTRIES);
+    frame.copy_from_slice(&windows);
     put_answer(answer, verdict, 0, 0)
 }

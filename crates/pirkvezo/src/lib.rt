@@ -14,7 +14,6 @@ pub mod reading;
 pub mod running;
 pub mod starting;
 pub mod states;
-mod words;
 pub mod writing;
 
 use refusal::Verdict;

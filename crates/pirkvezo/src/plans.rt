@@ -9,7 +9,7 @@ use crate::offsets::{
     DOMAINS_OFFSET, LENGTHS_OFFSET, MASKS_OFFSET, MOST_MASK, OWNERS_OFFSET, PAD_OFFSET,
     RIGHTS_OFFSET, RUN_OFFSET, SHARES_OFFSET, WINDOWS_OFFSET,
 };
-use crate::words::{put_words, take_words};
+use plan::limits::{DOMAIN_ENTRIES, WINDOW_ENTRIES};
 use plan::{Plan, no_plan};
 
 // Whether the lent colour masks have at most 16 bits.
@@ -17,26 +17,22 @@ fn masks_fit(numbers: &[u32]) -> bool
     requires { length numbers.now ≡ plan_length }
     ensures { result ≡ masks_fit numbers.now }
 {
-    let mut domain: usize = 0;
-    while domain < 8 {
+    for domain in 0..DOMAIN_ENTRIES {
         if MOST_MASK < numbers[MASKS_OFFSET + domain] {
             return false;
         }
-        domain += 1;
     }
     true
 }
 
 // The eight colour masks, where they fit.
-fn take_masks(numbers: &[u32]) -> [u16; 8]
+fn take_masks(numbers: &[u32]) -> [u16; DOMAIN_ENTRIES]
     requires { (length numbers.now ≡ plan_length) × (masks_fit numbers.now ≡ true) }
     ensures { result ≡ numbers_from numbers.now masks_offset most_domains }
 {
-    let mut taken = [0u16; 8];
-    let mut domain: usize = 0;
-    while domain < 8 {
+    let mut taken = [0u16; DOMAIN_ENTRIES];
+    for domain in 0..DOMAIN_ENTRIES {
         taken[domain] = numbers[MASKS_OFFSET + domain] as u16;
-        domain += 1;
     }
     taken
 }
@@ -50,14 +46,14 @@ pub fn load_plan(numbers: &[u32]) -> Plan
     if !masks_fit(numbers) {
         return no_plan();
     }
-    let mut shares = [0u32; 8];
-    let mut rights = [0u32; 8];
-    let mut owners = [0u32; 32];
-    let mut lengths = [0u32; 32];
-    take_words(numbers, SHARES_OFFSET, &mut shares);
-    take_words(numbers, RIGHTS_OFFSET, &mut rights);
-    take_words(numbers, OWNERS_OFFSET, &mut owners);
-    take_words(numbers, LENGTHS_OFFSET, &mut lengths);
+    let mut shares = [0u32; DOMAIN_ENTRIES];
+    let mut rights = [0u32; DOMAIN_ENTRIES];
+    let mut owners = [0u32; WINDOW_ENTRIES];
+    let mut lengths = [0u32; WINDOW_ENTRIES];
+    shares.copy_from_slice(&numbers[SHARES_OFFSET..SHARES_OFFSET + DOMAIN_ENTRIES]);
+    rights.copy_from_slice(&numbers[RIGHTS_OFFSET..RIGHTS_OFFSET + DOMAIN_ENTRIES]);
+    owners.copy_from_slice(&numbers[OWNERS_OFFSET..OWNERS_OFFSET + WINDOW_ENTRIES]);
+    lengths.copy_from_slice(&numbers[LENGTHS_OFFSET..LENGTHS_OFFSET + WINDOW_ENTRIES]);
     let masks = take_masks(numbers);
     Plan {
         pad: numbers[PAD_OFFSET],
@@ -72,23 +68,14 @@ pub fn load_plan(numbers: &[u32]) -> Plan
     }
 }
 
-// A mask, as wide as the lent numbers.
-fn widened(mask: u16) -> u32
-    ensures { result ≡ mask }
-{
-    mask as u32
-}
-
-// Writes the eight colour masks.
-fn put_masks(numbers: &mut [u32], masks: &[u16; 8])
+// Writes the eight colour masks, each as wide as the lent numbers.
+fn put_masks(numbers: &mut [u32], masks: &[u16; DOMAIN_ENTRIES])
     requires { length numbers.old ≡ plan_length }
     ensures { numbers.new
         ≡ sets numbers.old masks_offset (numbers_from masks.now 0 most_domains) }
 {
-    let mut domain: usize = 0;
-    while domain < 8 {
-        numbers[MASKS_OFFSET + domain] = widened(masks[domain]);
-        domain += 1;
+    for domain in 0..DOMAIN_ENTRIES {
+        numbers[MASKS_OFFSET + domain] = u32::from(masks[domain]);
     }
 }
 
@@ -97,18 +84,13 @@ pub fn store_plan(numbers: &mut [u32], plan: Plan)
     requires { length numbers.old ≡ plan_length }
     ensures { numbers.new ≡ plan_numbers plan }
 {
-    let shares = plan.shares;
-    let rights = plan.rights;
-    let owners = plan.owners;
-    let lengths = plan.lengths;
-    let masks = plan.masks;
     numbers[PAD_OFFSET] = plan.pad;
     numbers[RUN_OFFSET] = plan.run;
     numbers[DOMAINS_OFFSET] = plan.domains;
     numbers[WINDOWS_OFFSET] = plan.windows;
-    put_words(numbers, SHARES_OFFSET, &shares, 8);
-    put_words(numbers, RIGHTS_OFFSET, &rights, 8);
-    put_words(numbers, OWNERS_OFFSET, &owners, 32);
-    put_words(numbers, LENGTHS_OFFSET, &lengths, 32);
-    put_masks(numbers, &masks);
+    numbers[SHARES_OFFSET..SHARES_OFFSET + DOMAIN_ENTRIES].copy_from_slice(&plan.shares);
+    numbers[RIGHTS_OFFSET..RIGHTS_OFFSET + DOMAIN_ENTRIES].copy_from_slice(&plan.rights);
+    numbers[OWNERS_OFFSET..OWNERS_OFFSET + WINDOW_ENTRIES].copy_from_slice(&plan.owners);
+    numbers[LENGTHS_OFFSET..LENGTHS_OFFSET + WINDOW_ENTRIES].copy_from_slice(&plan.lengths);
+    put_masks(numbers, &plan.masks);
 }

@@ -1,6 +1,5 @@
 pub mod Accepted
 pub mod DraftParts
-pub mod Filling
 pub mod GoodDraft
 pub mod HighBits
 pub mod LastChecks

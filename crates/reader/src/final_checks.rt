@@ -37,10 +37,8 @@ fn may_verdict(named: [usize; DOMAIN_ENTRIES], declared: u32) -> Result<(), Refu
     ensures { result ≡ may_verdict (undeclared_mentions named declared) }
 {
     let mut found: usize = 0;
-    let mut domain = declared as usize;
-    while domain < DOMAIN_ENTRIES {
+    for domain in declared as usize..DOMAIN_ENTRIES {
         found = earlier_kept(found, named[domain]);
-        domain += 1;
     }
     if found == 0 {
         return Ok(());
@@ -55,14 +53,12 @@ fn first_colourless(plan: Plan) -> usize
 {
     let shares = plan.shares;
     let domains = plan.domains as usize;
-    let mut domain: usize = 0;
-    while domain < domains {
+    for domain in 0..domains {
         if colours_of(shares[domain]) == 0 {
             return domain;
         }
-        domain += 1;
     }
-    domain
+    domains
 }
 
 // Whether the shares fit: all together, by the colours that they give, and each by itself.

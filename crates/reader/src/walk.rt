@@ -99,9 +99,5 @@ pub fn hand_over(store: &[u32; SCRIPTS_LENGTH], scripts: &mut [u32])
     requires { (length store.now ≡ scripts_length) × (length scripts.old ≡ scripts_length) }
     ensures { scripts.new ≡ store.now }
 {
-    let mut index: usize = 0;
-    while index < SCRIPTS_LENGTH {
-        scripts[index] = store[index];
-        index += 1;
-    }
+    scripts.copy_from_slice(store);
 }

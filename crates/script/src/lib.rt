@@ -42,10 +42,11 @@ fn pack(kind: u32, other: u8, value: u16) -> u32
     requires { kind ≤ 5 }
     ensures { result ≡ packed kind other value }
 {
-    kind * KIND_UNIT + (other as u32) * OTHER_UNIT + value as u32
+    kind * KIND_UNIT + u32::from(other) * OTHER_UNIT + u32::from(value)
 }
 
 // The number that a script store holds for an operation.
+#[tactic(auto, unfolding(crate::specs::Stored::stored_of))]
 pub fn stored(op: Op) -> u32
     ensures { result ≡ stored_of op }
 {
@@ -54,7 +55,7 @@ pub fn stored(op: Op) -> u32
         Op::Write(line) => pack(2, 0, line),
         Op::Send(recipient, word) => pack(3, recipient, word),
         Op::Receive(sender) => pack(4, sender, 0),
-        Op::Compute(ticks) => pack(5, 0, ticks as u16),
+        Op::Compute(ticks) => pack(5, 0, u16::from(ticks)),
     }
 }
 

@@ -15,27 +15,27 @@ returns-then-not-weights-frame c =
     frame_unfit start.count start.weights.now start.frame.now start.answer.now _ _ c.if-not-weights-frame.true
     (told c.refuse_length.ensures)
 
-pub take_words-requires : goal.take_words-requires
-take_words-requires c =
+pub copy_from_slice-requires : goal.copy_from_slice-requires
+copy_from_slice-requires c =
     let start = c.args in
     let long = frame_lengths start.weights.now start.frame.now start.answer.now c.if-not-weights-frame.false in
     omega (arith, long.weights_are)
 
-pub put_words-requires : goal.put_words-requires
-put_words-requires c =
+pub copy_from_slice-requires-2 : goal.copy_from_slice-requires-2
+copy_from_slice-requires-2 c =
     let start = c.args in
     let long = frame_lengths start.weights.now start.frame.now start.answer.now c.if-not-weights-frame.false in
     let made = c.make_frame-made in
     let full : length made.result.frame ≡ most_windows =
     ap (λ (frame_made : FrameAnswer). length frame_made.frame) made.ensures ∙ made_entries _ _ in
-    (omega arith, omega (arith, long.frame_is))
+    omega (arith, full, long.frame_is)
 
 pub returns : goal.returns
 returns c =
     let start = c.args in
     frame_fit start.count start.weights.now start.frame.now start.answer.now _ _ _ _ c.make_frame-made.result
     c.if-not-weights-frame.false
-    c.take_words.ensures
+    c.copy_from_slice.ensures.after
     c.make_frame-made.ensures
-    c.put_words.ensures
+    c.copy_from_slice-2.ensures.after
     (told c.put_answer.ensures)

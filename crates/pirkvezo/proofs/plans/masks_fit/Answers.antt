@@ -10,17 +10,17 @@ use Rattle.pirkvezo.proofs.plans.masks_fit.Goals as goal
 
 pub loop-domain-init : goal.loop-domain-init
 unfolding all_below
-loop-domain-init c = (omega arith, refl)
+loop-domain-init c = refl
 
 pub returns-then-numbers-domain-gt-MOST_MASK : goal.returns-then-numbers-domain-gt-MOST_MASK
 unfolding masks_fit
 returns-then-numbers-domain-gt-MOST_MASK c = all_below_fails _ most_domains _ (omega arith) (lt-leb _ _ c.if-numbers-domain-gt-MOST_MASK.true)
 
 pub loop-domain-preserved : goal.loop-domain-preserved
-loop-domain-preserved c = (omega arith, all_below_more _ _ c.loop-domain.invariant.1 (le-leb _ _ c.if-numbers-domain-gt-MOST_MASK.false))
+loop-domain-preserved c = all_below_more _ _ c.loop-domain.invariant (le-leb _ _ c.if-numbers-domain-gt-MOST_MASK.false)
 
 pub returns : goal.returns
 unfolding masks_fit
 returns c =
     let ended : c.loop-domain.domain ≡ most_domains = omega arith in
-    sym (ap (all_below _) (sym ended) ∙ c.loop-domain.invariant.1)
+    sym (ap (all_below _) (sym ended) ∙ c.loop-domain.invariant)

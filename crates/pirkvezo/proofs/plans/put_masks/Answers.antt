@@ -10,19 +10,19 @@ use Rattle.pirkvezo.proofs.plans.put_masks.Goals as goal
 
 pub loop-domain-init : goal.loop-domain-init
 unfolding numbers_from
-loop-domain-init c = (omega arith, refl)
+loop-domain-init c = refl
 
 pub bounds-numbers-domain : goal.bounds-numbers-domain
 bounds-numbers-domain c =
     omega (
       arith,
-      (let it : length c.loop-domain.numbers ≡ length c.args.numbers.now = stored_length _ c.args.numbers.now c.args.masks.now masks_offset c.loop-domain.domain c.loop-domain.invariant.1 in it),
+      (let it : length c.loop-domain.numbers ≡ length c.args.numbers.now = stored_length _ c.args.numbers.now c.args.masks.now masks_offset c.loop-domain.domain c.loop-domain.invariant in it),
     )
 
 pub loop-domain-preserved : goal.loop-domain-preserved
-loop-domain-preserved c = (omega arith, rw (c.loop-domain.invariant.1, c.widened.ensures) (stored_more _ _ _ _))
+loop-domain-preserved c = rw (c.loop-domain.invariant, c.from.ensures) (stored_more _ _ _ _)
 
 pub returns : goal.returns
 returns c =
     let start = c.args in
-    stored_all _ start.numbers.now start.masks.now masks_offset c.loop-domain.domain most_domains (omega arith) c.loop-domain.invariant.1
+    stored_all _ start.numbers.now start.masks.now masks_offset c.loop-domain.domain most_domains (omega arith) c.loop-domain.invariant

@@ -13,7 +13,7 @@ use Rattle.pirkvezo.proofs.plans.take_masks.Goals as goal
 
 pub loop-domain-init : goal.loop-domain-init
 unfolding numbers_from
-loop-domain-init c = (omega arith, refl, refl)
+loop-domain-init c = (refl, refl)
 
 pub overflow_cast-taken : goal.overflow_cast-taken
 unfolding masks_fit
@@ -26,7 +26,7 @@ overflow_cast-taken c =
 pub loop-domain-preserved : goal.loop-domain-preserved
 loop-domain-preserved c =
     let loop = c.loop-domain in
-    (omega arith, simp length-set loop.invariant.1, taken_more _ _ _ loop.domain (omega arith) loop.invariant.2)
+    (simp length-set loop.invariant.0, taken_more _ _ _ loop.domain (omega arith) loop.invariant.1)
 
 pub returns : goal.returns
-returns c = taken_all _ _ _ c.loop-domain.domain most_domains c.loop-domain.invariant.1 (omega arith) c.loop-domain.invariant.2
+returns c = taken_all _ _ _ c.loop-domain.domain most_domains c.loop-domain.invariant.0 (omega arith) c.loop-domain.invariant.1

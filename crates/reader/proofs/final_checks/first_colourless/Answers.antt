@@ -10,7 +10,7 @@ use Rattle.reader.proofs.LastChecks.{colourless_all, colourless_end, colourless_
 use Rattle.reader.proofs.final_checks.first_colourless.Goals as goal
 
 pub loop-domain-init : goal.loop-domain-init
-loop-domain-init c = (search rules, λ plan _ _. refl)
+loop-domain-init c = λ plan _ _. refl
 
 pub colours_of-requires : goal.colours_of-requires
 colours_of-requires c = c.requires.1 _ (omega arith)
@@ -18,18 +18,18 @@ colours_of-requires c = c.requires.1 _ (omega arith)
 pub returns-then-colours_of-eq0 : goal.returns-then-colours_of-eq0
 returns-then-colours_of-eq0 c =
     let plan = c.args.plan in
-    sym (colourless_here plan _ (search rules) (sym c.colours_of.ensures ∙ c.if-colours_of-eq0.true)) ∙ c.loop-domain.invariant.1 plan refl refl ∙ colourless_all plan
+    sym (colourless_here plan _ (search rules) (sym c.colours_of.ensures ∙ c.if-colours_of-eq0.true)) ∙ c.loop-domain.invariant plan refl refl ∙ colourless_all plan
 
 pub loop-domain-preserved : goal.loop-domain-preserved
-loop-domain-preserved c = (
-  search rules,
-  λ plan same-shares same-domains.
-      let some : colours_at plan c.loop-domain.domain ≡ 0 → ⊥ =
-      λ none. c.if-colours_of-eq0.false (c.colours_of.ensures ∙ ap (λ (shares : List ℕ). colours_of (get_or shares c.loop-domain.domain 0)) (sym same-shares) ∙ none) in
-      colourless_next plan _ (rw same-domains (search rules)) some ∙ c.loop-domain.invariant.1 plan same-shares same-domains,
-)
+loop-domain-preserved c =
+    λ plan same-shares same-domains.
+    let some : colours_at plan c.loop-domain.domain ≡ 0 → ⊥ =
+    λ none. c.if-colours_of-eq0.false (c.colours_of.ensures ∙ ap (λ (shares : List ℕ). colours_of (get_or shares c.loop-domain.domain 0)) (sym same-shares) ∙ none) in
+    colourless_next plan _ (rw same-domains (search rules)) some ∙ c.loop-domain.invariant plan same-shares same-domains
 
 pub returns : goal.returns
 returns c =
     let plan = c.args.plan in
-    sym (colourless_end plan _ (search rules)) ∙ c.loop-domain.invariant.1 plan refl refl ∙ colourless_all plan
+    let ended : plan.domains ≡ c.loop-domain.domain = omega arith in
+    ended ∙ sym (colourless_end plan _ c.loop-domain-test.false) ∙ c.loop-domain.invariant plan refl refl
+    ∙ colourless_all plan

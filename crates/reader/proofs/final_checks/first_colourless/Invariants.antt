@@ -1,5 +1,4 @@
 -- `reader::final_checks::first_colourless` meets its contract. Assumes nothing.
-use Prim.Native.Nat.{◌-◌, ◌≤◌}
 use mathlib.Core.Path.{◌≡◌}
 use Rattle.plan.specs.declared.Plan.{Plan}
 use Rattle.reader.proofs.LastChecks.{colourless_from}
@@ -7,7 +6,4 @@ use Rattle.reader.proofs.final_checks.first_colourless.Given as goal
 
 abbrev pub invariant-loop-domain : goal.invariant-loop-domain
 invariant-loop-domain l =
-    (l.domain ≤ l.domains) × ((plan : Plan) → plan.shares ≡ l.shares → plan.domains ≡ l.domains → colourless_from plan l.domain ≡ colourless_from plan 0)
-
-abbrev pub decreases-loop-domain : goal.decreases-loop-domain
-decreases-loop-domain l = l.domains - l.domain
+    (plan : Plan) → plan.shares ≡ l.shares → plan.domains ≡ l.domains → colourless_from plan l.domain ≡ colourless_from plan 0

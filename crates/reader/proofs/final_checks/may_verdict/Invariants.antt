@@ -1,8 +1,6 @@
 -- `reader::final_checks::may_verdict` meets its contract. The loop's invariant: what was found so far, with what is left, gives the
 -- whole answer. Assumes nothing.
-use Prim.Native.Nat.{◌-◌}
 use mathlib.Core.Path.{◌≡◌}
-use Rattle.plan.specs.Limits.{most_domains}
 use Rattle.reader.specs.Final.{may_verdict, undeclared_mentions}
 use Rattle.reader.proofs.LastChecks.{may_after}
 use Rattle.reader.proofs.final_checks.may_verdict.Given as goal
@@ -10,6 +8,3 @@ use Rattle.reader.proofs.final_checks.may_verdict.Given as goal
 abbrev pub invariant-loop-domain : goal.invariant-loop-domain
 invariant-loop-domain l =
     may_after l.found (undeclared_mentions l.named l.domain) ≡ may_verdict (undeclared_mentions l.named l.declared)
-
-abbrev pub decreases-loop-domain : goal.decreases-loop-domain
-decreases-loop-domain l = most_domains - l.domain
