@@ -11,8 +11,9 @@ use Rattle.script.specs.Limits.{scripts_length}
 use Rattle.script.specs.ScriptEnd.{stored_ops}
 use Rattle.refusal.specs.Checks.{unless}
 use Rattle.refusal.specs.declared.Refusal.TheVariants.{ImpossiblePlan, WrongLength}
-use Rattle.bound.specs.declared.BoundAnswer.{BoundAnswer}
 use Rattle.refusal.specs.Verdict.{Verdict}
+use Rattle.refusal.specs.declared.Refusal.{Refusal}
+use Rattle.std.specs.Prelude.{Result}
 
 -- the ops: those stored in all scripts, of undeclared domains too
 unfoldable pub ops_stored : List ℕ → ℕ
@@ -28,6 +29,11 @@ bound_verdict plan scripts =
     unless (eqb (length scripts) scripts_length) WrongLength
     (unless (plan_valid plan) ImpossiblePlan (Ok tt))
 
+-- what is answered: a verdict, and the bound, which is 0 beside a refusal
+pub record BoundAnswer : Type 0 where
+  pub verdict : Verdict
+  pub steps : ℕ
+
 -- a verdict and a number of steps as one
 abbrev pub bound_answer_with : Verdict → ℕ → BoundAnswer
 bound_answer_with verdict steps = record { verdict = verdict; steps = steps }
@@ -40,3 +46,8 @@ bound_from (Err refusal) plan scripts = bound_answer_with (Err refusal) 0
 -- the answer, for every input
 unfoldable pub bound_answer_of : Plan → List ℕ → BoundAnswer
 bound_answer_of plan scripts = bound_from (bound_verdict plan scripts) plan scripts
+
+-- an answer that is either the bound or the refusal
+abbrev pub bound_answer : Result ℕ Refusal → BoundAnswer
+bound_answer (Ok steps) = bound_answer_with (Ok tt) steps
+bound_answer (Err refusal) = bound_answer_with (Err refusal) 0

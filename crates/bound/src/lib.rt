@@ -3,22 +3,15 @@
 
 ghost use Rattle.std.specs.Prelude.{◌≡◌, length};
 ghost use Rattle.script.specs.Limits.{scripts_length};
-ghost use Rattle.bound.specs.Bound.{bound_answer_of, ops_stored};
+ghost use Rattle.bound.specs.Bound.{bound_answer, bound_answer_of, ops_stored};
 
 use plan::Plan;
 use plan::limits::DOMAIN_ENTRIES;
 use plan::timing::windows_total;
 use plan::validity::is_valid;
-use refusal::{Refusal, Verdict};
+use refusal::Refusal;
 use script::limits::SCRIPTS_LENGTH;
 use script::stored_ops;
-
-// What is answered: whether there is a bound, and the bound, which is 0 beside a refusal.
-#[derive(Drop)]
-pub struct BoundAnswer {
-    pub verdict: Verdict,
-    pub steps: u64,
-}
 
 // The ops stored in all scripts together.
 #[tactic(auto, unfolding(plan::specs::Sums::sum_to, crate::specs::Bound::ops_stored))]
@@ -34,25 +27,16 @@ fn ops_stored(scripts: &[u32]) -> u64
 }
 
 // The bound of a plan and a script store: 11, then 12, then the steps of both kinds.
-pub fn step_bound(plan: Plan, scripts: &[u32]) -> BoundAnswer
-    ensures { result ≡ bound_answer_of plan scripts.now }
+pub fn step_bound(plan: Plan, scripts: &[u32]) -> Result<u64, Refusal>
+    ensures { bound_answer result ≡ bound_answer_of plan scripts.now }
 {
     if scripts.len() != SCRIPTS_LENGTH {
-        return BoundAnswer {
-            verdict: Verdict::Refused(Refusal::WrongLength),
-            steps: 0,
-        };
+        return Err(Refusal::WrongLength);
     }
     if !is_valid(plan) {
-        return BoundAnswer {
-            verdict: Verdict::Refused(Refusal::ImpossiblePlan),
-            steps: 0,
-        };
+        return Err(Refusal::ImpossiblePlan);
     }
     let ops = ops_stored(scripts);
     let switches = windows_total(plan);
-    BoundAnswer {
-        verdict: Verdict::Accepted,
-        steps: ops + switches,
-    }
+    Ok(ops + switches)
 }

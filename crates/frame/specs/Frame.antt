@@ -4,11 +4,12 @@ use Rattle.plan.specs.Limits.{least_windows, most_domains, most_windows}
 use Rattle.plan.specs.Sums.{all_below}
 use Rattle.plan.specs.Validity.{within}
 use Rattle.refusal.specs.declared.Refusal.TheVariants.{FrameOutOfLimits}
-use Rattle.frame.specs.declared.FrameAnswer.{FrameAnswer}
 use Rattle.frame.specs.Limits.{most_weight}
 use Rattle.frame.specs.Quotas.{entry_of, window_count}
 use Rattle.frame.specs.Turns.{first_turns, zero_filled}
 use Rattle.refusal.specs.Verdict.{Verdict}
+use Rattle.refusal.specs.declared.Refusal.{Refusal}
+use Rattle.std.specs.Prelude.{Result}
 
 -- every weight is within its limit; the least, 0, is the least number there is
 unfoldable pub weights_within : List ℕ → Bool
@@ -29,6 +30,11 @@ inputs_valid count weights =
 unfoldable pub frame_of : ℕ → List ℕ → List ℕ
 frame_of count weights = zero_filled most_windows (first_turns (window_count count weights) count)
 
+-- what is answered: a verdict, and the domain of each window; beside a refusal all are 0
+pub record FrameAnswer : Type 0 where
+  pub verdict : Verdict
+  pub frame : List ℕ
+
 -- a verdict and a frame as one
 abbrev pub frame_answer_with : Verdict → List ℕ → FrameAnswer
 frame_answer_with verdict frame = record { verdict = verdict; frame = frame }
@@ -40,3 +46,8 @@ frame_answer_of count weights =
       | true ↦ frame_answer_with (Ok tt) (frame_of count weights)
       | false ↦ frame_answer_with (Err FrameOutOfLimits) (replicate most_windows 0)
     ]
+
+-- an answer that is either the frame or the refusal
+abbrev pub frame_answer : Result (List ℕ) Refusal → FrameAnswer
+frame_answer (Ok frame) = frame_answer_with (Ok tt) frame
+frame_answer (Err refusal) = frame_answer_with (Err refusal) (replicate most_windows 0)

@@ -8,36 +8,26 @@ mod turns;
 mod validity;
 
 ghost use Rattle.std.specs.Prelude.{◌≡◌};
-ghost use Rattle.frame.specs.Frame.{frame_answer_of};
+ghost use Rattle.frame.specs.Frame.{frame_answer, frame_answer_of};
 
 use plan::limits::{DOMAIN_ENTRIES, WINDOW_ENTRIES};
 use quotas::windows_of;
-use refusal::{Refusal, Verdict};
+use refusal::Refusal;
 use turns::lay_turns;
 use validity::is_valid;
 
-// What the frame maker answers: whether it made a frame, and the domain of each window. Entries
-// behind the last window are 0, and on refusal all are.
-#[derive(Drop)]
-pub struct FrameAnswer {
-    pub verdict: Verdict,
-    pub frame: [u32; WINDOW_ENTRIES],
-}
-
-// The frame of `count` windows by the weights of eight domains.
-pub fn make_frame(count: u32, weights: [u32; DOMAIN_ENTRIES]) -> FrameAnswer
-    ensures { result ≡ frame_answer_of count weights }
+// The frame of `count` windows by the weights of eight domains: the domain of each window. Entries
+// behind the last window are 0.
+pub fn make_frame(
+    count: u32,
+    weights: [u32; DOMAIN_ENTRIES],
+) -> Result<[u32; WINDOW_ENTRIES], Refusal>
+    ensures { frame_answer result ≡ frame_answer_of count weights }
 {
     if !is_valid(count, weights) {
-        return FrameAnswer {
-            verdict: Verdict::Refused(Refusal::FrameOutOfLimits),
-            frame: [0; WINDOW_ENTRIES],
-        };
+        return Err(Refusal::FrameOutOfLimits);
     }
     let windows = windows_of(count, weights);
     let frame = lay_turns(windows, count);
-    FrameAnswer {
-        verdict: Verdict::Accepted,
-        frame,
-    }
+    Ok(frame)
 }

@@ -18,7 +18,7 @@ use Rattle.script.specs.Limits.{scripts_length}
 use Rattle.state.specs.World.{World, position_at}
 use Rattle.machine.specs.Fresh.{fresh_world}
 use Rattle.engine.specs.Theorems.{steps_in_window}
-use Rattle.bound.specs.declared.BoundAnswer.{BoundAnswer}
+use Rattle.bound.specs.Bound.{BoundAnswer}
 use Rattle.bound.specs.Bound.{bound_answer_of, step_bound}
 use Rattle.bound.proofs.Answers.{accepted as bound-accepted, wrong_length_lem}
 use Rattle.engine.specs.declared.Ending.TheVariants.{Ended}

@@ -14,7 +14,6 @@ use Rattle.refusal.specs.Checks.{unless}
 use Rattle.refusal.specs.declared.Refusal.{Refusal}
 use Rattle.refusal.specs.declared.Refusal.TheVariants.{ImpossiblePlan, LatestOutOfLimits, WrongLength}
 use Rattle.refusal.proofs.Passed.{unless_passed}
-use Rattle.latest.specs.declared.LatestAnswer.{LatestAnswer}
 use Rattle.latest.specs.declared.LateScript.{LateScript}
 use Rattle.latest.specs.Answer.{domain_fits, latest_from, latest_of, latest_verdict, latest_with}
 use Rattle.latest.specs.Bounds.{Fitting}
@@ -60,12 +59,11 @@ module _ (plan : Plan) (domain : ℕ) (script : List ℕ) where
 
   -- a refusal is told with 0 ticks, and the buffer is as it was
   pub refused_is :
-      (refusal : Refusal) (answer : LatestAnswer)
+      (refusal : Refusal)
       → latest_verdict plan domain script ≡ Err refusal
-      → (answer.verdict ≡ Err refusal) × (answer.ticks ≡ 0)
-      → latest_with answer script ≡ latest_of plan domain script
+      → latest_with (Err refusal) script ≡ latest_of plan domain script
   unfolding latest_of
-  refused_is refusal answer judged tells = rw (judged, tells.0, tells.1) refl
+  refused_is refusal judged = rw judged refl
 
   -- an answer's verdict is the verdict
   pub accepted_told : (latest_of plan domain script).verdict ≡ Ok tt → latest_verdict plan domain script ≡ Ok tt
@@ -89,7 +87,7 @@ module _ (plan : Plan) (domain : ℕ) (script : List ℕ) where
       → ticks ≡ latest_ticks plan domain
       → parts ≡ late_script_of plan domain
       → written ≡ late_numbers parts most_ops 0
-      → latest_with (record { verdict = Ok tt; ticks = ticks }) written ≡ latest_of plan domain script
+      → latest_with (Ok ticks) written ≡ latest_of plan domain script
   unfolding latest_of latest_script
   accepted_is ticks parts written one fitting ticks_are parts_are writes =
       rw (accepted one fitting, ticks_are, writes, parts_are) refl

@@ -8,12 +8,13 @@ use Rattle.script.specs.Limits.{most_ops}
 use Rattle.refusal.specs.Checks.{unless}
 use Rattle.refusal.specs.declared.Refusal.TheVariants.{ImpossiblePlan, LatestOutOfLimits}
 use Rattle.refusal.specs.declared.Refusal.TheVariants.{WrongLength}
-use Rattle.latest.specs.declared.LatestAnswer.{LatestAnswer}
 use Rattle.latest.specs.Latest.{latest_ticks}
 use Rattle.latest.specs.Limits.{least_latest_length, most_latest_length}
 use Rattle.latest.specs.Reach.{first_window, owns_window}
 use Rattle.latest.specs.Script.{latest_script}
 use Rattle.refusal.specs.Verdict.{Verdict}
+use Rattle.refusal.specs.declared.Refusal.{Refusal}
+use Rattle.std.specs.Prelude.{Result}
 
 -- a declared window is another domain's, or within the limits
 unfoldable pub window_fits : Plan → ℕ → ℕ → Bool
@@ -41,10 +42,10 @@ pub record LatestOutcome : Type 0 where
   pub ticks : ℕ
   pub script : List ℕ
 
--- an answer with the buffer after the call
-abbrev pub latest_with : LatestAnswer → List ℕ → LatestOutcome
-latest_with answer script =
-    record { verdict = answer.verdict; ticks = answer.ticks; script = script }
+-- an answer that is either the ticks or the refusal, with the buffer after the call
+abbrev pub latest_with : Result ℕ Refusal → List ℕ → LatestOutcome
+latest_with (Ok ticks) script = record { verdict = Ok tt; ticks = ticks; script = script }
+latest_with (Err refusal) script = record { verdict = Err refusal; ticks = 0; script = script }
 
 -- the ticks and a script that reaches them; beside a refusal 0 and the buffer as it was
 abbrev pub latest_from : Verdict → Plan → ℕ → List ℕ → LatestOutcome

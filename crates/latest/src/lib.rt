@@ -15,17 +15,9 @@ use figure::latest_ticks;
 use fitting::domain_fits;
 use plan::Plan;
 use plan::validity::is_valid;
-use refusal::{Refusal, Verdict};
+use refusal::Refusal;
 use script::limits::MOST_OPS;
 use witness::{late_script_of, write_script};
-
-// What is answered: whether there is a latest finish to be told, and its ticks after the window's
-// end, which are 0 beside a refusal.
-#[derive(Drop)]
-pub struct LatestAnswer {
-    pub verdict: Verdict,
-    pub ticks: u64,
-}
 
 // A script that finishes as late as can be, by its parts.
 #[derive(Clone, Copy)]
@@ -42,36 +34,23 @@ pub struct LateScript {
     pub last: u32,
 }
 
-// An answer that tells a refusal.
-fn refuse(refusal: Refusal) -> LatestAnswer
-    ensures { (result.verdict ≡ Verdict.Refused refusal) × (result.ticks ≡ 0) }
-{
-    LatestAnswer {
-        verdict: Verdict::Refused(refusal),
-        ticks: 0,
-    }
-}
-
-// The latest finish of a domain, and a script that reaches it, written to a buffer for one script:
-// 11, then 12, then 18. A refusal leaves the buffer.
-pub fn latest(plan: Plan, domain: u32, script: &mut [u32]) -> LatestAnswer
+// The latest finish of a domain, in ticks after the window's end, and a script that reaches it, written
+// to a buffer for one script: 11, then 12, then 18. A refusal leaves the buffer.
+pub fn latest(plan: Plan, domain: u32, script: &mut [u32]) -> Result<u64, Refusal>
     ensures { latest_with result script.new
         ≡ latest_of plan domain script.old }
 {
     if script.len() != MOST_OPS {
-        return refuse(Refusal::WrongLength);
+        return Err(Refusal::WrongLength);
     }
     if !is_valid(plan) {
-        return refuse(Refusal::ImpossiblePlan);
+        return Err(Refusal::ImpossiblePlan);
     }
     if !domain_fits(plan, domain) {
-        return refuse(Refusal::LatestOutOfLimits(domain as usize));
+        return Err(Refusal::LatestOutOfLimits(domain as usize));
     }
     let ticks = latest_ticks(plan, domain);
     let parts = late_script_of(plan, domain);
     write_script(parts, script);
-    LatestAnswer {
-        verdict: Verdict::Accepted,
-        ticks,
-    }
+    Ok(ticks)
 }

@@ -4,7 +4,7 @@ use mathlib.Core.Bool.{true, false}
 use mathlib.Core.List.{List}
 use Prim.Native.Nat.{ℕ}
 use Rattle.plan.specs.declared.Plan.{Plan}
-use Rattle.bound.specs.declared.BoundAnswer.{BoundAnswer}
+use Rattle.bound.specs.Bound.{BoundAnswer}
 use Rattle.bound.specs.Bound.{bound_answer_of}
 use Rattle.bound.proofs.Answers.{impossible_alike}
 use Rattle.pirkvezo.specs.Answers.{plan_fits, wrong_length}

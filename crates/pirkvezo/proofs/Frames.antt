@@ -9,7 +9,7 @@ use native.Mathlib.Omega.{arith}
 use lib.Dec.{eqb}
 use lib.ListN.{length, replicate}
 use borrow.Author.Tests.{eqb-true}
-use Rattle.frame.specs.declared.FrameAnswer.{FrameAnswer}
+use Rattle.frame.specs.Frame.{FrameAnswer}
 use Rattle.frame.specs.Frame.{frame_answer_of, frame_of, inputs_valid}
 use Rattle.frame.specs.Theorems.{FrameByWeights}
 use Rattle.frame.proofs.Making.{made_refused, made_valid}

@@ -1,7 +1,7 @@
 -- `pirkvezo_step_bound`: document 02's bound on a run's steps (E3), in numbers: what it returns and
 -- leaves, for every input. Assumes nothing.
 use Rattle.std.specs.Prelude.{ℕ, true, false, List}
-use Rattle.bound.specs.declared.BoundAnswer.{BoundAnswer}
+use Rattle.bound.specs.Bound.{BoundAnswer}
 use Rattle.bound.specs.Bound.{bound_answer_of}
 use Rattle.pirkvezo.specs.Answers.{answer_of, plan_fits, verdict_number, wrong_length}
 use Rattle.pirkvezo.specs.Numbers.{plan_of}

@@ -1,7 +1,7 @@
 -- `pirkvezo_frame`: document 02's frame by weights (E1), in numbers: what it returns and leaves,
 -- for every input. 11 is the C function's; the maker itself knows only 15. Assumes nothing.
 use Rattle.std.specs.Prelude.{ℕ, Bool, true, false, ◌&&◌, List, eqb, length}
-use Rattle.frame.specs.declared.FrameAnswer.{FrameAnswer}
+use Rattle.frame.specs.Frame.{FrameAnswer}
 use Rattle.frame.specs.Frame.{frame_answer_of}
 use Rattle.plan.specs.Limits.{most_domains, most_windows}
 use Rattle.pirkvezo.specs.Answers.{answer_length, answer_of, verdict_number, wrong_length}

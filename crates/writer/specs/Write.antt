@@ -10,6 +10,8 @@ use Rattle.refusal.specs.declared.Refusal.TheVariants.{BufferTooShort, Impossibl
 use Rattle.writer.specs.Canonical.{canonical_text}
 use Rattle.writer.specs.Scripts.{ops_alone}
 use Rattle.refusal.specs.Verdict.{Verdict}
+use Rattle.refusal.specs.declared.Refusal.{Refusal}
+use Rattle.std.specs.Prelude.{Result}
 
 -- 12 refuses every other plan and scripts: the plan is valid, the store holds its ops alone, and the text is
 -- no longer than one that is read. That these are the pairs that an accepted text gives is proved in crate
@@ -47,3 +49,8 @@ write_from (Err refusal) text out = write_with (Err refusal) 0 out
 unfoldable pub write_of : Plan → List ℕ → List ℕ → WriteOutcome
 write_of plan scripts out =
     write_from (write_verdict plan scripts (length out)) (canonical_text plan scripts) out
+
+-- an answer that is either the number of bytes or the refusal, with the buffer after the call
+abbrev pub write_result : Result ℕ Refusal → List ℕ → WriteOutcome
+write_result (Ok bytes) out = write_with (Ok tt) bytes out
+write_result (Err refusal) out = write_with (Err refusal) 0 out

@@ -12,7 +12,7 @@ ghost use Rattle.writer.specs.Lines.{domain_line, window_line};
 use crate::lines::{write_domain, write_op, write_pad, write_run, write_window};
 use plan::Plan;
 use script::limits::MOST_OPS;
-use script::{ScriptItem, fetch};
+use script::fetch;
 
 // Writes the lines of all domains.
 fn write_domains(out: &mut [u8], at: usize, plan: Plan) -> usize
@@ -57,16 +57,10 @@ fn write_script(out: &mut [u8], at: usize, scripts: &[u32], domain: usize) -> us
         out.new result }
 {
     let mut next = at;
-    let mut position: u64 = 0;
-    while position < MOST_OPS as u64 {
+    for position in 0..MOST_OPS as u64 {
         match fetch(scripts, domain, position) {
-            ScriptItem::Op(op) => {
-                next = write_op(out, next, domain as u32, op);
-                position += 1;
-            }
-            ScriptItem::End => {
-                return next;
-            }
+            Some(op) => next = write_op(out, next, domain as u32, op),
+            None => return next,
         }
     }
     next

@@ -20,24 +20,22 @@ fitting_by :
 fitting_by plan domain possible fits = (possible, fits)
 
 pub returns-then-script-ne-MOST_OPS : goal.returns-then-script-ne-MOST_OPS
-returns-then-script-ne-MOST_OPS c = refused_is _ _ _ _ _ (wrong_length_lem _ _ _ c.if-script-ne-MOST_OPS.true) c.refuse.ensures
+returns-then-script-ne-MOST_OPS c = refused_is _ _ _ _ (wrong_length_lem _ _ _ c.if-script-ne-MOST_OPS.true)
 
 pub returns-then-not-is_valid : goal.returns-then-not-is_valid
 returns-then-not-is_valid c =
-    refused_is _ _ _ _ _
+    refused_is _ _ _ _
     (impossible_plan _ _ _ c.if-script-ne-MOST_OPS.false
     (sym c.is_valid.ensures ∙ c.if-not-is_valid.true))
-    c.refuse-then-not-is_valid.ensures
 
 pub domain_fits-requires : goal.domain_fits-requires
 domain_fits-requires c = (counts _ (sym c.is_valid.ensures ∙ c.if-not-is_valid.false)).windows_most
 
 pub returns-then-not-domain_fits : goal.returns-then-not-domain_fits
 returns-then-not-domain_fits c =
-    refused_is _ _ _ _ _
+    refused_is _ _ _ _
     (out_of_limits _ _ _ c.if-script-ne-MOST_OPS.false (sym c.is_valid.ensures ∙ c.if-not-is_valid.false)
     (sym c.domain_fits.ensures ∙ c.if-not-domain_fits.true))
-    c.refuse-then-not-domain_fits.ensures
 
 pub write_script-requires : goal.write_script-requires
 write_script-requires c = (

@@ -16,22 +16,20 @@ use Rattle.writer.proofs.write_plan.Goals as goal
 pub returns-then-scripts-ne-SCRIPTS_LENGTH : goal.returns-then-scripts-ne-SCRIPTS_LENGTH
 returns-then-scripts-ne-SCRIPTS_LENGTH c =
     let args = c.args in
-    rw (c.refused_writing.ensures.0, c.refused_writing.ensures.1) (wrong_length_lem args.plan args.scripts.now args.out.now c.if-scripts-ne-SCRIPTS_LENGTH.true)
+    wrong_length_lem args.plan args.scripts.now args.out.now c.if-scripts-ne-SCRIPTS_LENGTH.true
 
 pub returns-then-not-is_valid : goal.returns-then-not-is_valid
 returns-then-not-is_valid c =
     let args = c.args in
     let impossible = sym c.is_valid.ensures ∙ c.if-not-is_valid.true in
-    rw (c.refused_writing-then-not-is_valid.ensures.0, c.refused_writing-then-not-is_valid.ensures.1)
-    (impossible_plan args.plan args.scripts.now args.out.now c.if-scripts-ne-SCRIPTS_LENGTH.false impossible)
+    impossible_plan args.plan args.scripts.now args.out.now c.if-scripts-ne-SCRIPTS_LENGTH.false impossible
 
 pub returns-then-not-ops_alone : goal.returns-then-not-ops_alone
 returns-then-not-ops_alone c =
     let args = c.args in
     let possible = sym c.is_valid.ensures ∙ c.if-not-is_valid.false in
     let others = sym c.ops_alone.ensures ∙ c.if-not-ops_alone.true in
-    rw (c.refused_writing-then-not-ops_alone.ensures.0, c.refused_writing-then-not-ops_alone.ensures.1)
-    (not_alone args.plan args.scripts.now args.out.now c.if-scripts-ne-SCRIPTS_LENGTH.false possible others)
+    not_alone args.plan args.scripts.now args.out.now c.if-scripts-ne-SCRIPTS_LENGTH.false possible others
 
 pub returns-then-needed-gt-MOST_TEXT_BYTES : goal.returns-then-needed-gt-MOST_TEXT_BYTES
 returns-then-needed-gt-MOST_TEXT_BYTES c =
@@ -39,9 +37,8 @@ returns-then-needed-gt-MOST_TEXT_BYTES c =
     let possible = sym c.is_valid.ensures ∙ c.if-not-is_valid.false in
     let alone = sym c.ops_alone.ensures ∙ c.if-not-ops_alone.false in
     let is : c.write_text-needed.result ≡ length (canonical_text args.plan args.scripts.now) = c.write_text-needed.ensures.0 ∙ zero-add _ in
-    rw (c.refused_writing-then-needed-gt-MOST_TEXT_BYTES.ensures.0, c.refused_writing-then-needed-gt-MOST_TEXT_BYTES.ensures.1)
-    (too_long args.plan args.scripts.now args.out.now c.if-scripts-ne-SCRIPTS_LENGTH.false possible alone
-    (omega (arith, c.if-needed-gt-MOST_TEXT_BYTES.true, is)))
+    too_long args.plan args.scripts.now args.out.now c.if-scripts-ne-SCRIPTS_LENGTH.false possible alone
+    (omega (arith, c.if-needed-gt-MOST_TEXT_BYTES.true, is))
 
 pub returns-then-out-needed : goal.returns-then-out-needed
 returns-then-out-needed c =
@@ -49,10 +46,9 @@ returns-then-out-needed c =
     let possible = sym c.is_valid.ensures ∙ c.if-not-is_valid.false in
     let alone = sym c.ops_alone.ensures ∙ c.if-not-ops_alone.false in
     let is : c.write_text-needed.result ≡ length (canonical_text args.plan args.scripts.now) = c.write_text-needed.ensures.0 ∙ zero-add _ in
-    rw (c.refused_writing-then-out-needed.ensures.0, c.refused_writing-then-out-needed.ensures.1)
-    (ap (λ (bytes : ℕ). write_with (Err (BufferTooShort bytes)) 0 args.out.now) is
+    ap (λ (bytes : ℕ). write_with (Err (BufferTooShort bytes)) 0 args.out.now) is
     ∙ too_short args.plan args.scripts.now args.out.now c.if-scripts-ne-SCRIPTS_LENGTH.false possible alone
-    (omega (arith, c.if-needed-gt-MOST_TEXT_BYTES.false, is)) (omega (arith, c.if-out-needed.true, is)))
+    (omega (arith, c.if-needed-gt-MOST_TEXT_BYTES.false, is)) (omega (arith, c.if-out-needed.true, is))
 
 pub hand_over-requires : goal.hand_over-requires
 hand_over-requires c =

@@ -3,7 +3,7 @@ use native.Mathlib.Omega.{arith}
 use mathlib.Core.Path.{◌≡◌, ap, ◌∙◌}
 use lib.ListN.{length}
 use Rattle.plan.specs.Limits.{most_windows}
-use Rattle.frame.specs.declared.FrameAnswer.{FrameAnswer}
+use Rattle.frame.specs.Frame.{FrameAnswer}
 use Rattle.frame.proofs.Making.{made_entries}
 use Rattle.pirkvezo.proofs.Calls.{told}
 use Rattle.pirkvezo.proofs.Frames.{frame_fit, frame_lengths, frame_unfit}

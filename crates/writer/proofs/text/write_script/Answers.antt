@@ -64,9 +64,3 @@ returns c =
 
 pub overflow_cast-domain : goal.overflow_cast-domain
 overflow_cast-domain c = omega (arith, c.requires.1)
-
-pub overflow_add-position : goal.overflow_add-position
-overflow_add-position c = omega (arith, c.loop-position-test.true)
-
-pub loop-position-smaller : goal.loop-position-smaller
-loop-position-smaller c = omega (arith, c.loop-position-test.true)
