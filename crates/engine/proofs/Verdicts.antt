@@ -272,7 +272,7 @@ module _ (plan : Plan) (state : State) (cache boxes : List ℕ) where
       → fresh ≡ fresh_state
       → emptied ≡ replicate (length cache) 0
       → cleared ≡ replicate (length boxes) 0
-      → fresh_with (Ok tt) fresh emptied cleared ≡ fresh_start_of plan state cache boxes
+      → fresh_with (Ok fresh) state emptied cleared ≡ fresh_start_of plan state cache boxes
   unfolding fresh_start_of
   fresh_started fresh emptied cleared accepted zeroed empties clears =
       let lent = fresh_accepted plan cache boxes (sym accepted) in

@@ -1,10 +1,9 @@
 // The refusals of the entry points: 11, 12, 13, 14, in this order, each only where the call takes
 // that thing.
-ghost use Rattle.std.specs.Prelude.{◌≡◌, true, ◌*◌, eqb};
+ghost use Rattle.std.specs.Prelude.{◌≡◌, true, ◌*◌, eqb, Ok};
 ghost use Rattle.plan.specs.Validity.{plan_valid};
 ghost use Rattle.records.specs.Records.{part_records, record_size};
 ghost use Rattle.state.specs.StateValidity.{state_valid};
-ghost use Rattle.refusal.specs.declared.Verdict.TheVariants.{Accepted};
 ghost use Rattle.machine.specs.View.{world_with};
 ghost use Rattle.engine.specs.Checks.{fresh_verdict, lent_verdict, log_verdict};
 ghost use Rattle.engine.specs.LentLog.{domain_fits, lent_log_verdict, log_fits, quota_of};
@@ -16,7 +15,7 @@ use plan::Plan;
 use plan::validity::is_valid;
 use records::limits::RECORD_SIZE;
 use records::part_records;
-use refusal::{Refusal, Verdict};
+use refusal::Refusal;
 use script::limits::SCRIPTS_LENGTH;
 use state::State;
 use state::state_validity::state_valid;
@@ -32,37 +31,37 @@ fn state_fits(plan: Plan, state: State, log_length: usize) -> bool
 }
 
 // A fresh start: 11 and 12.
-pub fn check_fresh(plan: Plan, cache: &[u16], boxes: &[u32]) -> Verdict
+pub fn check_fresh(plan: Plan, cache: &[u16], boxes: &[u32]) -> Result<(), Refusal>
     ensures { result ≡ fresh_verdict plan cache.now boxes.now }
 {
     if (cache.len() == TABLE_LENGTH) & (boxes.len() == BOXES_LENGTH) {
         if is_valid(plan) {
-            Verdict::Accepted
+            Ok(())
         } else {
-            Verdict::Refused(Refusal::ImpossiblePlan)
+            Err(Refusal::ImpossiblePlan)
         }
     } else {
-        Verdict::Refused(Refusal::WrongLength)
+        Err(Refusal::WrongLength)
     }
 }
 
 // What a step and a run are lent beside their log: 11, 12, 13.
-fn check_lent(plan: Plan, scripts: &[u32], state: State, cache: &[u16], boxes: &[u32]) -> Verdict
+fn check_lent(plan: Plan, scripts: &[u32], state: State, cache: &[u16], boxes: &[u32]) -> Result<(), Refusal>
     ensures { result ≡ lent_verdict plan scripts.now state cache.now
-        boxes.now Accepted }
+        boxes.now (Ok tt) }
 {
     if !((scripts.len() == SCRIPTS_LENGTH)
         & ((cache.len() == TABLE_LENGTH) & (boxes.len() == BOXES_LENGTH)))
     {
-        return Verdict::Refused(Refusal::WrongLength);
+        return Err(Refusal::WrongLength);
     }
     if !is_valid(plan) {
-        return Verdict::Refused(Refusal::ImpossiblePlan);
+        return Err(Refusal::ImpossiblePlan);
     }
     if !tables_valid(plan, state, cache, boxes) {
-        return Verdict::Refused(Refusal::DamagedTable);
+        return Err(Refusal::DamagedTable);
     }
-    Verdict::Accepted
+    Ok(())
 }
 
 // Whether a buffer is as long as some records. The length is divided, since the records' bytes may
@@ -114,40 +113,37 @@ pub fn check_run(
     cache: &[u16],
     boxes: &[u32],
     log: &[u8],
-) -> Verdict
+) -> Result<(), Refusal>
     ensures { result ≡ lent_log_verdict lent plan scripts.now
         (world_with state cache.now boxes.now log.now) }
 {
     if !log_fits(lent, log.len()) {
-        return Verdict::Refused(Refusal::WrongLength);
+        return Err(Refusal::WrongLength);
     }
-    let found = check_lent(plan, scripts, state, cache, boxes);
-    if let Verdict::Refused(refusal) = found {
-        return Verdict::Refused(refusal);
-    }
+    check_lent(plan, scripts, state, cache, boxes)?;
     if !state_valid(plan, quota_of(lent, plan, log.len()), state) {
-        return Verdict::Refused(Refusal::ImpossibleState);
+        return Err(Refusal::ImpossibleState);
     }
     if domain_fits(lent, plan.domains) {
-        Verdict::Accepted
+        Ok(())
     } else {
-        Verdict::Refused(Refusal::WrongDomain(0))
+        Err(Refusal::WrongDomain(0))
     }
 }
 
 // A log query: 12, 14, then 4.
-pub fn check_log(plan: Plan, state: State, log: &[u8], domain: u32) -> Verdict
+pub fn check_log(plan: Plan, state: State, log: &[u8], domain: u32) -> Result<(), Refusal>
     ensures { result ≡ log_verdict plan state log.now domain }
 {
     if !is_valid(plan) {
-        return Verdict::Refused(Refusal::ImpossiblePlan);
+        return Err(Refusal::ImpossiblePlan);
     }
     if !state_fits(plan, state, log.len()) {
-        return Verdict::Refused(Refusal::ImpossibleState);
+        return Err(Refusal::ImpossibleState);
     }
     if domain < plan.domains {
-        Verdict::Accepted
+        Ok(())
     } else {
-        Verdict::Refused(Refusal::WrongDomain(0))
+        Err(Refusal::WrongDomain(0))
     }
 }

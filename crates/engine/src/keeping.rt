@@ -7,6 +7,7 @@ ghost use Rattle.engine.specs.Keeping.{kept_call_of};
 use crate::running::run_lent;
 use crate::{LentLog, Progress};
 use plan::Plan;
+use refusal::Refusal;
 use state::State;
 
 // Running with a limit, where only the named domain's records are stored. `part` is the number of
@@ -21,8 +22,8 @@ pub fn run_kept(
     domain: u32,
     part: u64,
     limit: u64,
-) -> Progress
-    ensures { run_with result cache.new boxes.new kept.new
+) -> Result<Progress, Refusal>
+    ensures { run_with result state cache.new boxes.new kept.new
         ≡ kept_call_of plan scripts.now domain part
         (world_with state cache.old boxes.old kept.old) limit }
 {

@@ -8,7 +8,6 @@ pub mod log_query;
 pub mod running;
 pub mod starting;
 
-use refusal::Verdict;
 use state::State;
 
 // How a run came to its end: the limit was reached first, or the run is over.
@@ -26,27 +25,19 @@ pub enum LentLog {
     Part(u32, u64),
 }
 
-// What a fresh start answers, beside the cache table and the boxes.
-#[derive(Drop)]
-pub struct FreshResult {
-    pub verdict: Verdict,
-    pub state: State,
-}
-
-// What a step or a run answers, beside the cache table, the boxes and the log.
+// What a run that was not refused answers, beside the cache table, the boxes and the log.
 #[derive(Drop)]
 pub struct Progress {
-    pub verdict: Verdict,
     // the number of steps done
     pub steps: u64,
     pub ending: Ending,
     pub state: State,
 }
 
-// What a single step answers, beside the state, the cache table, the boxes and the log.
+// What a single step that was not refused answers, beside the state, the cache table, the boxes and
+// the log.
 #[derive(Drop)]
 pub struct Answer {
-    pub verdict: Verdict,
     // the number of steps done
     pub steps: u64,
     pub ending: Ending,

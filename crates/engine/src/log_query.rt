@@ -5,7 +5,7 @@ ghost use Rattle.engine.specs.LogQuery.{log_offset_of, log_query_of, log_status_
 use crate::checks::check_log;
 use plan::Plan;
 use records::part_records;
-use refusal::Verdict;
+use refusal::Refusal;
 use state::State;
 
 // One domain's records so far: the part of the lent log itself, empty where the query is refused.
@@ -14,10 +14,9 @@ pub fn log_of(plan: Plan, state: State, log: &[u8], domain: u32) -> &[u8]
         × (result.ref_ptr.0 ≡ log.entry.ref_ptr.0)
         × (result.ref_ptr.1 ≡ log.entry.ref_ptr.1 + log_offset_of plan state log.now domain) }
 {
-    let verdict = check_log(plan, state, log, domain);
-    match verdict {
-        Verdict::Refused(_) => &log[..0],
-        Verdict::Accepted => {
+    match check_log(plan, state, log, domain) {
+        Err(_) => &log[..0],
+        Ok(()) => {
             let quota = part_records(plan.domains, log.len());
             let at = domain as usize;
             let from = 8 * (quota as usize * at);
@@ -28,7 +27,7 @@ pub fn log_of(plan: Plan, state: State, log: &[u8], domain: u32) -> &[u8]
 }
 
 // The status query: why a log query is refused, if it is.
-pub fn log_refusal(plan: Plan, state: State, log: &[u8], domain: u32) -> Verdict
+pub fn log_refusal(plan: Plan, state: State, log: &[u8], domain: u32) -> Result<(), Refusal>
     ensures { result ≡ log_status_of plan state log.now domain }
 {
     check_log(plan, state, log, domain)

@@ -13,7 +13,7 @@ use machine::stepping::run_steps;
 use plan::Plan;
 use plan::timing::windows_total;
 use records::Keep;
-use refusal::Verdict;
+use refusal::Refusal;
 use state::State;
 
 // Whether a run is over.
@@ -50,32 +50,21 @@ pub fn run_lent(
     boxes: &mut [u32],
     log: &mut [u8],
     limit: u64,
-) -> Progress
-    ensures { run_with result cache.new boxes.new log.new
+) -> Result<Progress, Refusal>
+    ensures { run_with result state cache.new boxes.new log.new
         ≡ lent_call_of lent plan scripts.now
         (world_with state cache.old boxes.old log.old) limit }
 {
-    let verdict = check_run(lent, plan, scripts, state, cache, boxes, log);
-    match verdict {
-        Verdict::Refused(refusal) => Progress {
-            verdict: Verdict::Refused(refusal),
-            steps: 0,
-            ending: Ending::Stopped,
-            state,
-        },
-        Verdict::Accepted => {
-            let keep = keep_of(lent);
-            let quota = quota_of(lent, plan, log.len());
-            let advance = run_steps(plan, scripts, keep, quota, limit, state, cache, boxes, log);
-            let last = advance.state;
-            Progress {
-                verdict: Verdict::Accepted,
-                steps: advance.steps,
-                ending: ending_of(plan, last),
-                state: last,
-            }
-        }
-    }
+    check_run(lent, plan, scripts, state, cache, boxes, log)?;
+    let keep = keep_of(lent);
+    let quota = quota_of(lent, plan, log.len());
+    let advance = run_steps(plan, scripts, keep, quota, limit, state, cache, boxes, log);
+    let last = advance.state;
+    Ok(Progress {
+        steps: advance.steps,
+        ending: ending_of(plan, last),
+        state: last,
+    })
 }
 
 // Running with a limit.
@@ -87,8 +76,8 @@ pub fn run(
     boxes: &mut [u32],
     log: &mut [u8],
     limit: u64,
-) -> Progress
-    ensures { run_with result cache.new boxes.new log.new
+) -> Result<Progress, Refusal>
+    ensures { run_with result state cache.new boxes.new log.new
         ≡ run_call_of plan scripts.now
         (world_with state cache.old boxes.old log.old) limit }
 {

@@ -21,47 +21,47 @@ handed plan state log domain quota lent is = rw is (log_within _ _ _ _ lent)
 
 pub part_records-quota-requires : goal.part_records-quota-requires
 part_records-quota-requires c =
-    let lent = log_accepted _ _ _ _ (sym c.check_log-verdict.ensures ∙ c.in-Accepted.is) in
+    let lent = log_accepted _ _ _ _ (sym c.check_log.ensures ∙ c.in-Ok.is) in
     let count = counts _ lent.possible in
     (count.domains_least, count.domains_most)
 
 pub overflow_mul-from : goal.overflow_mul-from
 overflow_mul-from c =
-    let lent = log_accepted _ _ _ _ (sym c.check_log-verdict.ensures ∙ c.in-Accepted.is) in
+    let lent = log_accepted _ _ _ _ (sym c.check_log.ensures ∙ c.in-Ok.is) in
     omega (arith, handed _ _ _ _ _ lent (c.part_records-quota.ensures c.args.plan refl))
 
-pub overflow_mul-from-in-Accepted : goal.overflow_mul-from-in-Accepted
-overflow_mul-from-in-Accepted c =
-    let lent = log_accepted _ _ _ _ (sym c.check_log-verdict.ensures ∙ c.in-Accepted.is) in
+pub overflow_mul-from-in-Ok : goal.overflow_mul-from-in-Ok
+overflow_mul-from-in-Ok c =
+    let lent = log_accepted _ _ _ _ (sym c.check_log.ensures ∙ c.in-Ok.is) in
     omega (arith, handed _ _ _ _ _ lent (c.part_records-quota.ensures c.args.plan refl))
 
 pub bounds-state-at : goal.bounds-state-at
 bounds-state-at c =
-    let lent = log_accepted _ _ _ _ (sym c.check_log-verdict.ensures ∙ c.in-Accepted.is) in
+    let lent = log_accepted _ _ _ _ (sym c.check_log.ensures ∙ c.in-Ok.is) in
     omega (arith, lent.declared, (counts _ lent.possible).domains_most)
 
 pub overflow_mul-to : goal.overflow_mul-to
 overflow_mul-to c =
-    let lent = log_accepted _ _ _ _ (sym c.check_log-verdict.ensures ∙ c.in-Accepted.is) in
+    let lent = log_accepted _ _ _ _ (sym c.check_log.ensures ∙ c.in-Ok.is) in
     omega (arith, handed _ _ _ _ _ lent (c.part_records-quota.ensures c.args.plan refl))
 
 pub overflow_add-to : goal.overflow_add-to
 overflow_add-to c =
-    let lent = log_accepted _ _ _ _ (sym c.check_log-verdict.ensures ∙ c.in-Accepted.is) in
+    let lent = log_accepted _ _ _ _ (sym c.check_log.ensures ∙ c.in-Ok.is) in
     omega (arith, handed _ _ _ _ _ lent (c.part_records-quota.ensures c.args.plan refl))
 
-pub slice_bounds-result-end-in-Accepted : goal.slice_bounds-result-end-in-Accepted
-slice_bounds-result-end-in-Accepted c =
-    let lent = log_accepted _ _ _ _ (sym c.check_log-verdict.ensures ∙ c.in-Accepted.is) in
+pub slice_bounds-result-end-in-Ok : goal.slice_bounds-result-end-in-Ok
+slice_bounds-result-end-in-Ok c =
+    let lent = log_accepted _ _ _ _ (sym c.check_log.ensures ∙ c.in-Ok.is) in
     omega (arith, handed _ _ _ _ _ lent (c.part_records-quota.ensures c.args.plan refl))
 
-pub returns-in-Refused : goal.returns-in-Refused
-returns-in-Refused c =
-    let refused = sym c.in-Refused.is ∙ c.check_log-verdict.ensures in
+pub returns-in-Err : goal.returns-in-Err
+returns-in-Err c =
+    let refused = sym c.in-Err.is ∙ c.check_log.ensures in
     (log_refused _ _ _ _ _ refused, refl, offset_refused _ _ _ _ _ _ refused)
 
-pub returns-in-Accepted : goal.returns-in-Accepted
-returns-in-Accepted c =
-    let accepted = sym c.in-Accepted.is ∙ c.check_log-verdict.ensures in
+pub returns-in-Ok : goal.returns-in-Ok
+returns-in-Ok c =
+    let accepted = sym c.in-Ok.is ∙ c.check_log.ensures in
     let quota = c.part_records-quota.ensures c.args.plan refl in
     (log_handed _ _ _ _ _ accepted quota, refl, offset_handed _ _ _ _ _ _ accepted quota)
