@@ -2,13 +2,14 @@
 use mathlib.Core.Bool.{Bool, cond}
 use mathlib.Core.Path.{◌∙◌, ap}
 use native.Mathlib.Omega.{arith}
+use Rattle.plan.proofs.Sums.{number_of}
 use Rattle.latest.proofs.Boxes.{with_most}
 use Rattle.latest.proofs.reach.boxes_with.Goals as goal
 
 pub returns : goal.returns
 returns c =
-    let fills = c.counted-filled.ensures ∙ ap (λ (b : Bool). cond b 1 0) c.has_bit.ensures in
-    let empties = c.counted-emptied.ensures ∙ ap (λ (b : Bool). cond b 1 0) c.has_bit-2.ensures in
+    let fills = c.from-filled.ensures ∙ number_of _ ∙ ap (λ (b : Bool). cond b 1 0) c.has_bit.ensures in
+    let empties = c.from-emptied.ensures ∙ number_of _ ∙ ap (λ (b : Bool). cond b 1 0) c.has_bit-2.ensures in
     omega (arith, fills, empties)
 
 pub overflow_add-result : goal.overflow_add-result
