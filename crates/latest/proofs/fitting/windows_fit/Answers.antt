@@ -1,5 +1,5 @@
 -- `latest::fitting::windows_fit` meets its contract. Assumes nothing.
-use mathlib.Core.Path.{◌∙◌, ◌≡◌, ap, refl, sym}
+use mathlib.Core.Path.{◌∙◌, refl, sym}
 use native.Mathlib.Omega.{arith}
 use Rattle.plan.specs.Sums.{all_below}
 use Rattle.plan.proofs.Sums.{all_below_fails, all_below_more}
@@ -19,9 +19,3 @@ pub loop-slot-preserved : goal.loop-slot-preserved
 loop-slot-preserved c =
     let loop = c.loop-slot in
     all_below_more _ loop.slot loop.invariant (sym (c.window_fits.ensures _ loop.slot refl refl) ∙ c.if-not-window_fits.false)
-
-pub returns : goal.returns
-returns c =
-    let loop = c.loop-slot in
-    let ended : loop.slot ≡ c.args.plan.windows = omega arith in
-    sym loop.invariant ∙ ap (all_below _) ended

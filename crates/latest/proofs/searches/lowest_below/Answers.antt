@@ -1,11 +1,8 @@
 -- `latest::searches::lowest_below` meets its contract. Assumes nothing.
 use mathlib.Core.Path.{◌∙◌, ◌≡◌, sym}
 use native.Mathlib.Omega.{arith}
-use Rattle.latest.proofs.Lowest.{lowest_begun, lowest_end, lowest_here, lowest_next}
+use Rattle.latest.proofs.Lowest.{lowest_end, lowest_here, lowest_next}
 use Rattle.latest.proofs.searches.lowest_below.Goals as goal
-
-pub loop-index-init : goal.loop-index-init
-loop-index-init g c rule means = lowest_begun rule _
 
 pub returns-then-test : goal.returns-then-test
 returns-then-test g c rule means =
