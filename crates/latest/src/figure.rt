@@ -50,7 +50,7 @@ fn box_indices(plan: Plan, domain: u32) -> u32
     if !has_box(plan, domain) {
         return 0;
     }
-    if meets_kernel(plan, domain) { 0 } else { 1 }
+    u32::from(!meets_kernel(plan, domain))
 }
 
 // How many boxes' lines their set can hold at once.
@@ -58,8 +58,7 @@ fn box_lines(plan: Plan, domain: u32) -> u32
     requires { domain < most_domains }
     ensures { result ≡ min ways_per_set (box_count plan domain) }
 {
-    let boxes = box_count(plan, domain);
-    if boxes < BOX_WAYS { boxes } else { BOX_WAYS }
+    box_count(plan, domain).min(BOX_WAYS)
 }
 
 // The latest finish of any other window: a message finds the entry line, so the longest compute is

@@ -26,14 +26,12 @@ fn windows_fit(plan: Plan, domain: u32) -> bool
     ensures { result ≡ all_below (window_fits plan domain) plan.windows }
 {
     let windows = plan.windows as usize;
-    let mut slot: usize = 0;
-    while slot < windows {
+    for slot in 0..windows {
         let owner = plan.owners[slot];
         let length = plan.lengths[slot];
         if !window_fits(owner, length, domain) {
             return false;
         }
-        slot += 1;
     }
     true
 }

@@ -27,8 +27,7 @@ const KERNEL_INDICES: u32 = KERNEL_COLOUR as u32 % L1_COLOURS;
 pub fn starts_run(plan: Plan, domain: u32) -> bool
     ensures { result ≡ starts_run plan domain }
 {
-    let owners = plan.owners;
-    owners[0] == domain
+    plan.owners[0] == domain
 }
 
 // The lowest of a domain's colours.
@@ -36,8 +35,7 @@ pub fn lowest_colour(plan: Plan, domain: u32) -> u32
     requires { domain < most_domains }
     ensures { result ≡ lowest_colour plan domain }
 {
-    let masks = plan.masks;
-    lowest_bit(masks[domain as usize] as u32, DOMAIN_COLOURS)
+    lowest_bit(plan.masks[domain as usize] as u32, DOMAIN_COLOURS)
 }
 
 // The lowest domain that a domain may send to; `MOST_DOMAINS` where there is none.
@@ -45,8 +43,7 @@ pub fn lowest_recipient(plan: Plan, domain: u32) -> u32
     requires { domain < most_domains }
     ensures { result ≡ lowest_recipient plan domain }
 {
-    let rights = plan.rights;
-    lowest_bit(rights[domain as usize], MOST_DOMAINS)
+    lowest_bit(plan.rights[domain as usize], MOST_DOMAINS)
 }
 
 // Whether there is a box that a domain may fill or empty.
@@ -59,13 +56,6 @@ pub fn has_box(plan: Plan, domain: u32) -> bool
     (recipient < MOST_DOMAINS) | (sender < MOST_DOMAINS)
 }
 
-// What a right adds to a count of boxes.
-fn counted(may: bool) -> u32
-    ensures { result ≡ cond may 1 0 }
-{
-    if may { 1 } else { 0 }
-}
-
 // How many boxes between a domain and another it may use: one that it may fill, and one that it may
 // empty.
 fn boxes_with(plan: Plan, domain: u32, other: u32) -> u32
@@ -73,9 +63,8 @@ fn boxes_with(plan: Plan, domain: u32, other: u32) -> u32
     ensures { result
         ≡ cond (may_send plan domain other) 1 0 + cond (may_send plan other domain) 1 0 }
 {
-    let rights = plan.rights;
-    let filled = counted(has_bit(rights[domain as usize], other));
-    let emptied = counted(has_bit(rights[other as usize], domain));
+    let filled = u32::from(has_bit(plan.rights[domain as usize], other));
+    let emptied = u32::from(has_bit(plan.rights[other as usize], domain));
     filled + emptied
 }
 
@@ -85,10 +74,8 @@ pub fn box_count(plan: Plan, domain: u32) -> u32
     ensures { result ≡ box_count plan domain }
 {
     let mut boxes: u32 = 0;
-    let mut other: u32 = 0;
-    while other < MOST_DOMAINS {
+    for other in 0..MOST_DOMAINS {
         boxes += boxes_with(plan, domain, other);
-        other += 1;
     }
     boxes
 }

@@ -59,7 +59,7 @@ fn opening_ops(plan: Plan, domain: u32) -> u32
     if !starts_run(plan, domain) {
         return ALL_MESSAGES;
     }
-    if has_box(plan, domain) { 0 } else { 1 }
+    u32::from(!has_box(plan, domain))
 }
 
 // The ticks of so many boxes' lines, one after the other: each misses and replaces the one before
@@ -122,10 +122,9 @@ fn waiting_ticks(plan: Plan, domain: u32) -> u32
     requires { Fitting plan domain }
     ensures { result ≡ waiting_ticks plan domain }
 {
-    let lengths = plan.lengths;
     let first = first_window(plan, domain);
     let written = written_ticks(plan, domain);
-    lengths[first as usize] - 1 - written
+    plan.lengths[first as usize] - 1 - written
 }
 
 // The last op in the run's first window: a message that fills or empties a box; without a box the
@@ -208,9 +207,7 @@ pub fn write_script(script: LateScript, buffer: &mut [u32])
     requires { PartsBounded script × (length buffer.old ≡ most_ops) }
     ensures { buffer.new ≡ late_numbers script most_ops 0 }
 {
-    let mut position: usize = 0;
-    while position < MOST_OPS {
+    for position in 0..MOST_OPS {
         buffer[position] = late_number(script, position as u32);
-        position += 1;
     }
 }

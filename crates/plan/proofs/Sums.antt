@@ -1,6 +1,6 @@
 -- Sums and tests over the first entries of an array: entry by entry, and monotone. Assumes nothing.
 use mathlib.Core.Path.{◌≡◌, refl, sym, ap, ap₂, ◌∙◌}
-use mathlib.Core.Bool.{Bool, true, false, false≢true, cond, ◌&&◌, and-eq-true_iff}
+use mathlib.Core.Bool.{Bool, true, false, false≢true, cond, not, ◌&&◌, and-eq-true_iff}
 use Prim.Native.Nat.{ℕ, zero, suc, ◌+◌, ◌*◌, ◌-◌, ◌≤◌, ◌<◌, zero-le}
 use native.Mathlib.Nat.{mul-suc, not-suc-le-zero}
 use native.Mathlib.Omega.{arith}
@@ -210,6 +210,11 @@ all_below_block_fails test total count more within fails = go (all_below test to
 pub number_of : (test : Bool) → from_bool test ≡ cond test 1 0
 number_of true = refl
 number_of false = refl
+
+-- and the other way round
+pub number_of_not : (test : Bool) → from_bool (not test) ≡ cond test 0 1
+number_of_not true = refl
+number_of_not false = refl
 
 -- a sum over the front of a list
 pub sum_front : (f : ℕ → ℕ) (list : List ℕ) (count : ℕ) → count ≤ length list → sum_by f (take count list) ≡ sum_to (λ index. f (get_or list index 0)) count

@@ -49,12 +49,7 @@ pub fn shares_total(plan: Plan) -> u32
     requires { SharesBounded plan }
     ensures { result ≡ shares_total plan plan.domains }
 {
-    let domains = plan.domains as usize;
-    let mut total: u32 = 0;
-    for i in 0..domains {
-        total += plan.shares[i];
-    }
-    total
+    plan.shares[..plan.domains as usize].iter().sum()
 }
 
 // The total of the colours that the declared domains' shares give.

@@ -64,12 +64,7 @@ fn domains_valid(plan: Plan) -> bool
     requires { plan.domains ≤ most_domains }
     ensures { result ≡ all_below (domain_valid plan) most_domains }
 {
-    for domain in 0..DOMAIN_ENTRIES {
-        if !domain_valid(plan, domain) {
-            return false;
-        }
-    }
-    true
+    (0..DOMAIN_ENTRIES).all(|domain| domain_valid(plan, domain))
 }
 
 // Whether every entry for a mask is valid.

@@ -1,13 +1,19 @@
 -- Numbers that are all empty: the walks over them; sets and boxes that hold nothing are valid. Assumes nothing.
 use mathlib.Core.Path.{◌≡◌, refl, sym, ap, ◌∙◌}
-use mathlib.Core.Bool.{Bool, true, false, ◌&&◌, and_assoc}
+use mathlib.Core.Bool.{Bool, true, ◌&&◌, and_assoc, and_comm}
 use mathlib.Core.List.{List, [], ◌∷◌, ◌++◌}
-use Rattle.std.specs.List.{list_all}
 use Prim.Native.Nat.{ℕ, zero, suc, ◌+◌, ◌*◌, ◌<◌}
 use native.Mathlib.Omega.{arith}
 use lib.Dec.{eqb}
 use lib.ListN.{get_or, length}
 use borrow.Author.Tests.{eq-eqb, eqb-true}
+use denote.Param.Members.{Mut}
+use denote.Ref.{Bor}
+use Rattle.std.specs.Fn.{Called}
+use Rattle.std.specs.Iterator.{Drains}
+use Rattle.std.specs.List.{FoldsTo, list_all}
+use Rattle.std.proofs.Common.{Iter}
+use Rattle.std.proofs.lemmas.Fn.{fold_over, fronts, slice_gives}
 use Rattle.lists.specs.Part.{part}
 use Rattle.lists.proofs.Parts.{part_at, part_limit}
 use Rattle.lists.proofs.Tests.{both, both_pass}
@@ -19,28 +25,39 @@ use Rattle.state.specs.TableValidity.{all_empty, box_valid, set_valid, ways_vali
 
 -- ---- the library's walks
 
--- every number is 0
+-- a walk that stops at the first number that is not 0
 pub all_zero : (list : List ℕ) → list_all (λ number. eqb number 0) list ≡ all_empty list
 unfolding all_empty
 all_zero [] = refl
 all_zero (number ∷ rest) = ap (λ (others : Bool). eqb number 0 && others) (all_zero rest)
 
--- no number
-pub all_none : all_empty [] ≡ true
-unfolding all_empty
-all_none = refl
-
 -- one number more is seen, by a walk that keeps whether all so far were empty
-pub empty_more : (seen : List ℕ) (none : Bool) (number : ℕ) → none ≡ all_empty seen
+empty_more :
+    (seen : List ℕ) (none : Bool) (number : ℕ)
+    → none ≡ all_empty seen
     → none && eqb number 0 ≡ all_empty (seen ++ (number ∷ []))
 unfolding all_empty
-empty_more [] none number is = rw is (sym (and_comm_true (eqb number 0)))
-  where
-    and_comm_true : (here : Bool) → (here && true) ≡ here
-    and_comm_true true = refl
-    and_comm_true false = refl
+empty_more [] none number is = rw is (and_comm true (eqb number 0))
 empty_more (first ∷ seen) none number is =
-    rw is (and_assoc (eqb first 0) (all_empty seen) (eqb number 0) ∙ ap (λ (others : Bool). eqb first 0 && others) (empty_more seen (all_empty seen) number refl))
+    rw is
+    (and_assoc (eqb first 0) (all_empty seen) (eqb number 0)
+    ∙ ap (λ (others : Bool). eqb first 0 && others) (empty_more seen (all_empty seen) number refl))
+
+-- a fold that keeps it answers whether all are empty
+pub fold_empty :
+    {F : Type 0} (g : Mut F (Bool × (Bor ℕ × Unit {0})) Bool) (f : F) (s : Iter ℕ) (answer : Bool)
+    → ((none : Bool) (number : Bor ℕ) (more : Bool) (f' : F)
+    → Called g f (none, (number, tt)) more f'
+    → (more ≡ (none && eqb number.now 0)) × (f' ≡ f))
+    → (xs : List (Bor ℕ)) × (f' : F) × Drains fronts s xs
+    × FoldsTo {P = F × Bool} (λ p x q. Called g p.0 (p.1, (x, tt)) q.1 q.0) (f, true) xs (f', answer)
+    → answer ≡ all_empty s.rest.now
+unfolding all_empty
+fold_empty g f s answer acts ran =
+    fold_over fronts (λ number. number.now) g (λ seen none. none ≡ all_empty seen) f
+    (λ seen none number more f' before called.
+    let did = acts none number more f' called in (did.0 ∙ empty_more seen none number.now before, did.1))
+    s s.rest.now true answer (slice_gives s) refl ran
 
 -- ---- the numbers of an empty list
 

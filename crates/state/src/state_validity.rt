@@ -20,7 +20,7 @@ fn clock_valid(plan: Plan, state: State) -> bool
     let clock = state.clock;
     if windows < total {
         let start = window_start(plan, windows);
-        let end = start + window_length(plan, windows) as u64;
+        let end = start + u64::from(window_length(plan, windows));
         (start <= clock) & (clock <= end + (DEAREST_OP - 1))
     } else {
         let ticks = ticks_total(plan);

@@ -62,7 +62,7 @@ fn l1_entry_valid(cache: &[u16], index: usize, ended: bool, mask: u16) -> bool
     }
     let line = (number - 1) as usize;
     let colour = line % SET_COUNT / SETS_PER_COLOUR;
-    let owned = has_bit(mask as u32, colour as u32);
+    let owned = has_bit(u32::from(mask), colour as u32);
     (line % L1_LENGTH == index) & (owned | (colour == KERNEL_COLOUR)) & !ended
 }
 

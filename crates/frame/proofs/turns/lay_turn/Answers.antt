@@ -1,11 +1,11 @@
 -- `frame::turns::lay_turn` meets its contract. The loop's invariant: the frame has the windows of the domains passed.
 -- Assumes nothing.
-use mathlib.Core.Path.{◌∙◌, ◌≡◌, ap, refl}
+use mathlib.Core.Path.{◌∙◌, ap, refl}
 use Prim.Native.Nat.{ℕ}
 use native.Mathlib.Omega.{arith}
 use mathlib.Core.List.{List}
 use lib.ListN.{set}
-use Rattle.plan.specs.Limits.{most_domains, most_windows}
+use Rattle.plan.specs.Limits.{most_windows}
 use Rattle.frame.specs.Quotas.{entry_of}
 use Rattle.frame.specs.Turns.{turn_windows}
 use Rattle.frame.proofs.Laying.{laid_frame, laid_index, laying_room, skipped_frame, skipped_index}
@@ -50,9 +50,3 @@ loop-domain-preserved c =
             ∙ skipped_frame windows start.args.turn loop.domain _ loop.next start.args.frame.now loop.invariant.0 w.if-turn-windows.false,
       )
     ]
-
-pub returns : goal.returns
-returns c =
-    let loop = c.loop-domain in
-    let ended : loop.domain ≡ most_domains = omega arith in
-    (rw (← ended) loop.invariant.0, rw (← ended) loop.invariant.1)

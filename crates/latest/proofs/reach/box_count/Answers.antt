@@ -10,31 +10,29 @@ use Rattle.latest.proofs.reach.box_count.Goals as goal
 
 pub loop-other-init : goal.loop-other-init
 unfolding sum_to
-loop-other-init c = (omega arith, refl)
+loop-other-init c = refl
 
 pub overflow_add-boxes : goal.overflow_add-boxes
 overflow_add-boxes c =
     let loop = c.loop-other in
     let start = c.args in
     let fits =
-    boxes_fit start.plan start.domain loop.boxes loop.other _ loop.invariant.1 c.boxes_with-boxes.ensures
-    (omega (arith, c.loop-other-test)) in
+    boxes_fit start.plan start.domain loop.boxes loop.other _ loop.invariant c.boxes_with-boxes.ensures
+    (omega arith) in
     omega arith
 
 pub loop-other-preserved : goal.loop-other-preserved
 loop-other-preserved c =
     let loop = c.loop-other in
-    let start = c.args in (
-      omega (arith, c.loop-other-test),
-      boxes_next start.plan start.domain loop.boxes loop.other _ loop.invariant.1 c.boxes_with-boxes.ensures,
-    )
+    let start = c.args in
+    boxes_next start.plan start.domain loop.boxes loop.other _ loop.invariant c.boxes_with-boxes.ensures
 
 pub returns : goal.returns
 unfolding box_count
 returns c =
     let loop = c.loop-other in
     let ended : loop.other ≡ most_domains = omega arith in
-    loop.invariant.1 ∙ ap (sum_to _) ended
+    loop.invariant ∙ ap (sum_to _) ended
 
 pub boxes_with-boxes-requires : goal.boxes_with-boxes-requires
-boxes_with-boxes-requires c = (c.requires, omega (arith, c.loop-other-test))
+boxes_with-boxes-requires c = (c.requires, omega arith)

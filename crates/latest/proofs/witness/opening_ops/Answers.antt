@@ -1,4 +1,6 @@
 -- `latest::witness::opening_ops` meets its contract. Assumes nothing.
+use mathlib.Core.Path.{◌∙◌}
+use Rattle.plan.proofs.Sums.{number_of_not}
 use Rattle.latest.specs.Script.{opening_ops}
 use Rattle.latest.proofs.witness.opening_ops.Goals as goal
 
@@ -6,22 +8,9 @@ pub returns-then-not-starts_run : goal.returns-then-not-starts_run
 unfolding opening_ops
 returns-then-not-starts_run c = simp (← c.starts_run.ensures, c.if-not-starts_run.true)
 
-pub returns-then-has_box : goal.returns-then-has_box
+pub returns : goal.returns
 unfolding opening_ops
-returns-then-has_box c =
-    simp (
-      ← c.starts_run.ensures,
-      c.if-not-starts_run.false,
-      ← c.has_box.ensures,
-      c.if-has_box.true,
-    )
-
-pub returns-else-has_box : goal.returns-else-has_box
-unfolding opening_ops
-returns-else-has_box c =
-    simp (
-      ← c.starts_run.ensures,
-      c.if-not-starts_run.false,
-      ← c.has_box.ensures,
-      c.if-has_box.false,
-    )
+returns c =
+    c.from.ensures
+    ∙ number_of_not _
+    ∙ simp (← c.starts_run.ensures, c.if-not-starts_run.false, ← c.has_box.ensures)

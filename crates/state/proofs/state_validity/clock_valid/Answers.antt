@@ -1,4 +1,5 @@
 -- `state::state_validity::clock_valid` meets its contract. Assumes nothing.
+use mathlib.Core.Path.{◌∙◌}
 use native.Mathlib.Omega.{arith}
 use Rattle.plan.proofs.ValidPlans.{counts, lengths_most, parts}
 use Rattle.plan.proofs.Windows.{start_fits}
@@ -26,7 +27,7 @@ ticks_total-ticks-requires c =
 pub returns-then-windows-total : goal.returns-then-windows-total
 returns-then-windows-total c =
     clock_in_window _ _ _ _ _ c.windows_total-total.ensures c.if-windows-total.true
-    c.window_start-start.ensures c.window_length.ensures
+    c.window_start-start.ensures (c.from.ensures ∙ c.window_length.ensures)
 
 pub returns-else-windows-total : goal.returns-else-windows-total
 returns-else-windows-total c =

@@ -8,8 +8,7 @@ use Rattle.plan.proofs.Sums.{all_below_fails, all_below_more}
 use Rattle.plan.specs.Sums.{all_below}
 use Rattle.state.specs.TableValidity.{all_empty, set_valid}
 use Rattle.std.proofs.Common.{rules}
-use Rattle.std.proofs.lemmas.Fn.{fold_over, fronts, slice_gives}
-use Rattle.state.proofs.Empties.{all_none, empty_block, empty_more}
+use Rattle.state.proofs.Empties.{empty_block, fold_empty}
 use Rattle.state.proofs.TableLaws.{lent_part}
 use Rattle.state.proofs.table_validity.block_valid.Goals as goal
 
@@ -17,9 +16,7 @@ pub returns-then-none_held : goal.returns-then-none_held
 returns-then-none_held c =
     let args = c.args in
     let seen =
-    fold_over fronts (λ number. number.now) _ (λ seen none. none ≡ all_empty seen) _
-    (λ seen none number more f' before k. let next = empty_more seen none number.now before in search rules)
-    _ _ _ _ (slice_gives c.iter.result) (sym all_none) c.fold-none_held.ensures.ran in
+    fold_empty _ _ c.iter.result _ (λ none number more f' called. search rules) c.fold-none_held.ensures.ran in
     let part = lent_part (set_index args.first) (ways_per_set * args.count) args.cache.now in
     let empty = ap all_empty (sym part ∙ sym c.iter.ensures.rest) ∙ sym seen ∙ c.if-none_held.true in
     sym (empty_block args.cache.now args.first args.count empty)

@@ -6,17 +6,14 @@ use Rattle.ops.specs.Ops.{boxes_length}
 use Rattle.plan.proofs.Sums.{all_below_fails, all_below_more}
 use Rattle.plan.specs.Sums.{all_below}
 use Rattle.std.proofs.Common.{rules}
-use Rattle.std.proofs.lemmas.Fn.{fold_over, fronts, slice_gives}
 use Rattle.state.specs.TableValidity.{all_empty}
-use Rattle.state.proofs.Empties.{all_none, empty_boxes_lem, empty_more}
+use Rattle.state.proofs.Empties.{empty_boxes_lem, fold_empty}
 use Rattle.state.proofs.table_validity.boxes_valid.Goals as goal
 
 pub returns-then-no_word : goal.returns-then-no_word
 returns-then-no_word c =
     let seen =
-    fold_over fronts (λ number. number.now) _ (λ seen none. none ≡ all_empty seen) _
-    (λ seen none number more f' before k. let next = empty_more seen none number.now before in search rules)
-    _ _ _ _ (slice_gives c.iter.result) (sym all_none) c.fold-no_word.ensures.ran in
+    fold_empty _ _ c.iter.result _ (λ none number more f' called. search rules) c.fold-no_word.ensures.ran in
     let empty = ap all_empty (sym c.iter.ensures.rest) ∙ sym seen ∙ c.if-no_word.true in
     λ plan rights. sym (empty_boxes_lem plan _ boxes_length empty)
 

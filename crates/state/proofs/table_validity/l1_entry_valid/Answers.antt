@@ -25,4 +25,4 @@ returns c =
     let full = c.if-entry-eq0.false in
     let line = sym c.is_line.ensures ∙ c.if-not-is_line.false in
     l1_line plan state _ _ _ _ _ _ full c.without_mark-number.ensures line ended mask
-    c.has_bit-owned.ensures
+    (rw c.from.ensures at c.has_bit-owned.ensures)
