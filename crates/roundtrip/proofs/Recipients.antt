@@ -23,6 +23,7 @@ use Rattle.lexer.proofs.Scanned.{close_token, left_next, left_past, stops_at, to
 use Rattle.lexer.proofs.Spelled.{number_token}
 use Rattle.writer.specs.Lines.{recipients_of, rising_from, spaced}
 use Rattle.roundtrip.proofs.Bits.{bit_below, bit_clear, bit_new, bit_set, bits_all}
+use Rattle.syntax.specs.declared.RecipientItem.TheVariants.{Next, Done}
 
 -- ---- where the text names each domain
 

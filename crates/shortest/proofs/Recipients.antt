@@ -108,7 +108,7 @@ next_listed : (text : List ℕ) (own rights at : ℕ) → RunOver text at → Li
 unfolding recipient_at next_recipient
 next_listed text own rights at before =
     let P = Listed text rights at in
-    then_close P text at (λ _. next_recipient text own rights at) Done
+    then_close P text at (λ _. next_recipient text own rights at) (λ end. Ok (Done end))
     (λ _.
     then_number_lem P text 0 last_domain at Err _ before (λ _. record { fact = tt }) λ recipient start end spaced.
     cond_holds P (eqb recipient own || has_bit rights recipient) (Err (BadRecipient start)) (Ok (Next recipient start end))
