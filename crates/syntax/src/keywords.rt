@@ -9,6 +9,7 @@ use crate::{KeywordParse, WordParse};
 use refusal::Refusal;
 
 // Which op's word stands from `start` up to `end`.
+#[tactic(auto, using(crate::proofs::Words::other_length), unfolding(crate::specs::Keywords::follows, lists::specs::Ascii::bytes_of))]
 fn op_word(text: &[u8], start: usize, end: usize) -> KeywordParse
     requires { (start ≤ end) × (end ≤ length text.now) }
     ensures { result ≡ follows op_words text.now start end RefusedKeyword }
@@ -39,6 +40,7 @@ fn op_word(text: &[u8], start: usize, end: usize) -> KeywordParse
 }
 
 // Which form's word stands from `start` up to `end`.
+#[tactic(auto, using(crate::proofs::Words::other_length), unfolding(crate::specs::Keywords::follows, lists::specs::Ascii::bytes_of))]
 fn form_word(text: &[u8], start: usize, end: usize) -> KeywordParse
     requires { (start ≤ end) × (end ≤ length text.now) }
     ensures { result ≡ follows form_words text.now start end RefusedKeyword }
