@@ -1,5 +1,5 @@
-// The bytes of a plan text by their part in it. Letters and digits are those of ASCII, for which std
-// has the tests.
+// The bytes of a plan text by their part in it. Letters and digits are those of ASCII, for which
+// std has the tests.
 ghost use Rattle.std.specs.Prelude.{◌≡◌};
 ghost use Rattle.lexer.specs.Bytes.{ends_run};
 

@@ -6,6 +6,5 @@ pub mod Listing
 pub mod NewBit
 pub mod NumberDue
 pub mod PastOp
-pub mod WhichWord
 pub mod WordDue
 pub mod Words

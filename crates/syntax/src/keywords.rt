@@ -8,6 +8,7 @@ use crate::{FormWord, OpWord};
 use refusal::Refusal;
 
 // Which op's word stands from `start` up to `end`.
+#[tactic(auto, using(crate::proofs::Words::other_length), unfolding(crate::specs::Keywords::follows, lists::specs::Ascii::bytes_of))]
 fn op_word(text: &[u8], start: usize, end: usize) -> Result<(OpWord, usize), Refusal>
     requires { (start ≤ end) × (end ≤ length text.now) }
     ensures { result ≡ follows op_words text.now start end Err }
@@ -38,6 +39,7 @@ fn op_word(text: &[u8], start: usize, end: usize) -> Result<(OpWord, usize), Ref
 }
 
 // Which form's word stands from `start` up to `end`.
+#[tactic(auto, using(crate::proofs::Words::other_length), unfolding(crate::specs::Keywords::follows, lists::specs::Ascii::bytes_of))]
 fn form_word(text: &[u8], start: usize, end: usize) -> Result<(FormWord, usize), Refusal>
     requires { (start ≤ end) × (end ≤ length text.now) }
     ensures { result ≡ follows form_words text.now start end Err }

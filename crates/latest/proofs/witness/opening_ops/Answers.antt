@@ -12,5 +12,5 @@ pub returns : goal.returns
 unfolding opening_ops
 returns c =
     c.from.ensures
-    ∙ number_of_not _
+    ∙ number_of_not c.has_box.result
     ∙ simp (← c.starts_run.ensures, c.if-not-starts_run.false, ← c.has_box.ensures)

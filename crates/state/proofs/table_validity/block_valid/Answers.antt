@@ -47,6 +47,3 @@ returns c =
     let args = c.args in
     let ended : c.loop-set.set ≡ args.count = omega arith in
     sym c.loop-set.invariant.1 ∙ ap (all_below _) ended
-
-pub set_valid-requires : goal.set_valid-requires
-set_valid-requires c = omega arith

@@ -21,9 +21,6 @@ pub loop-index-init : goal.loop-index-init
 unfolding all_below
 loop-index-init c = (omega arith, λ plan rights. refl)
 
-pub box_valid-requires : goal.box_valid-requires
-box_valid-requires c = (c.requires, c.loop-index-test.true)
-
 pub returns-then-not-box_valid : goal.returns-then-not-box_valid
 returns-then-not-box_valid c =
     λ plan rights.

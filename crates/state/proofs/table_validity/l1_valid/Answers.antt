@@ -29,6 +29,3 @@ pub returns : goal.returns
 returns c =
     let last : c.loop-index.index ≡ 16 = omega arith in
     λ plan state ended mask. sym (c.loop-index.invariant.1 plan state ended mask) ∙ ap (all_below _) last
-
-pub l1_entry_valid-requires : goal.l1_entry_valid-requires
-l1_entry_valid-requires c = omega arith

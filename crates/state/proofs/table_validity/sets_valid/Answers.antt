@@ -16,9 +16,6 @@ pub loop-first-init : goal.loop-first-init
 unfolding all_below
 loop-first-init c = (omega arith, refl, refl)
 
-pub block_valid-requires : goal.block_valid-requires
-block_valid-requires c = (c.requires, omega arith)
-
 pub returns-then-not-block_valid : goal.returns-then-not-block_valid
 returns-then-not-block_valid c =
     let fails = sym c.block_valid.ensures ∙ c.if-not-block_valid.true in

@@ -3,7 +3,6 @@
 use mathlib.Core.Bool.{false}
 use mathlib.Core.Path.{◌≡◌, ◌∙◌, refl, sym}
 use Prim.Native.Nat.{◌+◌, ◌-◌}
-use native.Mathlib.Omega.{arith}
 use lib.Dec.{eqb}
 use lib.ListN.{drop, length, take}
 use Rattle.std.proofs.Common.{rules, tests}
@@ -46,6 +45,3 @@ loop-way-preserved c =
 pub returns : goal.returns
 unfolding ways_valid
 returns c = decides_end (ways_valid _) _ _ c.loop-way-test.false c.loop-way.invariant
-
-pub way_valid-requires : goal.way_valid-requires
-way_valid-requires c = omega arith

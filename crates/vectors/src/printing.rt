@@ -1,0 +1,64 @@
+// What is printed: words, numbers, answers and records.
+ghost use Rattle.std.specs.Prelude.{◌≡◌, length};
+
+use pirkvezo::offsets::ANSWER_LENGTH;
+use std::io;
+
+// The bytes of a record.
+pub const RECORD_SIZE: usize = records::limits::RECORD_SIZE as usize;
+
+pub fn print(rt: &impl Print, bytes: &[u8]) -> io::Result<()> {
+    rt.write_all(bytes)
+}
+
+pub fn print_number(rt: &impl Print, number: u64) -> io::Result<()> {
+    print!(rt; " {number}")
+}
+
+// The label of an example, and the number and the companion that a call answers.
+pub fn print_answer(rt: &impl Print, label: &[u8], answer: [u64; ANSWER_LENGTH]) -> io::Result<()> {
+    print(rt, label)?;
+    print_number(rt, answer[0])?;
+    print_number(rt, answer[1])
+}
+
+pub fn print_ending(rt: &impl Print, ending: u64) -> io::Result<()> {
+    match ending {
+        0 => print(rt, b" stopped"),
+        _ => print(rt, b" ended"),
+    }
+}
+
+// The word of a record's kind.
+fn print_kind(rt: &impl Print, kind: u8) -> io::Result<()> {
+    match kind {
+        1 => print(rt, b" hit1"),
+        2 => print(rt, b" hit2"),
+        3 => print(rt, b" miss"),
+        4 => print(rt, b" sent"),
+        5 => print(rt, b" got"),
+        6 => print(rt, b" empty"),
+        7 => print(rt, b" denied"),
+        8 => print(rt, b" ran"),
+        9 => print(rt, b" barred"),
+        _ => print(rt, b" none"),
+    }
+}
+
+// A record's kind, value and clock.
+fn print_record(rt: &impl Print, seen: &[u8]) -> io::Result<()>
+    requires { length seen.now ≡ 8 }
+{
+    let value = u16::from_le_bytes([seen[2], seen[3]]);
+    let clock = u32::from_le_bytes([seen[4], seen[5], seen[6], seen[7]]);
+    print_kind(rt, seen[0])?;
+    print_number(rt, u64::from(value))?;
+    print_number(rt, u64::from(clock))
+}
+
+pub fn print_records(rt: &impl Print, records: &[u8]) -> io::Result<()> {
+    for seen in records.chunks_exact(RECORD_SIZE) {
+        print_record(rt, seen)?;
+    }
+    Ok(())
+}
