@@ -13,16 +13,16 @@ use Rattle.plan.specs.Validity.{plan_valid}
 use Rattle.state.specs.declared.State.{State}
 use Rattle.state.specs.World.{World}
 use Rattle.machine.specs.View.{world_with}
-use Rattle.reader.specs.Read.{read_of}
+use Rattle.reader.specs.Read.{ReadOutcome, read_of}
 use Rattle.engine.specs.declared.Ending.{Ending}
-use Rattle.engine.specs.Answers.{answered, fresh_with as engine_fresh}
+use Rattle.engine.specs.Answers.{answered}
 use Rattle.engine.specs.FreshStart.{FreshOutcome, fresh_start_of}
 use Rattle.engine.specs.declared.LentLog.{LentLog}
 use Rattle.engine.specs.declared.LentLog.TheVariants.{Part, Whole}
 use Rattle.engine.specs.LentLog.{lent_call_of}
 use Rattle.engine.specs.Running.{RunOutcome, ending_number, step_call_of}
 use Rattle.engine.proofs.Verdicts.{part_called, whole_called}
-use Rattle.pirkvezo.specs.declared.LogAnswer.{LogAnswer}
+use Rattle.pirkvezo.specs.LogQuery.{LogAnswer}
 use Rattle.pirkvezo.specs.Answers.{all_fit, answer_length, answer_of, plan_fits, verdict_number, wrong_length}
 use Rattle.pirkvezo.specs.LogQuery.{log_answer_of, host_log, log_done, host_log_with}
 use Rattle.pirkvezo.specs.Numbers.{handed_plan, plan_length, plan_numbers, plan_of, state_length, state_numbers, state_of}
@@ -76,15 +76,15 @@ module _ (text scripts plan answer : List ℕ) (number : ℕ) (written : List �
   read_unfit unfit tells = rw (unfit, host_read, tells.number_is, tells.answer_is) refl
 
   pub read_fit :
-      (verdict : Verdict) (given : Plan) (filled stored : List ℕ)
+      (read : ReadOutcome) (stored : List ℕ)
       → plan_fits plan answer ≡ true
-      → (verdict ≡ (read_of text scripts).verdict) × (given ≡ (read_of text scripts).plan) × (filled ≡ (read_of text scripts).scripts)
-      → stored ≡ plan_numbers given
-      → Told verdict 0 0 answer number written
-      → host_read_with number filled stored written ≡ host_read text scripts plan answer
+      → read ≡ read_of text scripts
+      → stored ≡ plan_numbers read.plan
+      → Told read.verdict 0 0 answer number written
+      → host_read_with number read.scripts stored written ≡ host_read text scripts plan answer
   unfolding host_read read_done
-  read_fit verdict given filled stored fit did stores tells =
-      rw (fit, host_read, tells.number_is, tells.answer_is, stores, did.0, did.1, did.2) refl
+  read_fit read stored fit did stores tells =
+      rw (fit, host_read, tells.number_is, tells.answer_is, stores) (ap (λ (outcome : ReadOutcome). read_done outcome answer) did)
 
 -- ---- a fresh start
 
@@ -97,17 +97,17 @@ module _ (plan state cache boxes answer : List ℕ) (number : ℕ) (written : Li
   fresh_unfit unfit tells = rw (unfit, host_fresh_start, tells.number_is, tells.answer_is) refl
 
   pub fresh_fit :
-      (lent : Plan) (before left : State) (verdict : Verdict) (stored emptied cleared : List ℕ)
+      (lent : Plan) (before : State) (fresh : FreshOutcome) (stored : List ℕ)
       → all_fit plan state answer ≡ true
       → lent ≡ handed_plan plan
       → before ≡ state_of state
-      → engine_fresh verdict left emptied cleared ≡ fresh_start_of lent before cache boxes
-      → stored ≡ state_numbers left
-      → Told verdict 0 0 answer number written
-      → host_fresh_with number stored emptied cleared written ≡ host_fresh_start plan state cache boxes answer
+      → fresh ≡ fresh_start_of lent before cache boxes
+      → stored ≡ state_numbers fresh.state
+      → Told fresh.verdict 0 0 answer number written
+      → host_fresh_with number stored fresh.cache fresh.boxes written ≡ host_fresh_start plan state cache boxes answer
   unfolding host_fresh_start fresh_done
-  fresh_fit lent before left verdict stored emptied cleared fit planned stated did stores tells =
-      let done : engine_fresh verdict left emptied cleared ≡ fresh_start_of (plan_of plan) (state_of state) cache boxes =
+  fresh_fit lent before fresh stored fit planned stated did stores tells =
+      let done : fresh ≡ fresh_start_of (plan_of plan) (state_of state) cache boxes =
       did
       ∙ ap (λ (p : Plan). fresh_start_of p before cache boxes) planned
       ∙ ap (λ (s : State). fresh_start_of (handed_plan plan) s cache boxes) stated

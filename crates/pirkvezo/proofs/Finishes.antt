@@ -5,7 +5,6 @@ use mathlib.Core.Bool.{Bool, true, false}
 use mathlib.Core.List.{List}
 use Prim.Native.Nat.{ℕ}
 use Rattle.plan.specs.declared.Plan.{Plan}
-use Rattle.latest.specs.declared.LatestAnswer.{LatestAnswer}
 use Rattle.latest.specs.Answer.{LatestOutcome, latest_from, latest_of, latest_verdict, latest_with}
 use Rattle.latest.proofs.Answers.{impossible_alike}
 use Rattle.pirkvezo.specs.Answers.{answer_of, plan_fits, wrong_length}
@@ -15,6 +14,8 @@ use Rattle.pirkvezo.specs.Theorems.{RefusedLatestKeeps}
 use Rattle.pirkvezo.proofs.Calls.{Told}
 use Rattle.pirkvezo.proofs.Judged.{handed}
 use Rattle.refusal.specs.Verdict.{Verdict}
+use Rattle.refusal.specs.declared.Refusal.{Refusal}
+use Rattle.std.specs.Prelude.{Result}
 
 module _ (plan : List ℕ) (domain : ℕ) (script answer : List ℕ) (number : ℕ) (told : List ℕ) where
   pub latest_unfit :
@@ -25,15 +26,15 @@ module _ (plan : List ℕ) (domain : ℕ) (script answer : List ℕ) (number : �
   latest_unfit unfit tells = rw (unfit, host_latest, tells.number_is, tells.answer_is) refl
 
   pub latest_fit :
-      (lent : Plan) (found : LatestAnswer) (after : List ℕ)
+      (lent : Plan) (found : LatestOutcome)
       → plan_fits plan answer ≡ true
       → lent ≡ handed_plan plan
-      → latest_with found after ≡ latest_of lent domain script
+      → found ≡ latest_of lent domain script
       → Told found.verdict found.ticks 0 answer number told
-      → host_latest_with number after told ≡ host_latest plan domain script answer
+      → host_latest_with number found.script told ≡ host_latest plan domain script answer
   unfolding host_latest latest_done
-  latest_fit lent found after fit planned did tells =
-      let done : latest_with found after ≡ latest_of (plan_of plan) domain script =
+  latest_fit lent found fit planned did tells =
+      let done : found ≡ latest_of (plan_of plan) domain script =
       did
       ∙ ap (λ (p : Plan). latest_of p domain script) planned
       ∙ handed (λ p. latest_of p domain script) (impossible_alike domain script) plan in

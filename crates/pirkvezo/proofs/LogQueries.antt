@@ -16,7 +16,7 @@ use Rattle.refusal.specs.declared.Refusal.{Refusal}
 use Rattle.engine.specs.LogQuery.{log_query_of, log_from, log_status_of}
 use Rattle.engine.specs.Checks.{log_verdict}
 use Rattle.engine.proofs.Verdicts.{log_accepted, log_within}
-use Rattle.pirkvezo.specs.declared.LogAnswer.{LogAnswer}
+use Rattle.pirkvezo.specs.LogQuery.{LogAnswer}
 use Rattle.pirkvezo.specs.LogQuery.{log_answer_of, log_offset}
 use Rattle.pirkvezo.specs.Theorems.{QueryPointsAtLog}
 use Rattle.refusal.specs.Verdict.{Verdict}

@@ -5,10 +5,12 @@ use Rattle.plan.specs.declared.Plan.{Plan}
 use Rattle.records.specs.Records.{part_records, record_index}
 use Rattle.state.specs.declared.State.{State}
 use Rattle.engine.specs.LogQuery.{log_query_of, log_status_of}
-use Rattle.pirkvezo.specs.declared.LogAnswer.{LogAnswer}
+use Rattle.pirkvezo.specs.declared.LogPart.{LogPart}
 use Rattle.pirkvezo.specs.Answers.{all_fit, answer_of, verdict_number, wrong_length}
 use Rattle.pirkvezo.specs.Numbers.{plan_of, state_of}
 use Rattle.refusal.specs.Verdict.{Verdict}
+use Rattle.refusal.specs.declared.Refusal.{Refusal}
+use Rattle.std.specs.Prelude.{Result}
 
 -- the number returned, and the answer after the call
 pub record LogCall : Type 0 where
@@ -23,6 +25,17 @@ host_log_with number answer = record { number = number; answer = answer }
 abbrev pub log_offset : Verdict → Plan → ℕ → ℕ → ℕ
 log_offset (Ok tt) plan log_length domain = record_index (part_records plan log_length) domain 0
 log_offset (Err refusal) plan log_length domain = 0
+
+-- what a query answers: its verdict, the offset of the log's first byte, and how many bytes the log has
+pub record LogAnswer : Type 0 where
+  pub verdict : Verdict
+  pub offset : ℕ
+  pub length : ℕ
+
+-- an answer that is either the log's part or the refusal, beside which both numbers are 0
+abbrev pub log_answer : Result LogPart Refusal → LogAnswer
+log_answer (Ok part) = record { verdict = Ok tt; offset = part.offset; length = part.length }
+log_answer (Err refusal) = record { verdict = Err refusal; offset = 0; length = 0 }
 
 -- a query: its verdict, the offset of the log's first byte, and how many bytes the log has
 unfoldable pub log_answer_of : Plan → State → List ℕ → ℕ → LogAnswer

@@ -5,10 +5,15 @@ ghost use Rattle.pirkvezo.specs.Answers.{answer_of, verdict_number, wrong_length
 
 use crate::offsets::ANSWER_LENGTH;
 use engine::Ending;
-use refusal::{Refusal, Verdict, code_of};
+use refusal::{Refusal, code_of};
 
 // Writes an answer and returns its first number. An answer of another length stays as it is.
-pub fn put_answer(answer: &mut [u64], verdict: Verdict, third: u64, fourth: u64) -> u32
+pub fn put_answer(
+    answer: &mut [u64],
+    verdict: Result<(), Refusal>,
+    third: u64,
+    fourth: u64,
+) -> u32
     ensures { (result ≡ verdict_number verdict)
         × (answer.new ≡ answer_of verdict third fourth answer.old) }
 {
@@ -27,7 +32,7 @@ pub fn refuse_length(answer: &mut [u64]) -> u32
     ensures { (result ≡ verdict_number wrong_length)
         × (answer.new ≡ answer_of wrong_length 0 0 answer.old) }
 {
-    put_answer(answer, Verdict::Refused(Refusal::WrongLength), 0, 0)
+    put_answer(answer, Err(Refusal::WrongLength), 0, 0)
 }
 
 // 1 for ended, 0 for stopped.

@@ -18,7 +18,8 @@ pub extern "C" fn pirkvezo_step_bound(plan: &[u32], scripts: &[u32], answer: &mu
         return refuse_length(answer);
     }
     let lent = load_plan(plan);
-    let found = step_bound(lent, scripts);
-    let verdict = found.verdict;
-    put_answer(answer, verdict, found.steps, 0)
+    match step_bound(lent, scripts) {
+        Ok(steps) => put_answer(answer, Ok(()), steps, 0),
+        Err(refusal) => put_answer(answer, Err(refusal), 0, 0),
+    }
 }

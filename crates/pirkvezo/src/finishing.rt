@@ -23,7 +23,8 @@ pub extern "C" fn pirkvezo_latest(
         return refuse_length(answer);
     }
     let lent = load_plan(plan);
-    let found = latest(lent, domain, script);
-    let verdict = found.verdict;
-    put_answer(answer, verdict, found.ticks, 0)
+    match latest(lent, domain, script) {
+        Ok(ticks) => put_answer(answer, Ok(()), ticks, 0),
+        Err(refusal) => put_answer(answer, Err(refusal), 0, 0),
+    }
 }

@@ -26,9 +26,14 @@ pub extern "C" fn pirkvezo_frame(
     }
     let mut handed = [0u32; DOMAIN_ENTRIES];
     handed.copy_from_slice(weights);
-    let made = make_frame(count, handed);
-    let verdict = made.verdict;
-    let windows = made.frame;
-    frame.copy_from_slice(&windows);
-    put_answer(answer, verdict, 0, 0)
+    match make_frame(count, handed) {
+        Ok(windows) => {
+            frame.copy_from_slice(&windows);
+            put_answer(answer, Ok(()), 0, 0)
+        }
+        Err(refusal) => {
+            frame.fill(0);
+            put_answer(answer, Err(refusal), 0, 0)
+        }
+    }
 }

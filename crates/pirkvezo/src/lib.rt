@@ -16,13 +16,10 @@ pub mod starting;
 pub mod states;
 pub mod writing;
 
-use refusal::Verdict;
-
-// What a log query answers: the verdict, the offset of the log's first byte within the lent log,
-// and how many bytes it has.
-#[derive(Drop)]
-pub struct LogAnswer {
-    pub verdict: Verdict,
+// Where a domain's log lies: the offset of its first byte within the lent log, and how many bytes it
+// has.
+#[derive(Clone, Copy)]
+pub struct LogPart {
     pub offset: u64,
     pub length: u64,
 }

@@ -1,8 +1,8 @@
 // The log query for one domain, over numbers and slices.
 ghost use Rattle.std.specs.Prelude.{◌≡◌};
-ghost use Rattle.pirkvezo.specs.LogQuery.{log_answer_of, host_log, host_log_with};
+ghost use Rattle.pirkvezo.specs.LogQuery.{host_log, host_log_with, log_answer, log_answer_of};
 
-use crate::LogAnswer;
+use crate::LogPart;
 use crate::answers::{put_answer, refuse_length};
 use crate::offsets::{ANSWER_LENGTH, PLAN_LENGTH, STATE_LENGTH};
 use crate::plans::load_plan;
@@ -10,30 +10,20 @@ use crate::states::load_state;
 use engine::log_query::{log_of, log_refusal};
 use plan::Plan;
 use records::part_records;
-use refusal::Verdict;
+use refusal::Refusal;
 use state::State;
 
-// The log query and its status query; 0 and 0 where they are refused.
-fn query_log(plan: Plan, state: State, log: &[u8], domain: u32) -> LogAnswer
-    ensures { result ≡ log_answer_of plan state log.now domain }
+// The log query and its status query.
+fn query_log(plan: Plan, state: State, log: &[u8], domain: u32) -> Result<LogPart, Refusal>
+    ensures { log_answer result ≡ log_answer_of plan state log.now domain }
 {
-    let verdict = log_refusal(plan, state, log, domain);
-    match verdict {
-        Verdict::Refused(refusal) => LogAnswer {
-            verdict: Verdict::Refused(refusal),
-            offset: 0,
-            length: 0,
-        },
-        Verdict::Accepted => {
-            let quota = part_records(plan.domains, log.len());
-            let part = log_of(plan, state, log, domain);
-            LogAnswer {
-                verdict: Verdict::Accepted,
-                offset: 8 * (quota * domain as u64),
-                length: part.len() as u64,
-            }
-        }
-    }
+    log_refusal(plan, state, log, domain)?;
+    let quota = part_records(plan.domains, log.len());
+    let part = log_of(plan, state, log, domain);
+    Ok(LogPart {
+        offset: 8 * (quota * domain as u64),
+        length: part.len() as u64,
+    })
 }
 
 // The offset of the log's first byte within the lent log, and how many bytes it has.
@@ -56,7 +46,8 @@ pub extern "C" fn pirkvezo_log(
     }
     let lent = load_plan(plan);
     let held = load_state(state);
-    let asked = query_log(lent, held, log, domain);
-    let verdict = asked.verdict;
-    put_answer(answer, verdict, asked.offset, asked.length)
+    match query_log(lent, held, log, domain) {
+        Ok(part) => put_answer(answer, Ok(()), part.offset, part.length),
+        Err(refusal) => put_answer(answer, Err(refusal), 0, 0),
+    }
 }

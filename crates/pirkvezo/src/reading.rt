@@ -5,6 +5,7 @@ ghost use Rattle.pirkvezo.specs.Reading.{host_read, host_read_with};
 use crate::answers::{put_answer, refuse_length};
 use crate::offsets::{ANSWER_LENGTH, PLAN_LENGTH};
 use crate::plans::store_plan;
+use plan::no_plan;
 use reader::read_plan;
 
 // Reads a text into a script store and a plan. A refusal leaves the store, and the plan is zeros.
@@ -22,8 +23,14 @@ pub extern "C" fn pirkvezo_read_plan(
     if !((plan.len() == PLAN_LENGTH) & (answer.len() == ANSWER_LENGTH)) {
         return refuse_length(answer);
     }
-    let reading = read_plan(text, scripts);
-    let verdict = reading.verdict;
-    store_plan(plan, reading.plan);
-    put_answer(answer, verdict, 0, 0)
+    match read_plan(text, scripts) {
+        Ok(read) => {
+            store_plan(plan, read);
+            put_answer(answer, Ok(()), 0, 0)
+        }
+        Err(refusal) => {
+            store_plan(plan, no_plan());
+            put_answer(answer, Err(refusal), 0, 0)
+        }
+    }
 }

@@ -39,12 +39,17 @@ pub fn run_numbers(
     }
     let handed = load_plan(plan);
     let before = load_state(state);
-    let progress = run_lent(lent, handed, scripts, before, cache, boxes, log, limit);
-    let verdict = progress.verdict;
-    let ending = progress.ending;
-    let ended = ending_number(ending);
-    store_state(state, progress.state);
-    put_answer(answer, verdict, progress.steps, ended)
+    match run_lent(lent, handed, scripts, before, cache, boxes, log, limit) {
+        Ok(progress) => {
+            let ended = ending_number(progress.ending);
+            store_state(state, progress.state);
+            put_answer(answer, Ok(()), progress.steps, ended)
+        }
+        Err(refusal) => {
+            store_state(state, before);
+            put_answer(answer, Err(refusal), 0, 0)
+        }
+    }
 }
 
 // At most `limit` steps.

@@ -29,8 +29,14 @@ pub extern "C" fn pirkvezo_fresh_start(
     }
     let lent = load_plan(plan);
     let before = load_state(state);
-    let started = fresh_start(lent, before, cache, boxes);
-    let verdict = started.verdict;
-    store_state(state, started.state);
-    put_answer(answer, verdict, 0, 0)
+    match fresh_start(lent, cache, boxes) {
+        Ok(fresh) => {
+            store_state(state, fresh);
+            put_answer(answer, Ok(()), 0, 0)
+        }
+        Err(refusal) => {
+            store_state(state, before);
+            put_answer(answer, Err(refusal), 0, 0)
+        }
+    }
 }

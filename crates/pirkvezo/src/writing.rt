@@ -24,7 +24,8 @@ pub extern "C" fn pirkvezo_write_plan(
         return refuse_length(answer);
     }
     let lent = load_plan(plan);
-    let written = write_plan(lent, scripts, out);
-    let verdict = written.verdict;
-    put_answer(answer, verdict, written.bytes as u64, 0)
+    match write_plan(lent, scripts, out) {
+        Ok(bytes) => put_answer(answer, Ok(()), bytes as u64, 0),
+        Err(refusal) => put_answer(answer, Err(refusal), 0, 0),
+    }
 }

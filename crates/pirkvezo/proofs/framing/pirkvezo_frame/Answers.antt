@@ -1,9 +1,11 @@
 -- `pirkvezo::framing::pirkvezo_frame` meets its contract. Assumes nothing.
 use native.Mathlib.Omega.{arith}
-use mathlib.Core.Path.{◌≡◌, ap, ◌∙◌}
-use lib.ListN.{length}
+use Prim.Native.Nat.{ℕ}
+use mathlib.Core.Path.{◌≡◌, ap, sym, ◌∙◌}
+use Rattle.std.specs.Prelude.{Ok, Err}
+use lib.ListN.{length, replicate}
 use Rattle.plan.specs.Limits.{most_windows}
-use Rattle.frame.specs.Frame.{FrameAnswer}
+use Rattle.frame.specs.Frame.{FrameAnswer, frame_answer}
 use Rattle.frame.proofs.Making.{made_entries}
 use Rattle.pirkvezo.proofs.Calls.{told}
 use Rattle.pirkvezo.proofs.Frames.{frame_fit, frame_lengths, frame_unfit}
@@ -21,21 +23,32 @@ copy_from_slice-requires c =
     let long = frame_lengths start.weights.now start.frame.now start.answer.now c.if-not-weights-frame.false in
     omega (arith, long.weights_are)
 
-pub copy_from_slice-requires-2 : goal.copy_from_slice-requires-2
-copy_from_slice-requires-2 c =
+pub copy_from_slice-requires-in-Ok : goal.copy_from_slice-requires-in-Ok
+copy_from_slice-requires-in-Ok c =
     let start = c.args in
     let long = frame_lengths start.weights.now start.frame.now start.answer.now c.if-not-weights-frame.false in
-    let made = c.make_frame-made in
-    let full : length made.result.frame ≡ most_windows =
-    ap (λ (frame_made : FrameAnswer). length frame_made.frame) made.ensures ∙ made_entries _ _ in
+    let made = ap frame_answer (sym c.in-Ok.is) ∙ c.make_frame.ensures in
+    let full : length c.in-Ok.windows ≡ most_windows =
+    ap (λ (frame_made : FrameAnswer). length frame_made.frame) made ∙ made_entries _ _ in
     omega (arith, full, long.frame_is)
 
-pub returns : goal.returns
-returns c =
+pub returns-in-Ok : goal.returns-in-Ok
+returns-in-Ok c =
     let start = c.args in
-    frame_fit start.count start.weights.now start.frame.now start.answer.now _ _ _ _ c.make_frame-made.result
+    frame_fit start.count start.weights.now start.frame.now start.answer.now _ _ _ _ (frame_answer (Ok c.in-Ok.windows))
     c.if-not-weights-frame.false
     c.copy_from_slice.ensures.after
-    c.make_frame-made.ensures
-    c.copy_from_slice-2.ensures.after
+    (ap frame_answer (sym c.in-Ok.is) ∙ c.make_frame.ensures)
+    c.copy_from_slice-in-Ok.ensures.after
     (told c.put_answer.ensures)
+
+pub returns-in-Err : goal.returns-in-Err
+returns-in-Err c =
+    let start = c.args in
+    let long = frame_lengths start.weights.now start.frame.now start.answer.now c.if-not-weights-frame.false in
+    frame_fit start.count start.weights.now start.frame.now start.answer.now _ _ _ _ (frame_answer (Err c.in-Err.refusal))
+    c.if-not-weights-frame.false
+    c.copy_from_slice.ensures.after
+    (ap frame_answer (sym c.in-Err.is) ∙ c.make_frame.ensures)
+    (c.fill.ensures.after (λ number is. is) ∙ ap (λ (size : ℕ). replicate size 0) long.frame_is)
+    (told c.put_answer-in-Err.ensures)

@@ -1,4 +1,7 @@
 -- `pirkvezo::log_query::pirkvezo_log` meets its contract. Assumes nothing.
+use mathlib.Core.Path.{ap, sym, ◌∙◌}
+use Rattle.std.specs.Prelude.{Ok, Err}
+use Rattle.pirkvezo.specs.LogQuery.{log_answer}
 use Rattle.pirkvezo.proofs.Calls.{lengths, log_fit, log_unfit, told}
 use Rattle.pirkvezo.proofs.log_query.pirkvezo_log.Goals as goal
 
@@ -18,12 +21,22 @@ load_state-held-requires c =
     let start = c.args in
     (lengths start.plan.now start.state.now start.answer.now c.if-not-plan-state.false).state_is
 
-pub returns : goal.returns
-returns c =
+pub returns-in-Ok : goal.returns-in-Ok
+returns-in-Ok c =
     let start = c.args in
-    log_fit start.plan.now start.state.now start.log.now start.domain start.answer.now _ _ _ _ _
+    log_fit start.plan.now start.state.now start.log.now start.domain start.answer.now _ _ _ _ (log_answer (Ok c.in-Ok.part))
     c.if-not-plan-state.false
     c.load_plan-lent.ensures
     c.load_state-held.ensures
-    c.query_log-asked.ensures
+    (ap log_answer (sym c.in-Ok.is) ∙ c.query_log.ensures)
     (told c.put_answer.ensures)
+
+pub returns-in-Err : goal.returns-in-Err
+returns-in-Err c =
+    let start = c.args in
+    log_fit start.plan.now start.state.now start.log.now start.domain start.answer.now _ _ _ _ (log_answer (Err c.in-Err.refusal))
+    c.if-not-plan-state.false
+    c.load_plan-lent.ensures
+    c.load_state-held.ensures
+    (ap log_answer (sym c.in-Err.is) ∙ c.query_log.ensures)
+    (told c.put_answer-in-Err.ensures)

@@ -1,4 +1,10 @@
 -- `pirkvezo::reading::pirkvezo_read_plan` meets its contract. Assumes nothing.
+use mathlib.Core.Path.{ap, sym, ◌∙◌}
+use Rattle.std.specs.Prelude.{Result, Ok, Err}
+use Rattle.plan.specs.declared.Plan.{Plan}
+use Rattle.reader.specs.Read.{read_result}
+use Rattle.refusal.specs.declared.Refusal.{Refusal}
+use Rattle.pirkvezo.specs.Numbers.{plan_numbers}
 use Rattle.pirkvezo.proofs.Calls.{read_fit, read_lengths, read_unfit, told}
 use Rattle.pirkvezo.proofs.reading.pirkvezo_read_plan.Goals as goal
 
@@ -13,11 +19,25 @@ store_plan-requires c =
     let start = c.args in
     (read_lengths start.plan.now start.answer.now c.if-not-plan-answer.false).0
 
-pub returns : goal.returns
-returns c =
+pub store_plan-requires-in-Err : goal.store_plan-requires-in-Err
+store_plan-requires-in-Err c =
     let start = c.args in
-    read_fit start.text.now start.scripts.now start.plan.now start.answer.now _ _ _ _ _ _
+    (read_lengths start.plan.now start.answer.now c.if-not-plan-answer.false).0
+
+pub returns-in-Ok : goal.returns-in-Ok
+returns-in-Ok c =
+    let start = c.args in
+    read_fit start.text.now start.scripts.now start.plan.now start.answer.now _ _ (read_result (Ok c.in-Ok.read) c.read_plan.new.scripts) _
     c.if-not-plan-answer.false
-    c.read_plan-reading.ensures
+    (ap (λ (read : Result Plan Refusal). read_result read c.read_plan.new.scripts) (sym c.in-Ok.is) ∙ c.read_plan.ensures)
     c.store_plan.ensures
     (told c.put_answer.ensures)
+
+pub returns-in-Err : goal.returns-in-Err
+returns-in-Err c =
+    let start = c.args in
+    read_fit start.text.now start.scripts.now start.plan.now start.answer.now _ _ (read_result (Err c.in-Err.refusal) c.read_plan.new.scripts) _
+    c.if-not-plan-answer.false
+    (ap (λ (read : Result Plan Refusal). read_result read c.read_plan.new.scripts) (sym c.in-Err.is) ∙ c.read_plan.ensures)
+    (c.store_plan-in-Err.ensures ∙ ap plan_numbers c.no_plan.ensures)
+    (told c.put_answer-in-Err.ensures)

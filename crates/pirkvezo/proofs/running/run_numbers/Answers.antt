@@ -1,4 +1,9 @@
 -- `pirkvezo::running::run_numbers` meets its contract. Assumes nothing.
+use mathlib.Core.Path.{ap, refl, sym, ◌∙◌}
+use Rattle.std.specs.Prelude.{Result}
+use Rattle.engine.specs.Answers.{run_with}
+use Rattle.engine.specs.declared.Progress.{Progress}
+use Rattle.refusal.specs.declared.Refusal.{Refusal}
 use Rattle.engine.specs.LentLog.{lent_call_of}
 use Rattle.pirkvezo.proofs.Judged.{lent_alike}
 use Rattle.pirkvezo.proofs.Calls.{lengths, run_fit, run_unfit, told}
@@ -27,16 +32,39 @@ store_state-requires c =
     let start = c.args in
     (lengths start.plan.now start.state.now start.answer.now c.if-not-plan-state.false).state_is
 
-pub returns : goal.returns
-returns c =
+pub store_state-requires-in-Err : goal.store_state-requires-in-Err
+store_state-requires-in-Err c =
     let start = c.args in
+    (lengths start.plan.now start.state.now start.answer.now c.if-not-plan-state.false).state_is
+
+pub returns-in-Ok : goal.returns-in-Ok
+returns-in-Ok c =
+    let start = c.args in
+    let ran = c.run_lent in
     run_fit (λ handed world. lent_call_of start.lent handed start.scripts.now world start.limit)
     start.plan.now start.state.now start.cache.now start.boxes.now start.log.now
     start.answer.now _ _ (λ world. lent_alike start.lent start.scripts.now world start.limit) _ _ _ _ _ _ _ _ _ _ _
     c.if-not-plan-state.false
     c.load_plan-handed.ensures
     c.load_state-before.ensures
-    c.run_lent-progress.ensures
+    (ap (λ (progress : Result Progress Refusal). run_with progress c.load_state-before.result ran.new.cache ran.new.boxes ran.new.log)
+    (sym c.in-Ok.is) ∙ ran.ensures)
     c.ending_number-ended.ensures
     c.store_state.ensures
     (told c.put_answer.ensures)
+
+pub returns-in-Err : goal.returns-in-Err
+returns-in-Err c =
+    let start = c.args in
+    let ran = c.run_lent in
+    run_fit (λ handed world. lent_call_of start.lent handed start.scripts.now world start.limit)
+    start.plan.now start.state.now start.cache.now start.boxes.now start.log.now
+    start.answer.now _ _ (λ world. lent_alike start.lent start.scripts.now world start.limit) _ _ _ _ _ _ _ _ _ _ _
+    c.if-not-plan-state.false
+    c.load_plan-handed.ensures
+    c.load_state-before.ensures
+    (ap (λ (progress : Result Progress Refusal). run_with progress c.load_state-before.result ran.new.cache ran.new.boxes ran.new.log)
+    (sym c.in-Err.is) ∙ ran.ensures)
+    refl
+    c.store_state-in-Err.ensures
+    (told c.put_answer-in-Err.ensures)
