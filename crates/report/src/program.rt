@@ -1,6 +1,8 @@
 // What the program planrun prints for a plan's text.
-ghost use Rattle.std.specs.Prelude.{◌≡◌, true};
+ghost use Rattle.std.specs.Prelude.{◌≡◌, true, ℕ, List};
 ghost use Rattle.plan.specs.Validity.{plan_valid};
+ghost use Rattle.machine.specs.View.{world_with};
+ghost use Rattle.engine.specs.Answers.{run_with};
 ghost use Rattle.report.specs.Planrun.{planrun_run, ran_lines};
 ghost use Rattle.report.specs.Theorems.{PlanrunWrote};
 ghost use Rattle.lists.specs.Writing.{Wrote};
@@ -8,14 +10,26 @@ ghost use Rattle.lists.specs.Writing.{Wrote};
 use crate::limits::{LARGEST_LIMIT, PLANRUN_LOG};
 use crate::{write_refusal, write_run};
 use cache::limits::TABLE_LENGTH;
+use engine::Progress;
 use engine::running::run;
 use engine::starting::fresh_start;
 use ops::limits::BOXES_LENGTH;
 use plan::Plan;
 use reader::read_plan;
-use refusal::{Verdict, code_of};
+use refusal::{Code, Refusal};
 use script::limits::SCRIPTS_LENGTH;
-use state::fresh_state;
+use state::State;
+
+// The state that a run leaves: a refused one leaves the state that it was handed.
+fn state_left(ran: Result<Progress, Refusal>, before: State) -> State
+    ensures { (cache boxes log : List ℕ)
+        → world_with result cache boxes log ≡ (run_with ran before cache boxes log).world }
+{
+    match ran {
+        Ok(progress) => progress.state,
+        Err(_) => before,
+    }
+}
 
 // The lines of an accepted plan, run from a fresh start to its end.
 fn run_lines(plan: Plan, scripts: &[u32], out: &mut [u8]) -> usize
@@ -26,10 +40,8 @@ fn run_lines(plan: Plan, scripts: &[u32], out: &mut [u8]) -> usize
     let mut cache = [0u16; TABLE_LENGTH];
     let mut boxes = [0u32; BOXES_LENGTH];
     let mut log = [0u8; PLANRUN_LOG];
-    let nothing = fresh_state();
-    let started = fresh_start(plan, nothing, &mut cache, &mut boxes);
-    let fresh = started.state;
-    let progress = run(
+    let fresh = fresh_start(plan, &mut cache, &mut boxes).unwrap();
+    let ran = run(
         plan,
         scripts,
         fresh,
@@ -38,8 +50,7 @@ fn run_lines(plan: Plan, scripts: &[u32], out: &mut [u8]) -> usize
         &mut log,
         LARGEST_LIMIT,
     );
-    let last = progress.state;
-    write_run(plan, last, &log, out)
+    write_run(plan, state_left(ran, fresh), &log, out)
 }
 
 // The lines for a plan's text: those of its run, or of its refusal.
@@ -47,14 +58,8 @@ pub fn plan_lines(text: &[u8], out: &mut [u8]) -> usize
     ensures { PlanrunWrote text.now out.old out.new result }
 {
     let mut scripts = [0u32; SCRIPTS_LENGTH];
-    let reading = read_plan(text, &mut scripts);
-    let plan = reading.plan;
-    let verdict = reading.verdict;
-    match verdict {
-        Verdict::Refused(refusal) => {
-            let code = code_of(Verdict::Refused(refusal));
-            write_refusal(code, out)
-        }
-        Verdict::Accepted => run_lines(plan, &scripts, out),
+    match read_plan(text, &mut scripts) {
+        Ok(plan) => run_lines(plan, &scripts, out),
+        Err(refusal) => write_refusal(Code::from(refusal), out),
     }
 }

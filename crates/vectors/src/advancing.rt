@@ -1,11 +1,9 @@
 // The calls that run the machine.
 ghost use Rattle.std.specs.Prelude.{◌≡◌, length};
 
-use engine::Progress;
 use engine::lending::step;
 use pirkvezo::answers::{ending_number, put_answer};
 use pirkvezo::keeping::pirkvezo_run_kept;
-use pirkvezo::offsets::STATE_LENGTH;
 use pirkvezo::plans::load_plan;
 use pirkvezo::running::pirkvezo_run;
 use pirkvezo::states::{load_state, store_state};
@@ -19,15 +17,29 @@ pub enum Call {
     Kept(u32, u64, u64),
 }
 
-// What a step answers and leaves, in numbers.
-fn store_progress(progress: Progress, state: &mut [u64], answer: &mut [u64]) {
-    let verdict = progress.verdict;
-    let ending = progress.ending;
-    if state.len() != STATE_LENGTH {
-        return;
+// A single step, by the engine's own entry point: what it answers and leaves, in numbers.
+fn advance_once(
+    plan: &[u32],
+    scripts: &[u32],
+    state: &mut [u64],
+    cache: &mut [u16],
+    boxes: &mut [u32],
+    log: &mut [u8],
+    answer: &mut [u64],
+)
+    requires { (length plan.now ≡ 92) × (length state.old ≡ 18) }
+{
+    let lent = load_plan(plan);
+    let before = load_state(state);
+    match step(lent, scripts, before, cache, boxes, log) {
+        Ok(progress) => {
+            store_state(state, progress.state);
+            put_answer(answer, Ok(()), progress.steps, ending_number(progress.ending));
+        }
+        Err(refusal) => {
+            put_answer(answer, Err(refusal), 0, 0);
+        }
     }
-    store_state(state, progress.state);
-    put_answer(answer, verdict, progress.steps, ending_number(ending));
 }
 
 // A single step, by the engine's own entry point, or a run by the library's.
@@ -45,10 +57,7 @@ pub fn advance(
 {
     match call {
         Call::Step => {
-            let lent = load_plan(plan);
-            let before = load_state(state);
-            let progress = step(lent, scripts, before, cache, boxes, log);
-            store_progress(progress, state, answer);
+            advance_once(plan, scripts, state, cache, boxes, log, answer);
         }
         Call::Run(limit) => {
             pirkvezo_run(plan, scripts, state, cache, boxes, log, limit, answer);

@@ -20,24 +20,46 @@ use Rattle.cache.specs.Lines.{empty_table}
 use Rattle.ops.specs.Ops.{empty_boxes}
 use Rattle.state.specs.declared.State.{State}
 use Rattle.engine.specs.Answers.{fresh_with}
-use Rattle.engine.specs.FreshStart.{fresh_start_of}
+use Rattle.engine.specs.Checks.{fresh_verdict}
+use Rattle.engine.specs.FreshStart.{FreshOutcome, fresh_from, fresh_start_of}
+use Rattle.refusal.proofs.Passed.{not_refused}
+use Rattle.state.specs.World.{fresh_state}
+use Rattle.std.specs.Prelude.{IsOk}
+use borrow.Author.Rules.{rules}
 use Rattle.engine.specs.Answers.{run_with}
 use Rattle.engine.specs.declared.Progress.{Progress}
 use Rattle.report.proofs.program.run_lines.Goals as goal
 use Rattle.refusal.specs.Verdict.{Verdict}
+use Rattle.refusal.specs.declared.Refusal.{Refusal}
+use Rattle.std.specs.Prelude.{Ok}
+use Rattle.std.specs.Prelude.{Err}
+use Rattle.std.specs.Prelude.{Result}
+
+-- a fresh start under a possible plan, on tables of the right lengths, is not refused
+taken :
+    (plan : Plan) (started : Result State Refusal) (cache boxes : List ℕ)
+    → plan_valid plan ≡ true
+    → ((old : State) → fresh_with started old cache boxes ≡ fresh_start_of plan old empty_table empty_boxes)
+    → IsOk started
+unfolding fresh_start_of fresh_verdict
+taken plan (Ok fresh) cache boxes possible did = search rules
+taken plan (Err refusal) cache boxes possible did =
+    let accepted : fresh_verdict plan empty_table empty_boxes ≡ Ok tt = rw possible in
+    let started = did fresh_state ∙ ap (λ (v : Verdict). fresh_from v fresh_state empty_table empty_boxes) accepted in
+    absurd (not_refused refusal (ap (λ (f : FreshOutcome). f.verdict) started))
 
 -- the run starts from a fresh start, so it leaves what the definition says
 world_is :
-    (plan : Plan) (scripts : List ℕ) (old fresh : State) (verdict : Verdict) (cache boxes : List ℕ) (progress : Progress)
+    (plan : Plan) (scripts : List ℕ) (fresh : State) (cache boxes : List ℕ) (ran : Result Progress Refusal)
     (lastCache lastBoxes log : List ℕ)
     → plan_valid plan ≡ true
-    → fresh_with verdict fresh cache boxes ≡ fresh_start_of plan old empty_table empty_boxes
-    → run_with progress lastCache lastBoxes log ≡ run_call_of plan scripts (world_with fresh cache boxes lent_log) largest_limit
-    → world_with progress.state lastCache lastBoxes log ≡ (planrun_run plan scripts).world
-world_is plan scripts old fresh verdict cache boxes progress lastCache lastBoxes log possible started ran =
-    ap (λ (r : RunOutcome). r.world) ran
+    → ((old : State) → fresh_with (Ok fresh) old cache boxes ≡ fresh_start_of plan old empty_table empty_boxes)
+    → run_with ran fresh lastCache lastBoxes log ≡ run_call_of plan scripts (world_with fresh cache boxes lent_log) largest_limit
+    → (run_with ran fresh lastCache lastBoxes log).world ≡ (planrun_run plan scripts).world
+world_is plan scripts fresh cache boxes ran lastCache lastBoxes log possible started did =
+    ap (λ (r : RunOutcome). r.world) did
     ∙ ap (λ (w : World). (run_call_of plan scripts w largest_limit).world)
-    (started_fresh plan old fresh verdict cache boxes lent_log possible started)
+    (started_fresh plan fresh fresh cache boxes lent_log possible (started fresh))
 
 -- and its state is valid
 left_by :
@@ -48,15 +70,23 @@ left_by :
 left_by plan scripts world possible is =
     subst (Left plan lent_log) (sym is) (run_left plan scripts lent_log largest_limit possible)
 
+pub unwrap-fresh-requires : goal.unwrap-fresh-requires
+unwrap-fresh-requires c = taken c.args.plan _ _ _ c.requires c.fresh_start.ensures
+
 pub write_run-requires : goal.write_run-requires
 write_run-requires c =
     let plan = c.args.plan in
+    let ran = c.run-ran in
+    let fresh = c.unwrap-fresh.result in
+    let started = λ (old : State).
+        ap (λ (s : Result State Refusal). fresh_with s old c.fresh_start.new.cache c.fresh_start.new.boxes) (sym c.unwrap-fresh.ensures)
+        ∙ c.fresh_start.ensures old in
     let is =
-    world_is plan c.args.scripts.now _ _ c.fresh_start-started.result.verdict _ _ c.run-progress.result c.run-progress.new.cache
-    c.run-progress.new.boxes c.run-progress.new.log c.requires c.fresh_start-started.ensures c.run-progress.ensures in
+    c.state_left.ensures ran.new.cache ran.new.boxes ran.new.log
+    ∙ world_is plan c.args.scripts.now fresh _ _ ran.result ran.new.cache ran.new.boxes ran.new.log c.requires started ran.ensures in
     let left = left_by plan c.args.scripts.now _ c.requires is in (
       c.requires,
-      ap (λ (n : ℕ). state_valid plan (part_records plan n) c.run-progress.result.state) left.long
+      ap (λ (n : ℕ). state_valid plan (part_records plan n) c.state_left.result) left.long
           ∙ left.possible,
       rw left.long (rw length-replicate (omega arith)),
     )
@@ -65,7 +95,12 @@ pub returns : goal.returns
 unfolding ran_lines
 returns c =
     let plan = c.args.plan in
+    let ran = c.run-ran in
+    let fresh = c.unwrap-fresh.result in
+    let started = λ (old : State).
+        ap (λ (s : Result State Refusal). fresh_with s old c.fresh_start.new.cache c.fresh_start.new.boxes) (sym c.unwrap-fresh.ensures)
+        ∙ c.fresh_start.ensures old in
     let is =
-    world_is plan c.args.scripts.now _ _ c.fresh_start-started.result.verdict _ _ c.run-progress.result c.run-progress.new.cache
-    c.run-progress.new.boxes c.run-progress.new.log c.requires c.fresh_start-started.ensures c.run-progress.ensures in
+    c.state_left.ensures ran.new.cache ran.new.boxes ran.new.log
+    ∙ world_is plan c.args.scripts.now fresh _ _ ran.result ran.new.cache ran.new.boxes ran.new.log c.requires started ran.ensures in
     wrote_as _ 0 (ap (λ (w : World). ran_lines plan w) is) c.write_run.ensures
