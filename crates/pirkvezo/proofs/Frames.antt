@@ -1,40 +1,24 @@
 -- What a call for a frame leaves, from what its parts give. Assumes nothing.
 use mathlib.Core.Path.{◌≡◌, refl, sym, ap, subst, ◌∙◌}
-use mathlib.Core.Bool.{Bool, true, false, and-eq-true_iff}
+use mathlib.Core.Bool.{Bool, true, false}
 use mathlib.Core.List.{List}
 use mathlib.Core.Logic.{◌⊎◌, inl, inr}
 use Prim.Native.Nat.{ℕ}
 use native.Mathlib.Omega.{arith}
-use lib.Dec.{eqb}
-use lib.ListN.{length, replicate}
-use borrow.Author.Tests.{eqb-true}
+use lib.ListN.{replicate}
 use Rattle.frame.specs.declared.FrameAnswer.{FrameAnswer}
 use Rattle.frame.specs.Frame.{frame_answer_of, frame_of, inputs_valid}
 use Rattle.frame.specs.Theorems.{FrameByWeights}
 use Rattle.frame.proofs.Making.{made_refused, made_valid}
 use Rattle.frame.proofs.Promises.{frames_by_weights}
 use Rattle.frame.proofs.Taken.{limits_valid, valid_limits}
-use Rattle.plan.specs.Limits.{most_domains, most_windows}
+use Rattle.plan.specs.Limits.{most_windows}
 use Rattle.refusal.specs.declared.Refusal.TheVariants.{FrameOutOfLimits}
 use Rattle.refusal.specs.declared.Verdict.TheVariants.{Accepted, Refused}
-use Rattle.pirkvezo.specs.Answers.{answer_length, answer_of, wrong_length}
+use Rattle.pirkvezo.specs.Answers.{answer_of, wrong_length}
 use Rattle.pirkvezo.specs.Framing.{FrameCall, frame_done, frame_fits, host_frame, host_frame_with}
 use Rattle.pirkvezo.specs.Theorems.{FrameAcceptedExactly, FrameKeepsPromises, RefusedFrameLeaves}
 use Rattle.pirkvezo.proofs.Calls.{Told}
-
-pub record FrameLengths (weights frame answer : List ℕ) : Type 0 where
-  pub weights_are : length weights ≡ most_domains
-  pub frame_is : length frame ≡ most_windows
-  pub answer_is : length answer ≡ answer_length
-
-pub frame_lengths :
-    (weights frame answer : List ℕ)
-    → frame_fits weights frame answer ≡ true
-    → FrameLengths weights frame answer
-frame_lengths weights frame answer fit =
-    let first = (and-eq-true_iff (eqb (length weights) most_domains) _).0 fit in
-    let second = (and-eq-true_iff (eqb (length frame) most_windows) _).0 first.1 in
-    record { weights_are = eqb-true _ _ first.0; frame_is = eqb-true _ _ second.0; answer_is = eqb-true _ _ second.1 }
 
 module _ (count : ℕ) (weights frame answer : List ℕ) (number : ℕ) (written : List ℕ) where
   pub frame_unfit :
