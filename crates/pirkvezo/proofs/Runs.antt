@@ -93,11 +93,6 @@ pub stored_all :
     → numbers ≡ sets table first (numbers_from list 0 count)
 stored_all numbers table list first i count ended so_far = so_far ∙ ap (λ (n : ℕ). sets table first (numbers_from list 0 n)) ended
 
--- storing keeps the table's length
-pub stored_length :
-    (numbers table list : List ℕ) (first i : ℕ) → numbers ≡ sets table first (numbers_from list 0 i) → length numbers ≡ length table
-stored_length numbers table list first i so_far = ap length so_far ∙ length-sets table first (numbers_from list 0 i)
-
 -- ---- a table that is written from its front
 
 -- what is written so far goes on with what is stored behind it

@@ -11,10 +11,6 @@ pub returns-then-not-masks_fit : goal.returns-then-not-masks_fit
 unfolding handed_plan
 returns-then-not-masks_fit c = rw (c.no_plan.ensures, sym c.masks_fit.ensures ∙ c.if-not-masks_fit.true) refl
 
-pub take_masks-masks-requires : goal.take_masks-masks-requires
-take_masks-masks-requires c =
-    (c.requires, sym c.masks_fit.ensures ∙ c.if-not-masks_fit.false)
-
 pub returns : goal.returns
 unfolding handed_plan part plan_of
 returns c =

