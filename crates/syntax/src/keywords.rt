@@ -1,5 +1,5 @@
 // A word that is one of five. How many letters it has is looked at first: at most two of the five
-// are as long.
+// are as long. Not a match on byte strings: of its last arm a proof is told nothing that it can use.
 ghost use Rattle.std.specs.Prelude.{◌≡◌, ◌≤◌, length, Err};
 ghost use Rattle.syntax.specs.Keywords.{follows, form_words, keyword_at, op_words};
 
