@@ -21,26 +21,26 @@ use Rattle.syntax.specs.Recipients.{recipients_at}
 use Rattle.syntax.specs.Tokens.{then}
 use Rattle.lexer.proofs.Reached.{cond_holds}
 use Rattle.forms.specs.declared.Form.{Form}
-use Rattle.forms.specs.declared.Form.TheVariants.{Blank, Pad, Run, Domain, Window, Op as Script, Refused as NoForm}
+use Rattle.forms.specs.declared.Form.TheVariants.{Blank, Pad, Run, Domain, Window, Op as Script}
 use Rattle.forms.specs.declared.DomainParse.{DomainParse}
 use Rattle.forms.specs.Forms.{declared_domain, domain_form, listed_domain, may_form, next_domain, op_form, pad_form, refused_domain, run_form, window_form}
 use Rattle.syntax.specs.declared.Numeral.{Numeral}
 use Rattle.syntax.specs.Tokens.{numeral_with}
 
 -- with `declared` domains above and `named` noted there; `marked` is noted once the form is read, and it reaches from `at` to `end`
-abbrev pub GoodForm : ℕ → List ℕ → List ℕ → ℕ → ℕ → Form → Type 0
-GoodForm declared named marked at end Blank = at ≤ end
-GoodForm declared named marked at end (Pad ticks) = (least_pad ≤ ticks) × (ticks ≤ most_pad) × (at ≤ end)
-GoodForm declared named marked at end (Run times) = (least_run ≤ times) × (times ≤ most_run) × (at ≤ end)
-GoodForm declared named marked at end (Domain line) =
+abbrev pub GoodForm : ℕ → List ℕ → List ℕ → ℕ → ℕ → Result Form Refusal → Type 0
+GoodForm declared named marked at end (Ok Blank) = at ≤ end
+GoodForm declared named marked at end (Ok (Pad ticks)) = (least_pad ≤ ticks) × (ticks ≤ most_pad) × (at ≤ end)
+GoodForm declared named marked at end (Ok (Run times)) = (least_run ≤ times) × (times ≤ most_run) × (at ≤ end)
+GoodForm declared named marked at end (Ok (Domain line)) =
     (declared ≤ last_domain) × (least_share ≤ line.share) × (line.share ≤ most_share) × Recorded declared line.rights named marked × (at ≤ end)
-GoodForm declared named marked at end (Window line) =
+GoodForm declared named marked at end (Ok (Window line)) =
     (line.owner < declared) × (least_length ≤ line.length) × (line.length ≤ most_length) × (at ≤ end)
-GoodForm declared named marked at end (Script line) = (line.domain < declared) × (at ≤ end)
-GoodForm declared named marked at end (NoForm refusal) = Unit {0}
+GoodForm declared named marked at end (Ok (Script line)) = (line.domain < declared) × (at ≤ end)
+GoodForm declared named marked at end (Err refusal) = Unit {0}
 
 abbrev GoodParse : ℕ → List ℕ → List ℕ → ℕ → Result (Form × ℕ) Refusal → Type 0
-GoodParse declared named marked at (Ok (form, end)) = GoodForm declared named marked at end form
+GoodParse declared named marked at (Ok (form, end)) = GoodForm declared named marked at end (Ok form)
 GoodParse declared named marked at (Err refusal) = Unit {0}
 
 pub record Good (declared : ℕ) (named marked : List ℕ) (at : ℕ) (parse : Result (Form × ℕ) Refusal) : Type 0 where

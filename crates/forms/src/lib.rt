@@ -41,7 +41,6 @@ pub enum Form {
     Domain(DomainLine),
     Window(WindowLine),
     Op(OpLine),
-    Refused(Refusal),
 }
 
 // A domain form and the offset past what stands within its brackets, or the refusal; beside

@@ -10,7 +10,7 @@ use lib.ListN.{length}
 use Rattle.forms.proofs.GoodForm.{Good, GoodForm}
 use Rattle.forms.proofs.GoodForm.{domain_good, op_good, pad_good, run_good, window_good}
 use Rattle.forms.specs.declared.Form.{Form}
-use Rattle.forms.specs.declared.Form.TheVariants.{Blank, Pad, Run, Domain, Window, Op as Script, Refused as NoForm}
+use Rattle.forms.specs.declared.Form.TheVariants.{Blank, Pad, Run, Domain, Window, Op as Script}
 use Rattle.forms.specs.declared.OpLine.{OpLine}
 use Rattle.plan.specs.Limits.{most_domains}
 use Rattle.refusal.specs.declared.Refusal.{Refusal}
@@ -27,15 +27,15 @@ pub record GoodLine (text : List ℕ) (declared : ℕ) (named : List ℕ) (at : 
   pub within : line.end ≤ length text
 
 -- a form that ends later reaches as far
-later : (declared : ℕ) (named marked : List ℕ) (at end more : ℕ) (form : Form) → end ≤ more
+later : (declared : ℕ) (named marked : List ℕ) (at end more : ℕ) (form : Result Form Refusal) → end ≤ more
     → GoodForm declared named marked at end form → GoodForm declared named marked at more form
-later declared named marked at end more Blank on h = omega arith
-later declared named marked at end more (Pad ticks) on h = (h.0, h.1, omega arith)
-later declared named marked at end more (Run times) on h = (h.0, h.1, omega arith)
-later declared named marked at end more (Domain line) on h = (h.0, h.1, h.2, h.3, omega arith)
-later declared named marked at end more (Window line) on h = (h.0, h.1, h.2, omega arith)
-later declared named marked at end more (Script line) on h = (h.0, omega arith)
-later declared named marked at end more (NoForm refusal) on h = tt
+later declared named marked at end more (Ok Blank) on h = omega arith
+later declared named marked at end more (Ok (Pad ticks)) on h = (h.0, h.1, omega arith)
+later declared named marked at end more (Ok (Run times)) on h = (h.0, h.1, omega arith)
+later declared named marked at end more (Ok (Domain line)) on h = (h.0, h.1, h.2, h.3, omega arith)
+later declared named marked at end more (Ok (Window line)) on h = (h.0, h.1, h.2, omega arith)
+later declared named marked at end more (Ok (Script line)) on h = (h.0, omega arith)
+later declared named marked at end more (Err refusal) on h = tt
 
 module _ (text : List ℕ) (declared : ℕ) (named : List ℕ) (at : ℕ) where
   none : (bracket : ℕ) (marked : List ℕ) (refusal : Refusal) → GoodLine text declared named at (refused_line bracket marked refusal)
@@ -49,7 +49,7 @@ module _ (text : List ℕ) (declared : ℕ) (named : List ℕ) (at : ℕ) where
       let P = GoodLine text declared named at in
       then_close P text end _ _ (none bracket marked) λ closed c within.
       then_line_end P text closed _ _ within (none bracket marked) λ ended e ends.
-      record { form = later declared named marked at end ended form (omega arith) h.form; within = ends }
+      record { form = later declared named marked at end ended (Ok form) (omega arith) h.form; within = ends }
 
   form_good : (bracket : ℕ) → length named ≡ most_domains → at ≤ bracket + 1 → GoodLine text declared named at (form_line text declared named bracket)
   unfolding form_line form_keywords noted_line

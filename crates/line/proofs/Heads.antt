@@ -8,7 +8,7 @@ use mathlib.Core.Path.{◌≡◌, refl, sym, subst, ◌∙◌}
 use lib.Dec.{eqb}
 use Rattle.forms.specs.declared.Form.{Form}
 use Rattle.forms.specs.declared.Form.TheVariants.{Blank, Pad, Run, Domain, Window}
-use Rattle.forms.specs.declared.Form.TheVariants.{Op as Script, Refused as NoForm}
+use Rattle.forms.specs.declared.Form.TheVariants.{Op as Script}
 use Rattle.forms.specs.declared.OpLine.{OpLine}
 use Rattle.forms.specs.Forms.{declared_domain, domain_form, op_form, pad_form, run_form, window_form}
 use Rattle.lexer.specs.declared.Token.{Token}
@@ -103,7 +103,6 @@ IsOp (Run times) = ⊥
 IsOp (Domain line) = ⊥
 IsOp (Window line) = ⊥
 IsOp (Script line) = Unit {0}
-IsOp (NoForm refusal) = ⊥
 
 abbrev IsOpParse : Result (Form × ℕ) Refusal → Type 0
 IsOpParse (Ok (form, end)) = IsOp form
@@ -133,7 +132,6 @@ other_form (Run times) other h = h
 other_form (Domain line) other h = h
 other_form (Window line) other h = h
 other_form (Script line) other h = other line refl
-other_form (NoForm refusal) other h = h
 
 -- what the branch of a `let .. else` knows of a form, that it is not an op, is not so of an op form
 pub no_other : (text : List ℕ) (declared at : ℕ) {parse : Result (Form × ℕ) Refusal} {form : Form} {end : ℕ}

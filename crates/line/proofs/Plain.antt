@@ -8,7 +8,7 @@ use Rattle.lists.specs.Ascii.{bytes_of}
 use Rattle.forms.specs.declared.DomainParse.{DomainParse}
 use Rattle.forms.specs.declared.Form.{Form}
 use Rattle.forms.specs.declared.Form.TheVariants.{Blank, Pad, Run, Domain, Window}
-use Rattle.forms.specs.declared.Form.TheVariants.{Op as Script, Refused as NoForm}
+use Rattle.forms.specs.declared.Form.TheVariants.{Op as Script}
 use Rattle.forms.specs.Forms.{declared_domain, domain_form, listed_domain, may_form, next_domain}
 use Rattle.forms.specs.Forms.{pad_form, run_form, window_form}
 use Rattle.plan.specs.Limits.{least_length, least_pad, least_run, least_share}
@@ -29,17 +29,17 @@ use Rattle.line.specs.Lines.{closed_line, noted_line}
 use Rattle.syntax.specs.declared.Numeral.{Numeral}
 
 -- `named` before the form, and `marked` after it
-abbrev pub IsPlain : List ℕ → List ℕ → Form → Type 0
-IsPlain named marked Blank = marked ≡ named
-IsPlain named marked (Pad ticks) = marked ≡ named
-IsPlain named marked (Run times) = marked ≡ named
-IsPlain named marked (Domain line) = Unit {0}
-IsPlain named marked (Window line) = marked ≡ named
-IsPlain named marked (Script line) = ⊥
-IsPlain named marked (NoForm refusal) = Unit {0}
+abbrev pub IsPlain : List ℕ → List ℕ → Result Form Refusal → Type 0
+IsPlain named marked (Ok Blank) = marked ≡ named
+IsPlain named marked (Ok (Pad ticks)) = marked ≡ named
+IsPlain named marked (Ok (Run times)) = marked ≡ named
+IsPlain named marked (Ok (Domain line)) = Unit {0}
+IsPlain named marked (Ok (Window line)) = marked ≡ named
+IsPlain named marked (Ok (Script line)) = ⊥
+IsPlain named marked (Err refusal) = Unit {0}
 
 abbrev IsPlainParse : List ℕ → List ℕ → Result (Form × ℕ) Refusal → Type 0
-IsPlainParse named marked (Ok (form, end)) = IsPlain named marked form
+IsPlainParse named marked (Ok (form, end)) = IsPlain named marked (Ok form)
 IsPlainParse named marked (Err refusal) = Unit {0}
 
 record PlainForm (named marked : List ℕ) (parse : Result (Form × ℕ) Refusal) : Type 0 where

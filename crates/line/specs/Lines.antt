@@ -3,7 +3,7 @@
 use Rattle.std.specs.Prelude.{ℕ, ◌+◌, cond, List, [], ◌∷◌, eqb, Result}
 use Rattle.forms.specs.declared.DomainParse.{DomainParse}
 use Rattle.forms.specs.declared.Form.{Form}
-use Rattle.forms.specs.declared.Form.TheVariants.{Blank, Refused}
+use Rattle.forms.specs.declared.Form.TheVariants.{Blank}
 use Rattle.forms.specs.Forms.{domain_form, op_form, pad_form, run_form, then_form, window_form}
 use Rattle.refusal.specs.declared.Refusal.{Refusal}
 use Rattle.syntax.specs.Keywords.{Keyword, on, one_of}
@@ -11,16 +11,18 @@ use Rattle.syntax.specs.Tokens.{due, pass_close, pass_line_end, then}
 use Rattle.lexer.specs.declared.Token.{Token}
 use Rattle.lexer.specs.Tokens.{line_end_kind, open_kind, token_at, token_kind, token_start}
 use Rattle.line.specs.declared.Line.{Line}
+use Rattle.std.specs.Prelude.{Ok}
+use Rattle.std.specs.Prelude.{Err}
 
 -- a refused line; on refusal its end is unspecified, and 0 stands there
 abbrev pub refused_line : ℕ → List ℕ → Refusal → Line
 refused_line bracket named refusal =
-    record { form = Refused refusal; bracket = bracket; end = 0; named = named }
+    record { form = Err refusal; bracket = bracket; end = 0; named = named }
 
 -- a line that was taken, with the offset of its end
 abbrev pub line_with : ℕ → List ℕ → Form → ℕ → Line
 line_with bracket named form end =
-    record { form = form; bracket = bracket; end = end; named = named }
+    record { form = Ok form; bracket = bracket; end = end; named = named }
 
 -- a form, its closing bracket and the line's end
 unfoldable pub closed_line : List ℕ → ℕ → List ℕ → Result (Form × ℕ) Refusal → Line

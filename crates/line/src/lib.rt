@@ -18,10 +18,10 @@ use syntax::keywords::form_keyword_at;
 use syntax::tokens::{pass_close, pass_line_end};
 use syntax::FormWord;
 
-// A line's form, the offset of its first bracket, and the offset of its end.
+// A line's form or its refusal, the offset of its first bracket, and the offset of its end.
 #[derive(Drop)]
 pub struct Line {
-    pub form: Form,
+    pub form: Result<Form, Refusal>,
     pub bracket: usize,
     pub end: usize,
     // where the text up to there first names each domain as a recipient, plus one; else 0
@@ -117,7 +117,7 @@ fn refused_line(bracket: usize, named: [usize; 8], refusal: Refusal) -> Line
     ensures { result ≡ refused_line bracket named refusal }
 {
     Line {
-        form: Form::Refused(refusal),
+        form: Err(refusal),
         bracket,
         end: 0,
         named,
@@ -140,7 +140,7 @@ fn closed_line(
     match closed_end(text, end) {
         Err(refusal) => refused_line(bracket, named, refusal),
         Ok(ended) => Line {
-            form,
+            form: Ok(form),
             bracket,
             end: ended,
             named,
@@ -164,7 +164,7 @@ pub fn line_of(text: &[u8], declared: u32, named: [usize; 8], head: PlainHead) -
 {
     match head {
         PlainHead::Blank(end) => Line {
-            form: Form::Blank,
+            form: Ok(Form::Blank),
             bracket: end,
             end,
             named,

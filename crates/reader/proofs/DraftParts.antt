@@ -9,7 +9,7 @@ use lib.Dec.{eqb, leb}
 use borrow.Author.Tests.{leb-false}
 use Rattle.forms.specs.declared.Form.{Form}
 use Rattle.forms.specs.declared.Form.TheVariants.{Blank, Pad, Run, Domain, Window}
-use Rattle.forms.specs.declared.Form.TheVariants.{Op as Script, Refused as RefusedForm}
+use Rattle.forms.specs.declared.Form.TheVariants.{Op as Script}
 use Rattle.forms.specs.declared.OpLine.{OpLine}
 use Rattle.line.proofs.Plain.{IsPlain}
 use Rattle.line.specs.declared.Line.{Line}
@@ -29,6 +29,15 @@ use Rattle.reader.specs.DraftParts.{passed_verdict, plan_with_form}
 use Rattle.refusal.specs.Verdict.{Verdict, refused_with}
 
 -- ---- a line other than an op
+
+-- what is held against a line, by its form or its refusal, and a plan with what it adds to it
+abbrev pub line_verdict : Result Form Refusal → ℕ → ℕ → ℕ → ℕ → Verdict
+line_verdict (Ok form) bracket pad run windows = form_verdict form bracket pad run windows
+line_verdict (Err refusal) bracket pad run windows = Err refusal
+
+abbrev pub plan_with_line : Plan → Result Form Refusal → Plan
+plan_with_line plan (Ok form) = plan_with_form plan form
+plan_with_line plan (Err refusal) = plan
 
 module _ (bracket : ℕ) (draft : Draft) (marked store : List ℕ) where
   -- where nothing more is named, the draft is the one before with another plan
@@ -54,25 +63,25 @@ module _ (bracket : ℕ) (draft : Draft) (marked store : List ℕ) where
   but_test true plan why same e = absurd (not_refused why e)
   but_test false plan why same e = with_plan_lem plan same
 
-  abbrev judged : Form → Verdict
+  abbrev judged : Result Form Refusal → Verdict
   judged form =
-      form_verdict form bracket draft.plan.pad draft.plan.run draft.plan.windows
+      line_verdict form bracket draft.plan.pad draft.plan.run draft.plan.windows
 
-  pub plain_taken : (form : Form) → IsPlain draft.named marked form → judged form ≡ Ok tt
+  pub plain_taken : (form : Result Form Refusal) → IsPlain draft.named marked form → judged form ≡ Ok tt
       → outcome_with (Ok tt)
-      (draft_with (plan_with_form draft.plan form) draft.counts marked) store
+      (draft_with (plan_with_line draft.plan form) draft.counts marked) store
       ≡ take_form form bracket marked draft store
   unfolding take_pad take_run take_domain take_window
-  plain_taken Blank same e = with_plan_lem draft.plan same
-  plain_taken (Pad ticks) same e =
+  plain_taken (Ok Blank) same e = with_plan_lem draft.plan same
+  plain_taken (Ok (Pad ticks)) same e =
       by_test_lem (eqb draft.plan.pad 0) _ (RepeatedOrMissing bracket) same e
-  plain_taken (Run times) same e =
+  plain_taken (Ok (Run times)) same e =
       by_test_lem (eqb draft.plan.run 0) _ (RepeatedOrMissing bracket) same e
-  plain_taken (Domain line) same e = refl
-  plain_taken (Window line) same e =
+  plain_taken (Ok (Domain line)) same e = refl
+  plain_taken (Ok (Window line)) same e =
       but_test (leb most_windows draft.plan.windows) _ (TooMany bracket) same e
-  plain_taken (Script line) same e = absurd same
-  plain_taken (RefusedForm refusal) same e = absurd (not_refused refusal e)
+  plain_taken (Ok (Script line)) same e = absurd same
+  plain_taken (Err refusal) same e = absurd (not_refused refusal e)
 
   -- the same refusal leaves the same
   as_refused : (why : Refusal) {other : Refusal} → refused_with other ≡ Err why
@@ -93,20 +102,20 @@ module _ (bracket : ℕ) (draft : Draft) (marked store : List ℕ) where
   not_but_test true plan why other e = as_refused why e
   not_but_test false plan why other e = absurd (not_refused why (sym e))
 
-  pub plain_refused : (form : Form) → IsPlain draft.named marked form → {why : Refusal}
+  pub plain_refused : (form : Result Form Refusal) → IsPlain draft.named marked form → {why : Refusal}
       → judged form ≡ Err why
       → outcome_with (Err why) draft store ≡ take_form form bracket marked draft store
   unfolding take_pad take_run take_window
-  plain_refused Blank same {why} e = absurd (not_refused why (sym e))
-  plain_refused (Pad ticks) same {why} e =
+  plain_refused (Ok Blank) same {why} e = absurd (not_refused why (sym e))
+  plain_refused (Ok (Pad ticks)) same {why} e =
       not_by_test (eqb draft.plan.pad 0) _ why (RepeatedOrMissing bracket) e
-  plain_refused (Run times) same {why} e =
+  plain_refused (Ok (Run times)) same {why} e =
       not_by_test (eqb draft.plan.run 0) _ why (RepeatedOrMissing bracket) e
-  plain_refused (Domain line) same {why} e = absurd (not_refused why (sym e))
-  plain_refused (Window line) same {why} e =
+  plain_refused (Ok (Domain line)) same {why} e = absurd (not_refused why (sym e))
+  plain_refused (Ok (Window line)) same {why} e =
       not_but_test (leb most_windows draft.plan.windows) _ why (TooMany bracket) e
-  plain_refused (Script line) same {why} e = absurd same
-  plain_refused (RefusedForm refusal) same {why} e = as_refused why e
+  plain_refused (Ok (Script line)) same {why} e = absurd same
+  plain_refused (Err refusal) same {why} e = as_refused why e
 
 -- a window that is accepted has room
 pub window_room : (windows bracket : ℕ)

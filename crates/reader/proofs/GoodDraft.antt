@@ -14,7 +14,7 @@ use Rattle.plan.specs.Zeros.{no_plan}
 use Rattle.forms.proofs.GoodForm.{GoodForm}
 use Rattle.forms.specs.declared.DomainLine.{DomainLine}
 use Rattle.forms.specs.declared.Form.{Form}
-use Rattle.forms.specs.declared.Form.TheVariants.{Blank, Pad, Run, Domain, Window, Op as Script, Refused as RefusedForm}
+use Rattle.forms.specs.declared.Form.TheVariants.{Blank, Pad, Run, Domain, Window, Op as Script}
 use Rattle.forms.specs.declared.OpLine.{OpLine}
 use Rattle.forms.specs.declared.WindowLine.{WindowLine}
 use Rattle.line.proofs.GoodLine.{GoodLine}
@@ -30,6 +30,10 @@ use Rattle.lexer.proofs.Reached.{cond_holds}
 use Rattle.reader.specs.declared.Draft.{Draft}
 use Rattle.reader.specs.declared.DraftResult.{DraftResult}
 use Rattle.reader.specs.Draft.{DraftOutcome, no_draft, take_domain, take_form, take_line, take_op, take_pad, take_run, take_window}
+use Rattle.refusal.specs.declared.Refusal.{Refusal}
+use Rattle.std.specs.Prelude.{Ok}
+use Rattle.std.specs.Prelude.{Err}
+use Rattle.std.specs.Prelude.{Result}
 
 -- ---- domains
 
@@ -272,16 +276,16 @@ module _ (draft : Draft) (store : List ℕ) (so_far : GoodDraft draft) where
       cond_holds (GoodOutcome (length store)) (leb most_ops index) _ _ (λ _. (so_far, refl))
       (λ _. (so_far, length-set store (most_ops * line.domain + index) (stored_of line.op)))
 
-  form_taken : (form : Form) (bracket at end : ℕ) (marked : List ℕ) → GoodForm draft.plan.domains draft.named marked at end form
+  form_taken : (form : Result Form Refusal) (bracket at end : ℕ) (marked : List ℕ) → GoodForm draft.plan.domains draft.named marked at end form
       → GoodOutcome (length store) (take_form form bracket marked draft store)
-  form_taken Blank bracket at end marked h = (so_far, refl)
-  form_taken (Pad ticks) bracket at end marked h = (pad_taken ticks bracket h.0 h.1, refl)
-  form_taken (Run times) bracket at end marked h = (run_taken times bracket h.1, refl)
-  form_taken (Domain line) bracket at end marked h = (domain_taken line marked h.0 h.1 h.2 h.3, refl)
-  form_taken (Window line) bracket at end marked h =
+  form_taken (Ok Blank) bracket at end marked h = (so_far, refl)
+  form_taken (Ok (Pad ticks)) bracket at end marked h = (pad_taken ticks bracket h.0 h.1, refl)
+  form_taken (Ok (Run times)) bracket at end marked h = (run_taken times bracket h.1, refl)
+  form_taken (Ok (Domain line)) bracket at end marked h = (domain_taken line marked h.0 h.1 h.2 h.3, refl)
+  form_taken (Ok (Window line)) bracket at end marked h =
       (window_taken line bracket (record { owned = h.0; least = h.1; most = h.2 }), refl)
-  form_taken (Script line) bracket at end marked h = op_taken line bracket
-  form_taken (RefusedForm refusal) bracket at end marked h = (so_far, refl)
+  form_taken (Ok (Script line)) bracket at end marked h = op_taken line bracket
+  form_taken (Err refusal) bracket at end marked h = (so_far, refl)
 
   pub line_taken : (text : List ℕ) (at : ℕ) (line : Line) → GoodLine text draft.plan.domains draft.named at line
       → GoodOutcome (length store) (take_line line draft store)

@@ -10,7 +10,7 @@ use lib.ListN.{length}
 use borrow.Author.Tests.{le-ltb, lt-ltb, ltb-true}
 use Rattle.forms.proofs.GoodForm.{GoodForm}
 use Rattle.forms.specs.declared.Form.{Form}
-use Rattle.forms.specs.declared.Form.TheVariants.{Blank, Pad, Run, Domain, Window, Op as Script, Refused as RefusedForm}
+use Rattle.forms.specs.declared.Form.TheVariants.{Blank, Pad, Run, Domain, Window, Op as Script}
 use Rattle.forms.specs.declared.DomainLine.{DomainLine}
 use Rattle.forms.specs.declared.WindowLine.{WindowLine}
 use Rattle.line.proofs.GoodLine.{GoodLine, line_good}
@@ -34,6 +34,7 @@ use Rattle.reader.specs.DraftParts.{TakenOp, draft_with, form_verdict, outcome_w
 use Rattle.reader.specs.DraftParts.{passed_verdict, plan_with_form}
 use Rattle.reader.specs.Read.{draft_line, lines_of, walk_from}
 use Rattle.refusal.specs.Verdict.{Verdict}
+use Rattle.reader.proofs.DraftParts.{line_verdict, plan_with_line}
 
 -- ---- a line that is taken up
 
@@ -43,15 +44,15 @@ next_good text at draft so_far below =
     line_good text draft.plan.domains draft.named at so_far.domains.named_size (omega arith)
 
 -- it reaches at least as far as it began
-taken_reaches : (form : Form) (declared bracket at end : ℕ) (named marked : List ℕ) (draft : Draft) (store : List ℕ)
+taken_reaches : (form : Result Form Refusal) (declared bracket at end : ℕ) (named marked : List ℕ) (draft : Draft) (store : List ℕ)
     → GoodForm declared named marked at end form → (take_form form bracket marked draft store).verdict ≡ Ok tt → at ≤ end
-taken_reaches Blank declared bracket at end named marked draft store h e = h
-taken_reaches (Pad ticks) declared bracket at end named marked draft store h e = h.2
-taken_reaches (Run times) declared bracket at end named marked draft store h e = h.2
-taken_reaches (Domain line) declared bracket at end named marked draft store h e = h.4
-taken_reaches (Window line) declared bracket at end named marked draft store h e = h.3
-taken_reaches (Script line) declared bracket at end named marked draft store h e = h.1
-taken_reaches (RefusedForm refusal) declared bracket at end named marked draft store h e = absurd (not_refused refusal e)
+taken_reaches (Ok Blank) declared bracket at end named marked draft store h e = h
+taken_reaches (Ok (Pad ticks)) declared bracket at end named marked draft store h e = h.2
+taken_reaches (Ok (Run times)) declared bracket at end named marked draft store h e = h.2
+taken_reaches (Ok (Domain line)) declared bracket at end named marked draft store h e = h.4
+taken_reaches (Ok (Window line)) declared bracket at end named marked draft store h e = h.3
+taken_reaches (Ok (Script line)) declared bracket at end named marked draft store h e = h.1
+taken_reaches (Err refusal) declared bracket at end named marked draft store h e = absurd (not_refused refusal e)
 
 -- ---- the walk
 
@@ -148,7 +149,7 @@ module _ {text : List ℕ} {at : ℕ} {draft : Draft} {store : List ℕ} {whole 
     turn_within : line.end ≤ length text
     turn_within = good_line.within
 
-    turn_domain : (domain : DomainLine) → line.form ≡ Domain domain
+    turn_domain : (domain : DomainLine) → line.form ≡ Ok (Domain domain)
         → draft.plan.domains < most_domains
     turn_domain domain known =
         let Good = GoodForm draft.plan.domains draft.named line.named at line.end in
@@ -222,13 +223,13 @@ module _ {text : List ℕ} {at : ℕ} {draft : Draft} {store : List ℕ} {whole 
       pub other_within : line.end ≤ length text
       other_within = turn_within below is_plain_line
 
-      pub other_domain : (domain : DomainLine) → line.form ≡ Domain domain
+      pub other_domain : (domain : DomainLine) → line.form ≡ Ok (Domain domain)
           → draft.plan.domains < most_domains
       other_domain = turn_domain below is_plain_line
 
-      abbrev judged : Form → Verdict
+      abbrev pub judged : Result Form Refusal → Verdict
       judged form =
-          form_verdict form line.bracket draft.plan.pad draft.plan.run
+          line_verdict form line.bracket draft.plan.pad draft.plan.run
           draft.plan.windows
 
       module _ {verdict : Verdict} (found : verdict ≡ judged line.form) where
@@ -248,7 +249,7 @@ module _ {text : List ℕ} {at : ℕ} {draft : Draft} {store : List ℕ} {whole 
             why known
 
         module _ (known : verdict ≡ Ok tt) where
-          pub other_window : (window : WindowLine) → line.form ≡ Window window
+          pub other_window : (window : WindowLine) → line.form ≡ Ok (Window window)
               → draft.plan.windows < most_windows
           other_window window is-window =
               window_room draft.plan.windows line.bracket
@@ -256,7 +257,7 @@ module _ {text : List ℕ} {at : ℕ} {draft : Draft} {store : List ℕ} {whole 
 
           abbrev next : Draft
           next =
-              draft_with (plan_with_form draft.plan line.form) draft.counts line.named
+              draft_with (plan_with_line draft.plan line.form) draft.counts line.named
 
           abbrev plain_result : DraftResult
           plain_result = record { verdict = verdict; draft = next }

@@ -3,7 +3,7 @@
 use Rattle.std.specs.Prelude.{ℕ, ◌+◌, ◌*◌, cond, List, eqb, leb, get_or, replicate, set, Ok, Err}
 use Rattle.forms.specs.declared.DomainLine.{DomainLine}
 use Rattle.forms.specs.declared.Form.{Form}
-use Rattle.forms.specs.declared.Form.TheVariants.{Blank, Pad, Run, Domain, Window, Op, Refused as RefusedForm}
+use Rattle.forms.specs.declared.Form.TheVariants.{Blank, Pad, Run, Domain, Window, Op}
 use Rattle.forms.specs.declared.OpLine.{OpLine}
 use Rattle.forms.specs.declared.WindowLine.{WindowLine}
 use Rattle.line.specs.declared.Line.{Line}
@@ -18,6 +18,7 @@ use Rattle.script.specs.Stored.{stored_of}
 use Rattle.reader.specs.declared.Draft.{Draft}
 use Rattle.reader.specs.declared.DraftResult.{DraftResult}
 use Rattle.refusal.specs.Verdict.{Verdict}
+use Rattle.std.specs.Prelude.{Result}
 
 -- before the first line
 unfoldable pub no_draft : Draft
@@ -90,14 +91,14 @@ take_op line bracket draft store =
     (set store (most_ops * line.domain + index) (stored_of line.op)))
 
 -- a form is taken up by its kind; a line without a token adds nothing, and only an op writes to the store
-abbrev pub take_form : Form → ℕ → List ℕ → Draft → List ℕ → DraftOutcome
-take_form Blank bracket named draft store = outcome_of (taken draft) store
-take_form (Pad ticks) bracket named draft store = outcome_of (take_pad ticks bracket draft) store
-take_form (Run times) bracket named draft store = outcome_of (take_run times bracket draft) store
-take_form (Domain line) bracket named draft store = outcome_of (take_domain line named draft) store
-take_form (Window line) bracket named draft store = outcome_of (take_window line bracket draft) store
-take_form (Op line) bracket named draft store = take_op line bracket draft store
-take_form (RefusedForm refusal) bracket named draft store = outcome_of (refused refusal draft) store
+abbrev pub take_form : Result Form Refusal → ℕ → List ℕ → Draft → List ℕ → DraftOutcome
+take_form (Ok Blank) bracket named draft store = outcome_of (taken draft) store
+take_form (Ok (Pad ticks)) bracket named draft store = outcome_of (take_pad ticks bracket draft) store
+take_form (Ok (Run times)) bracket named draft store = outcome_of (take_run times bracket draft) store
+take_form (Ok (Domain line)) bracket named draft store = outcome_of (take_domain line named draft) store
+take_form (Ok (Window line)) bracket named draft store = outcome_of (take_window line bracket draft) store
+take_form (Ok (Op line)) bracket named draft store = take_op line bracket draft store
+take_form (Err refusal) bracket named draft store = outcome_of (refused refusal draft) store
 
 -- a line is taken up by its form
 unfoldable pub take_line : Line → Draft → List ℕ → DraftOutcome

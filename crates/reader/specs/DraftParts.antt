@@ -5,7 +5,6 @@
 use Rattle.std.specs.Prelude.{ℕ, cond, List, ◌≡◌, eqb, leb, Result, Ok, Err}
 use Rattle.forms.specs.declared.Form.{Form}
 use Rattle.forms.specs.declared.Form.TheVariants.{Blank, Pad, Run, Domain, Window, Op}
-use Rattle.forms.specs.declared.Form.TheVariants.{Refused as RefusedForm}
 use Rattle.line.specs.declared.Line.{Line}
 use Rattle.plan.specs.declared.Plan.{Plan}
 use Rattle.plan.specs.Limits.{most_windows}
@@ -38,7 +37,6 @@ form_verdict (Domain line) bracket pad run windows = Ok tt
 form_verdict (Window line) bracket pad run windows =
     cond (leb most_windows windows) (Err (TooMany bracket)) (Ok tt)
 form_verdict (Op line) bracket pad run windows = Ok tt
-form_verdict (RefusedForm refusal) bracket pad run windows = Err refusal
 
 -- a plan with what a form adds to it
 abbrev pub plan_with_form : Plan → Form → Plan
@@ -48,7 +46,6 @@ plan_with_form plan (Run times) = with_run plan times
 plan_with_form plan (Domain line) = with_domain plan line.share line.rights
 plan_with_form plan (Window line) = with_window plan line.owner line.length
 plan_with_form plan (Op line) = plan
-plan_with_form plan (RefusedForm refusal) = plan
 
 -- ---- an op line
 

@@ -25,8 +25,8 @@ pub fn no_draft() -> Draft
     }
 }
 
-// What is held against a form other than an op: a second pad or run, a 33rd window, or the line's
-// own refusal. A domain line always fits: its number was the next one.
+// What is held against a form other than an op: a second pad or run, or a 33rd window. A domain line
+// always fits: its number was the next one.
 pub fn form_verdict(form: Form, bracket: usize, pad: u32, run: u32, windows: u32) -> Result<(), Refusal>
     ensures { result ≡ form_verdict form bracket pad run windows }
 {
@@ -52,7 +52,6 @@ pub fn form_verdict(form: Form, bracket: usize, pad: u32, run: u32, windows: u32
             Ok(())
         }
         Form::Op(_) => Ok(()),
-        Form::Refused(refusal) => Err(refusal),
     }
 }
 
@@ -83,7 +82,6 @@ pub fn plan_with_form(mut plan: Plan, form: Form) -> Plan
             plan.windows += 1;
         }
         Form::Op(_) => {}
-        Form::Refused(_) => {}
     }
     plan
 }

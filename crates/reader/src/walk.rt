@@ -82,7 +82,10 @@ pub fn walk(text: &[u8], store: &mut [u32; SCRIPTS_LENGTH]) -> DraftResult
             }
         };
         let line = line_of(text, declared, named, plain);
-        let form = line.form;
+        let form = match line.form {
+            Ok(form) => form,
+            Err(refusal) => return draft_result(Err(refusal), plan, counts, named),
+        };
         let verdict = form_verdict(form, line.bracket, plan.pad, plan.run, plan.windows);
         if let Err(refusal) = verdict {
             return draft_result(Err(refusal), plan, counts, named);

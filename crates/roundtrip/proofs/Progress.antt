@@ -23,6 +23,7 @@ use Rattle.roundtrip.proofs.Domains.{domain_reads}
 use Rattle.roundtrip.proofs.Filled.{filled_more, first_entries}
 use Rattle.roundtrip.proofs.Forms.{pad_reads, run_reads, window_reads}
 use Rattle.roundtrip.proofs.Walk.{Stands, before_ops, draft_of, next_line}
+use Rattle.std.specs.Prelude.{Ok}
 
 -- a plan of which these things are read
 abbrev pub so_far : Plan → ℕ → ℕ → ℕ → ℕ → Plan
@@ -36,14 +37,14 @@ so_far plan pad run domains windows =
 
 module _ (plan : Plan) (named : List ℕ) (bracket : ℕ) where
   pad_taken :
-      take_form (Pad plan.pad) bracket named (draft_of (before_ops (so_far plan 0 0 0 0)) named) no_ops
+      take_form (Ok (Pad plan.pad)) bracket named (draft_of (before_ops (so_far plan 0 0 0 0)) named) no_ops
       ≡ outcome_of (taken (draft_of (before_ops (so_far plan plan.pad 0 0 0)) named)) no_ops
   unfolding take_pad
   pad_taken = refl
 
   domain_taken :
       (pad domain : ℕ) (later : List ℕ)
-      → take_form (Domain (record { share = share_of plan domain; rights = rights_at plan domain })) bracket later
+      → take_form (Ok (Domain (record { share = share_of plan domain; rights = rights_at plan domain }))) bracket later
       (draft_of (before_ops (so_far plan pad 0 domain 0)) named) no_ops
       ≡ outcome_of (taken (draft_of (before_ops (so_far plan pad 0 (domain + 1) 0)) later)) no_ops
   unfolding take_domain
@@ -52,7 +53,7 @@ module _ (plan : Plan) (named : List ℕ) (bracket : ℕ) where
   window_taken :
       (pad domains slot : ℕ)
       → slot < most_windows
-      → take_form (Window (record { owner = get_or plan.owners slot 0; length = get_or plan.lengths slot 0 })) bracket named
+      → take_form (Ok (Window (record { owner = get_or plan.owners slot 0; length = get_or plan.lengths slot 0 }))) bracket named
       (draft_of (before_ops (so_far plan pad 0 domains slot)) named) no_ops
       ≡ outcome_of (taken (draft_of (before_ops (so_far plan pad 0 domains (slot + 1))) named)) no_ops
   unfolding take_window
@@ -60,7 +61,7 @@ module _ (plan : Plan) (named : List ℕ) (bracket : ℕ) where
 
   run_taken :
       (pad domains windows : ℕ)
-      → take_form (Run plan.run) bracket named
+      → take_form (Ok (Run plan.run)) bracket named
       (draft_of (before_ops (so_far plan pad 0 domains windows)) named) no_ops
       ≡ outcome_of (taken (draft_of (before_ops (so_far plan pad plan.run domains windows)) named)) no_ops
   unfolding take_run

@@ -29,6 +29,7 @@ use Rattle.roundtrip.proofs.Alone.{past_parts, past_script}
 use Rattle.roundtrip.proofs.Filled.{filled_all, filled_more, filled_none, filled_through, first_entries}
 use Rattle.roundtrip.proofs.Ops.{op_reads}
 use Rattle.roundtrip.proofs.Walk.{Gathered, Stands, before_ops, draft_of, next_line}
+use Rattle.std.specs.Prelude.{Ok}
 
 -- ---- the numbers of ops so far
 
@@ -75,7 +76,7 @@ op_taken :
     → position < most_ops
     → get_or counts domain 0 ≡ position
     → stored_of op ≡ get_or scripts (most_ops * domain + position) 0
-    → take_form (Script (record { domain = domain; op = op })) bracket named (draft_of (ops_so_far plan scripts counts domain position) named)
+    → take_form (Ok (Script (record { domain = domain; op = op }))) bracket named (draft_of (ops_so_far plan scripts counts domain position) named)
     (first_entries (most_ops * domain + position) scripts)
     ≡ outcome_of (taken (draft_of (ops_so_far plan scripts (set counts domain (position + 1)) domain (position + 1)) named))
     (first_entries (most_ops * domain + (position + 1)) scripts)

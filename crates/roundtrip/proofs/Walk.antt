@@ -19,6 +19,7 @@ use Rattle.lexer.proofs.Scanned.{left_next, left_none}
 use Rattle.writer.specs.Canonical.{followed, joined}
 use Rattle.roundtrip.proofs.Lines.{Reads}
 use Rattle.roundtrip.proofs.Recipients.{Quiet}
+use Rattle.std.specs.Prelude.{Ok}
 
 -- what is read so far, but for the recipients that were named
 pub record Gathered : Type 0 where
@@ -51,7 +52,7 @@ pub record Adds (text : List ℕ) (total at : ℕ) (named : List ℕ) (more : Li
   pub reads : Reads text (followed more) form later (line_at text before.plan.domains named at)
   pub quiet : Quiet total later
   pub adds : (bracket : ℕ)
-      → take_form form bracket later (draft_of before named) before.store
+      → take_form (Ok form) bracket later (draft_of before named) before.store
       ≡ outcome_of (taken (draft_of after later)) after.store
 
 -- ---- one line
@@ -60,7 +61,7 @@ walk_next :
     (turns : ℕ) (text : List ℕ) (at : ℕ) (draft next : Draft) (store filled : List ℕ) (form : Form) (bracket end : ℕ) (later : List ℕ)
     → at < length text
     → draft_line text at draft ≡ line_with bracket later form end
-    → take_form form bracket later draft store ≡ outcome_of (taken next) filled
+    → take_form (Ok form) bracket later draft store ≡ outcome_of (taken next) filled
     → walk_from (suc turns) text at draft store ≡ walk_from turns text (end + 1) next filled
 unfolding take_line
 walk_next turns text at draft next store filled form bracket end later within line adds =

@@ -2,7 +2,7 @@
 use Rattle.std.specs.Prelude.{Result, Ok, Err}
 use Prim.Native.Nat.{ℕ, ◌+◌, ◌≤◌}
 use native.Mathlib.Omega.{arith}
-use mathlib.Core.List.{List}
+use mathlib.Core.List.{List, []}
 use mathlib.Core.Path.{◌≡◌, ap}
 use lib.Dec.{eqb, ltb}
 use lib.ListN.{length, length-append}
@@ -17,7 +17,7 @@ use Rattle.syntax.specs.Recipients.{recipients_at}
 use Rattle.syntax.specs.Tokens.{then}
 use Rattle.forms.specs.declared.DomainParse.{DomainParse}
 use Rattle.forms.specs.declared.Form.{Form}
-use Rattle.forms.specs.declared.Form.TheVariants.{Blank, Pad, Run, Domain, Window, Op as Script, Refused as NoForm}
+use Rattle.forms.specs.declared.Form.TheVariants.{Blank, Pad, Run, Domain, Window, Op as Script}
 use Rattle.forms.specs.Forms.{declared_domain, domain_form, listed_domain, may_form, next_domain, op_form, pad_form, refused_domain, run_form, window_form}
 use Rattle.lexer.specs.Decimal.{decimal_of}
 use Rattle.lexer.proofs.Reached.{cond_holds}
@@ -29,19 +29,24 @@ use Rattle.shortest.proofs.Recipients.{CoversList, CoversPassed, list_covers}
 use Rattle.shortest.proofs.Runs.{RunOver}
 use Rattle.syntax.specs.Tokens.{numeral_with}
 
+-- a line's form in its canonical spelling, and nothing of a refused line
+abbrev pub spelled_line : ℕ → Result Form Refusal → List ℕ
+spelled_line declared (Ok form) = spelled declared form
+spelled_line declared (Err refusal) = []
+
 -- a form from one offset up to another has room for its canonical spelling; nothing is claimed of one that is refused
-abbrev pub CoversForm : ℕ → ℕ → Form → ℕ → Type 0
-CoversForm declared at Blank end = at + length (spelled declared Blank) ≤ end
-CoversForm declared at (Pad ticks) end = at + length (spelled declared (Pad ticks)) ≤ end
-CoversForm declared at (Run times) end = at + length (spelled declared (Run times)) ≤ end
-CoversForm declared at (Domain line) end = at + length (spelled declared (Domain line)) ≤ end
-CoversForm declared at (Window line) end = at + length (spelled declared (Window line)) ≤ end
-CoversForm declared at (Script line) end = at + length (spelled declared (Script line)) ≤ end
-CoversForm declared at (NoForm refusal) end = Unit {0}
+abbrev pub CoversForm : ℕ → ℕ → Result Form Refusal → ℕ → Type 0
+CoversForm declared at (Ok Blank) end = at + length (spelled declared Blank) ≤ end
+CoversForm declared at (Ok (Pad ticks)) end = at + length (spelled declared (Pad ticks)) ≤ end
+CoversForm declared at (Ok (Run times)) end = at + length (spelled declared (Run times)) ≤ end
+CoversForm declared at (Ok (Domain line)) end = at + length (spelled declared (Domain line)) ≤ end
+CoversForm declared at (Ok (Window line)) end = at + length (spelled declared (Window line)) ≤ end
+CoversForm declared at (Ok (Script line)) end = at + length (spelled declared (Script line)) ≤ end
+CoversForm declared at (Err refusal) end = Unit {0}
 
 -- the same of a form that is parsed up to its closing bracket
 abbrev OfForm : ℕ → ℕ → Result (Form × ℕ) Refusal → Type 0
-OfForm declared at (Ok (form, end)) = CoversForm declared at form (end + 1)
+OfForm declared at (Ok (form, end)) = CoversForm declared at (Ok form) (end + 1)
 OfForm declared at (Err refusal) = Unit {0}
 
 pub record CoversParse (declared at : ℕ) (parse : Result (Form × ℕ) Refusal) : Type 0 where

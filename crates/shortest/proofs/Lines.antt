@@ -6,7 +6,7 @@ use mathlib.Core.List.{List}
 use lib.Dec.{eqb}
 use Rattle.lists.specs.Ascii.{bytes_of}
 use Rattle.forms.specs.declared.Form.{Form}
-use Rattle.forms.specs.declared.Form.TheVariants.{Blank, Pad, Run, Domain, Window, Op as Script, Refused as NoForm}
+use Rattle.forms.specs.declared.Form.TheVariants.{Blank, Pad, Run, Domain, Window, Op as Script}
 use Rattle.forms.specs.Forms.{domain_form}
 use Rattle.refusal.specs.declared.Refusal.{Refusal}
 use Rattle.line.specs.declared.Line.{Line}
@@ -25,14 +25,14 @@ record LineCovers (declared at : ℕ) (line : Line) : Type 0 where
   covers : Covers declared at line
 
 -- a form that ends later has as much room
-later : (declared at : ℕ) (form : Form) (end more : ℕ) → end ≤ more → CoversForm declared at form end → CoversForm declared at form more
-later declared at Blank end more past covers = omega arith
-later declared at (Pad ticks) end more past covers = omega arith
-later declared at (Run times) end more past covers = omega arith
-later declared at (Domain line) end more past covers = omega arith
-later declared at (Window line) end more past covers = omega arith
-later declared at (Script line) end more past covers = omega arith
-later declared at (NoForm refusal) end more past covers = tt
+later : (declared at : ℕ) (form : Result Form Refusal) (end more : ℕ) → end ≤ more → CoversForm declared at form end → CoversForm declared at form more
+later declared at (Ok Blank) end more past covers = omega arith
+later declared at (Ok (Pad ticks)) end more past covers = omega arith
+later declared at (Ok (Run times)) end more past covers = omega arith
+later declared at (Ok (Domain line)) end more past covers = omega arith
+later declared at (Ok (Window line)) end more past covers = omega arith
+later declared at (Ok (Script line)) end more past covers = omega arith
+later declared at (Err refusal) end more past covers = tt
 
 module _ (text : List ℕ) (declared : ℕ) (named : List ℕ) (at : ℕ) where
   none : (bracket : ℕ) (marked : List ℕ) (refusal : Refusal) → LineCovers declared at (refused_line bracket marked refusal)
@@ -46,7 +46,7 @@ module _ (text : List ℕ) (declared : ℕ) (named : List ℕ) (at : ℕ) where
       let P = LineCovers declared at in
       then_close P text end _ _ (none bracket marked) λ closed past.
       then_line_end P text closed _ _ (none bracket marked) λ ended further.
-      record { covers = later declared at form (end + 1) ended (omega arith) parsed.covers }
+      record { covers = later declared at (Ok form) (end + 1) ended (omega arith) parsed.covers }
 
   form_covers : (bracket : ℕ) → at ≤ bracket → LineCovers declared at (form_line text declared named bracket)
   unfolding form_line form_keywords noted_line bytes_of

@@ -12,7 +12,7 @@ use borrow.Author.Tests.{leb-false}
 use Rattle.forms.proofs.GoodForm.{GoodForm}
 use Rattle.forms.specs.declared.DomainLine.{DomainLine}
 use Rattle.forms.specs.declared.Form.{Form}
-use Rattle.forms.specs.declared.Form.TheVariants.{Blank, Pad, Run, Domain, Window, Op as Script, Refused as NoForm}
+use Rattle.forms.specs.declared.Form.TheVariants.{Blank, Pad, Run, Domain, Window, Op as Script}
 use Rattle.forms.specs.declared.OpLine.{OpLine}
 use Rattle.forms.specs.declared.WindowLine.{WindowLine}
 use Rattle.lexer.proofs.Reached.{cond_holds}
@@ -30,6 +30,11 @@ use Rattle.writer.specs.Lines.{domain_text, op_line, pad_text, run_text, window_
 use Rattle.shortest.specs.Spelled.{spelled}
 use Rattle.shortest.proofs.Store.{Room, Stored, counts_with, count_here, count_other, fetch_here, fetch_other, store_with, stored_declared, stored_more}
 use Rattle.shortest.proofs.Within.{OpFits}
+use Rattle.std.specs.Prelude.{Ok}
+use Rattle.std.specs.Prelude.{Err}
+use Rattle.shortest.proofs.Forms.{spelled_line}
+use Rattle.refusal.specs.declared.Refusal.{Refusal}
+use Rattle.std.specs.Prelude.{Result}
 
 -- ---- sums
 
@@ -169,27 +174,27 @@ pub record Grown (draft : Draft) (store : List ℕ) (bytes : ℕ) (outcome : Dra
 
 module _ (draft : Draft) (store : List ℕ) (good : GoodDraft draft) (stored : Stored draft.plan.domains draft.counts store) where
   -- of a result that leaves the store
-  abbrev Result : ℕ → DraftResult → Type 0
-  Result bytes result = Grown draft store bytes (outcome_of result store)
+  abbrev Grows : ℕ → DraftResult → Type 0
+  Grows bytes result = Grown draft store bytes (outcome_of result store)
 
-  pad_grows : (ticks bracket : ℕ) → Result (length (pad_text ticks) + 1) (take_pad ticks bracket draft)
+  pad_grows : (ticks bracket : ℕ) → Grows (length (pad_text ticks) + 1) (take_pad ticks bracket draft)
   unfolding take_pad
   pad_grows ticks bracket =
-      cond_holds (Result (length (pad_text ticks) + 1)) (eqb draft.plan.pad 0) _ _
+      cond_holds (Grows (length (pad_text ticks) + 1)) (eqb draft.plan.pad 0) _ _
       (λ _. record { stored = stored; most = omega (arith, pad_most ticks) })
       (λ _. record { stored = stored; most = omega arith })
 
-  run_grows : (times bracket : ℕ) → Result (length (run_text times) + 1) (take_run times bracket draft)
+  run_grows : (times bracket : ℕ) → Grows (length (run_text times) + 1) (take_run times bracket draft)
   unfolding take_run
   run_grows times bracket =
-      cond_holds (Result (length (run_text times) + 1)) (eqb draft.plan.run 0) _ _
+      cond_holds (Grows (length (run_text times) + 1)) (eqb draft.plan.run 0) _ _
       (λ _. record { stored = stored; most = omega (arith, run_most times) })
       (λ _. record { stored = stored; most = omega arith })
 
   domain_grows :
       (line : DomainLine) (marked : List ℕ)
       → draft.plan.domains ≤ last_domain
-      → Result (length (domain_text draft.plan.domains line.share line.rights) + 1) (take_domain line marked draft)
+      → Grows (length (domain_text draft.plan.domains line.share line.rights) + 1) (take_domain line marked draft)
   unfolding take_domain
   domain_grows line marked next =
       let shares_size = good.domains.shares_size in
@@ -203,13 +208,13 @@ module _ (draft : Draft) (store : List ℕ) (good : GoodDraft draft) (stored : S
       }
 
   window_grows :
-      (line : WindowLine) (bracket : ℕ) → Result (length (window_text line.owner line.length) + 1) (take_window line bracket draft)
+      (line : WindowLine) (bracket : ℕ) → Grows (length (window_text line.owner line.length) + 1) (take_window line bracket draft)
   unfolding take_window
   window_grows line bracket =
       let owners_size = good.windows.owners_size in
       let lengths_size = good.windows.lengths_size in
       let count = draft.plan.windows in
-      cond_holds (Result (length (window_text line.owner line.length) + 1)) (leb most_windows count) _ _
+      cond_holds (Grows (length (window_text line.owner line.length) + 1)) (leb most_windows count) _ _
       (λ _. record { stored = stored; most = omega arith })
       (λ test.
       let room : count < most_windows = leb-false most_windows count test in
@@ -243,15 +248,15 @@ module _ (draft : Draft) (store : List ℕ) (good : GoodDraft draft) (stored : S
 
   -- a form adds no more than its canonical spelling and a LF
   pub form_grows :
-      (form : Form) (bracket at end : ℕ) (marked : List ℕ)
+      (form : Result Form Refusal) (bracket at end : ℕ) (marked : List ℕ)
       → GoodForm draft.plan.domains draft.named marked at end form
       → OpFits form
-      → Grown draft store (length (spelled draft.plan.domains form) + 1) (take_form form bracket marked draft store)
+      → Grown draft store (length (spelled_line draft.plan.domains form) + 1) (take_form form bracket marked draft store)
   unfolding spelled
-  form_grows Blank bracket at end marked is fits = record { stored = stored; most = omega arith }
-  form_grows (Pad ticks) bracket at end marked is fits = pad_grows ticks bracket
-  form_grows (Run times) bracket at end marked is fits = run_grows times bracket
-  form_grows (Domain line) bracket at end marked is fits = domain_grows line marked is.0
-  form_grows (Window line) bracket at end marked is fits = window_grows line bracket
-  form_grows (Script line) bracket at end marked is fits = op_grows line bracket is.0 fits
-  form_grows (NoForm refusal) bracket at end marked is fits = record { stored = stored; most = omega arith }
+  form_grows (Ok Blank) bracket at end marked is fits = record { stored = stored; most = omega arith }
+  form_grows (Ok (Pad ticks)) bracket at end marked is fits = pad_grows ticks bracket
+  form_grows (Ok (Run times)) bracket at end marked is fits = run_grows times bracket
+  form_grows (Ok (Domain line)) bracket at end marked is fits = domain_grows line marked is.0
+  form_grows (Ok (Window line)) bracket at end marked is fits = window_grows line bracket
+  form_grows (Ok (Script line)) bracket at end marked is fits = op_grows line bracket is.0 fits
+  form_grows (Err refusal) bracket at end marked is fits = record { stored = stored; most = omega arith }

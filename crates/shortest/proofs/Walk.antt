@@ -10,7 +10,7 @@ use lib.Dec.{ltb}
 use lib.ListN.{length}
 use borrow.Author.Tests.{ltb-true}
 use Rattle.forms.specs.declared.Form.{Form}
-use Rattle.forms.specs.declared.Form.TheVariants.{Blank, Pad, Run, Domain, Window, Op as Script, Refused as NoForm}
+use Rattle.forms.specs.declared.Form.TheVariants.{Blank, Pad, Run, Domain, Window, Op as Script}
 use Rattle.line.specs.declared.Line.{Line}
 use Rattle.line.proofs.GoodLine.{GoodLine, line_good}
 use Rattle.plan.specs.Sums.{sum_to}
@@ -28,6 +28,9 @@ use Rattle.shortest.proofs.Potential.{Grown, bytes_so_far, form_grows, op_bytes,
 use Rattle.shortest.proofs.Store.{Stored, stored_first}
 use Rattle.shortest.proofs.Within.{line_within}
 use Rattle.refusal.specs.Verdict.{Verdict}
+use Rattle.shortest.proofs.Forms.{spelled_line}
+use Rattle.refusal.specs.declared.Refusal.{Refusal}
+use Rattle.std.specs.Prelude.{Result}
 
 -- a draft and its store, with this many bytes at most in the canonical lines of both
 pub record Holds (draft : Draft) (store : List ℕ) (bytes : ℕ) : Type 0 where
@@ -40,35 +43,35 @@ pub record Holds (draft : Draft) (store : List ℕ) (bytes : ℕ) : Type 0 where
 module _ (declared at end bytes after : ℕ) (before : bytes ≤ at) where
   -- there is room before the next line for what a line adds that is taken
   taken_fits :
-      (form : Form) (bracket : ℕ) (draft : Draft) (marked store : List ℕ)
+      (form : Result Form Refusal) (bracket : ℕ) (draft : Draft) (marked store : List ℕ)
       → CoversForm declared at form end
-      → after ≤ bytes + (length (spelled declared form) + 1)
+      → after ≤ bytes + (length (spelled_line declared form) + 1)
       → (take_form form bracket marked draft store).verdict ≡ Ok tt
       → after ≤ end + 1
-  taken_fits Blank bracket draft marked store covers grown accepted = omega arith
-  taken_fits (Pad ticks) bracket draft marked store covers grown accepted = omega arith
-  taken_fits (Run times) bracket draft marked store covers grown accepted = omega arith
-  taken_fits (Domain line) bracket draft marked store covers grown accepted = omega arith
-  taken_fits (Window line) bracket draft marked store covers grown accepted = omega arith
-  taken_fits (Script line) bracket draft marked store covers grown accepted = omega arith
-  taken_fits (NoForm refusal) bracket draft marked store covers grown accepted = absurd (not_refused refusal accepted)
+  taken_fits (Ok Blank) bracket draft marked store covers grown accepted = omega arith
+  taken_fits (Ok (Pad ticks)) bracket draft marked store covers grown accepted = omega arith
+  taken_fits (Ok (Run times)) bracket draft marked store covers grown accepted = omega arith
+  taken_fits (Ok (Domain line)) bracket draft marked store covers grown accepted = omega arith
+  taken_fits (Ok (Window line)) bracket draft marked store covers grown accepted = omega arith
+  taken_fits (Ok (Script line)) bracket draft marked store covers grown accepted = omega arith
+  taken_fits (Err refusal) bracket draft marked store covers grown accepted = absurd (not_refused refusal accepted)
 
   -- there is room in the text for what any line adds
   any_fits :
-      (form : Form) (size : ℕ)
+      (form : Result Form Refusal) (size : ℕ)
       → CoversForm declared at form end
-      → after ≤ bytes + (length (spelled declared form) + 1)
+      → after ≤ bytes + (length (spelled_line declared form) + 1)
       → end ≤ size
       → at < size
       → after ≤ size + 1
   unfolding spelled
-  any_fits Blank size covers grown within below = omega arith
-  any_fits (Pad ticks) size covers grown within below = omega arith
-  any_fits (Run times) size covers grown within below = omega arith
-  any_fits (Domain line) size covers grown within below = omega arith
-  any_fits (Window line) size covers grown within below = omega arith
-  any_fits (Script line) size covers grown within below = omega arith
-  any_fits (NoForm refusal) size covers grown within below = omega arith
+  any_fits (Ok Blank) size covers grown within below = omega arith
+  any_fits (Ok (Pad ticks)) size covers grown within below = omega arith
+  any_fits (Ok (Run times)) size covers grown within below = omega arith
+  any_fits (Ok (Domain line)) size covers grown within below = omega arith
+  any_fits (Ok (Window line)) size covers grown within below = omega arith
+  any_fits (Ok (Script line)) size covers grown within below = omega arith
+  any_fits (Err refusal) size covers grown within below = omega arith
 
 -- what a line came to
 record LineHolds (end size : ℕ) (outcome : DraftOutcome) : Type 0 where
@@ -82,7 +85,7 @@ module _ (text : List ℕ) (at : ℕ) (draft : Draft) (store : List ℕ) (so_far
   next_good : GoodLine text draft.plan.domains draft.named at line
   next_good = line_good text draft.plan.domains draft.named at so_far.good.domains.named_size (omega arith)
 
-  grown : Grown draft store (length (spelled draft.plan.domains line.form) + 1) (take_line line draft store)
+  grown : Grown draft store (length (spelled_line draft.plan.domains line.form) + 1) (take_line line draft store)
   unfolding take_line
   grown =
       form_grows draft store so_far.good so_far.stored line.form line.bracket at line.end line.named next_good.form

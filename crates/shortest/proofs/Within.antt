@@ -3,7 +3,7 @@ use Rattle.std.specs.Prelude.{Result, Ok, Err}
 use Prim.Native.Nat.{ℕ, ◌≤◌}
 use mathlib.Core.List.{List}
 use Rattle.forms.specs.declared.Form.{Form}
-use Rattle.forms.specs.declared.Form.TheVariants.{Blank, Pad, Run, Domain, Window, Op as Script, Refused as NoForm}
+use Rattle.forms.specs.declared.Form.TheVariants.{Blank, Pad, Run, Domain, Window, Op as Script}
 use Rattle.forms.specs.Forms.{declared_domain, op_form}
 use Rattle.line.specs.declared.Head.{Head}
 use Rattle.line.specs.declared.Head.TheVariants.{Op as OpHead, Plain}
@@ -82,17 +82,17 @@ bracketed_within text at =
 -- ---- a form, and the line that it stands in
 
 -- what is known of a form where it is an op
-abbrev pub OpFits : Form → Type 0
-OpFits Blank = Unit {0}
-OpFits (Pad ticks) = Unit {0}
-OpFits (Run times) = Unit {0}
-OpFits (Domain line) = Unit {0}
-OpFits (Window line) = Unit {0}
-OpFits (Script line) = OpWithinLimits line.op
-OpFits (NoForm refusal) = Unit {0}
+abbrev pub OpFits : Result Form Refusal → Type 0
+OpFits (Ok Blank) = Unit {0}
+OpFits (Ok (Pad ticks)) = Unit {0}
+OpFits (Ok (Run times)) = Unit {0}
+OpFits (Ok (Domain line)) = Unit {0}
+OpFits (Ok (Window line)) = Unit {0}
+OpFits (Ok (Script line)) = OpWithinLimits line.op
+OpFits (Err refusal) = Unit {0}
 
 abbrev OfForm : Result (Form × ℕ) Refusal → Type 0
-OfForm (Ok (form, end)) = OpFits form
+OfForm (Ok (form, end)) = OpFits (Ok form)
 OfForm (Err refusal) = Unit {0}
 
 record WithinForm (parse : Result (Form × ℕ) Refusal) : Type 0 where
@@ -115,14 +115,14 @@ form_within text declared at = go (declared_domain text declared at)
     go (Err refusal) = record { limits = tt }
 
 -- a form other than an op has nothing to keep
-plain_fits : (named marked : List ℕ) (form : Form) → IsPlain named marked form → OpFits form
-plain_fits named marked Blank plain = tt
-plain_fits named marked (Pad ticks) plain = tt
-plain_fits named marked (Run times) plain = tt
-plain_fits named marked (Domain line) plain = tt
-plain_fits named marked (Window line) plain = tt
-plain_fits named marked (Script line) plain = absurd plain
-plain_fits named marked (NoForm refusal) plain = tt
+plain_fits : (named marked : List ℕ) (form : Result Form Refusal) → IsPlain named marked form → OpFits form
+plain_fits named marked (Ok Blank) plain = tt
+plain_fits named marked (Ok (Pad ticks)) plain = tt
+plain_fits named marked (Ok (Run times)) plain = tt
+plain_fits named marked (Ok (Domain line)) plain = tt
+plain_fits named marked (Ok (Window line)) plain = tt
+plain_fits named marked (Ok (Script line)) plain = absurd plain
+plain_fits named marked (Err refusal) plain = tt
 
 module _ (text : List ℕ) (declared : ℕ) (named : List ℕ) where
   closed_within : (bracket : ℕ) (parse : Result (Form × ℕ) Refusal) → WithinForm parse → WithinLine (closed_line text bracket named parse)

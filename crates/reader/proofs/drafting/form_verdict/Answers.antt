@@ -19,6 +19,3 @@ returns-else-run-ne0 c = simp (c.in-Run.is, eq-eqb _ _ c.if-run-ne0.false)
 
 pub returns-else-windows-ge-MOST_WINDOWS : goal.returns-else-windows-ge-MOST_WINDOWS
 returns-else-windows-ge-MOST_WINDOWS c = simp (c.in-Window.is, lt-leb _ _ c.if-windows-ge-MOST_WINDOWS.false)
-
-pub returns-in-Refused : goal.returns-in-Refused
-returns-in-Refused c = simp c.in-Refused.is

@@ -1,6 +1,13 @@
 -- `reader::walk::walk` meets its contract. Assumes nothing.
 use native.Mathlib.Omega.{arith}
-use mathlib.Core.Path.{◌∙◌}
+use Prim.Native.Nat.{ℕ}
+use mathlib.Core.Path.{◌≡◌, ◌∙◌, ap, refl, sym}
+use Rattle.std.specs.Prelude.{Result, Ok, Err}
+use Rattle.forms.specs.declared.Form.{Form}
+use Rattle.refusal.specs.declared.Refusal.{Refusal}
+use Rattle.refusal.specs.Verdict.{Verdict}
+use Rattle.reader.specs.DraftParts.{form_verdict}
+use Rattle.reader.proofs.DraftParts.{line_verdict, plan_with_line}
 use Rattle.reader.specs.Draft.{no_draft}
 use Rattle.reader.proofs.GoodDraft.{draft_first}
 use Rattle.reader.proofs.Walking.{lines_end, lines_first}
@@ -52,23 +59,42 @@ loop-at-preserved-in-Op c =
     op_next left c.loop-at-test.true c.head_at-head.ensures c.in-Op.is
     (c.take_op_line-taken.ensures _ _) c.in-Ok.is
 
+-- the line says what it was found to say
+line_is : (bracket pad run windows : ℕ) {form : Result Form Refusal} {kind : Form} {verdict : Verdict} → form ≡ Ok kind
+    → verdict ≡ form_verdict kind bracket pad run windows → verdict ≡ line_verdict form bracket pad run windows
+line_is bracket pad run windows is found =
+    found ∙ ap (λ (form : Result Form Refusal). line_verdict form bracket pad run windows) (sym is)
+
+line_is_refused : (bracket pad run windows : ℕ) {form : Result Form Refusal} {why : Refusal} → form ≡ Err why
+    → Err why ≡ line_verdict form bracket pad run windows
+line_is_refused bracket pad run windows is =
+    sym (ap (λ (form : Result Form Refusal). line_verdict form bracket pad run windows) is)
+
+pub returns-in-Err-form : goal.returns-in-Err-form
+returns-in-Err-form c =
+    let left = c.loop-at.invariant in
+    rw (c.draft_result-in-Err-form.ensures _)
+    (other_refused left c.loop-at-test.true c.head_at-head.ensures
+    c.in-Plain.is c.line_of-line.ensures
+    (line_is_refused c.line_of-line.result.bracket c.loop-at.plan.pad c.loop-at.plan.run c.loop-at.plan.windows c.in-Err-form.is) refl)
+
 pub returns-in-Err-verdict : goal.returns-in-Err-verdict
 returns-in-Err-verdict c =
     let left = c.loop-at.invariant in
     rw (c.draft_result-in-Err-verdict.ensures _, ← c.in-Err-verdict.is)
     (other_refused left c.loop-at-test.true c.head_at-head.ensures
-    c.in-Plain.is c.line_of-line.ensures c.form_verdict-verdict.ensures
+    c.in-Plain.is c.line_of-line.ensures (line_is _ _ _ _ c.in-Ok-form.is c.form_verdict-verdict.ensures)
     c.in-Err-verdict.is)
 
 pub plan_with_form-plan-requires : goal.plan_with_form-plan-requires
 plan_with_form-plan-requires c =
     let left = c.loop-at.invariant in
     let below = c.loop-at-test.true in (
-      other_domain left below c.head_at-head.ensures c.in-Plain.is
-          c.line_of-line.ensures,
-      other_window left below c.head_at-head.ensures c.in-Plain.is
-          c.line_of-line.ensures c.form_verdict-verdict.ensures
-          c.in_default.is,
+      λ line is. other_domain left below c.head_at-head.ensures c.in-Plain.is
+          c.line_of-line.ensures line (c.in-Ok-form.is ∙ ap Ok is),
+      λ line is. other_window left below c.head_at-head.ensures c.in-Plain.is
+          c.line_of-line.ensures (line_is _ _ _ _ c.in-Ok-form.is c.form_verdict-verdict.ensures)
+          c.in_default.is line (c.in-Ok-form.is ∙ ap Ok is),
     )
 
 pub overflow_add-at-in-loop-at : goal.overflow_add-at-in-loop-at
@@ -88,16 +114,16 @@ loop-at-smaller c =
       arith,
       below,
       other_reach left below c.head_at-head.ensures c.in-Plain.is
-          c.line_of-line.ensures c.form_verdict-verdict.ensures
+          c.line_of-line.ensures (line_is _ _ _ _ c.in-Ok-form.is c.form_verdict-verdict.ensures)
           c.in_default.is,
     )
 
 pub loop-at-preserved : goal.loop-at-preserved
 loop-at-preserved c =
     let left = c.loop-at.invariant in
-    rw c.plan_with_form-plan.ensures
+    rw (c.plan_with_form-plan.ensures ∙ ap (plan_with_line c.loop-at.plan) (sym c.in-Ok-form.is))
     (other_next left c.loop-at-test.true c.head_at-head.ensures
-    c.in-Plain.is c.line_of-line.ensures c.form_verdict-verdict.ensures
+    c.in-Plain.is c.line_of-line.ensures (line_is _ _ _ _ c.in-Ok-form.is c.form_verdict-verdict.ensures)
     c.in_default.is)
 
 pub returns : goal.returns
