@@ -7,4 +7,4 @@ use Rattle.plan.specs.Sums.{sum_to}
 use Rattle.plan.proofs.sharing.colours_total.Given as goal
 
 abbrev pub invariant-loop-i : goal.invariant-loop-i
-invariant-loop-i l = l.colours ≡ sum_to (λ (index : ℕ). colours_of (get_or l.plan.shares index 0)) l.i
+invariant-loop-i l = l.colours ≡ sum_to (λ (index : ℕ). colours_of (get_or l.shares index 0)) l.i

@@ -20,6 +20,6 @@ mask_by shares domain = mask_from (sum_to (colours_by shares) domain) (colours_b
 
 abbrev pub invariant-loop-i : goal.invariant-loop-i
 invariant-loop-i l =
-    (l.first ≡ sum_to (colours_by l.plan.shares) l.i)
+    (l.first ≡ sum_to (colours_by l.shares) l.i)
     × (length l.masks ≡ most_domains)
-    × ((index : ℕ) → index < most_domains → get_or l.masks index 0 ≡ cond (ltb index l.i) (mask_by l.plan.shares index) 0)
+    × ((index : ℕ) → index < most_domains → get_or l.masks index 0 ≡ cond (ltb index l.i) (mask_by l.shares index) 0)

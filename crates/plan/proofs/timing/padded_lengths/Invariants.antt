@@ -6,4 +6,4 @@ use Rattle.plan.specs.Sums.{sum_to}
 use Rattle.plan.proofs.timing.padded_lengths.Given as goal
 
 abbrev pub invariant-loop-i : goal.invariant-loop-i
-invariant-loop-i l = l.total ≡ sum_to (λ (slot : ℕ). get_or l.plan.lengths slot 0 + l.plan.pad) l.i
+invariant-loop-i l = l.total ≡ sum_to (λ (slot : ℕ). get_or l.lengths slot 0 + l.pad) l.i
