@@ -46,7 +46,13 @@ pub fn check_fresh(plan: Plan, cache: &[u16], boxes: &[u32]) -> Result<(), Refus
 }
 
 // What a step and a run are lent beside their log: 11, 12, 13.
-fn check_lent(plan: Plan, scripts: &[u32], state: State, cache: &[u16], boxes: &[u32]) -> Result<(), Refusal>
+fn check_lent(
+    plan: Plan,
+    scripts: &[u32],
+    state: State,
+    cache: &[u16],
+    boxes: &[u32],
+) -> Result<(), Refusal>
     ensures { result ≡ lent_verdict plan scripts.now state cache.now
         boxes.now (Ok tt) }
 {

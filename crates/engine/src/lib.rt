@@ -18,7 +18,8 @@ pub enum Ending {
 }
 
 // The log that a run is lent: a whole one, which is divided among the declared domains, or one
-// domain's part, with the domain and how many records a part holds.
+// domain's part, with the domain and how many records a part holds. Not an Option: a None would have
+// to stand for the whole log.
 #[derive(Clone, Copy)]
 pub enum LentLog {
     Whole,

@@ -81,7 +81,7 @@ fn lookahead_from(text: &[u8], start: usize) -> Lookahead
 
 // What stands next in the line from `at` on: spaces are passed over.
 #[tactic(auto, unfolding(crate::specs::Lookaheads::lookahead_at))]
-pub fn lookahead_at(text: &[u8], at: usize) -> Lookahead
+fn find_lookahead(text: &[u8], at: usize) -> Lookahead
     ensures { result ≡ lookahead_at text.now at }
 {
     lookahead_from(text, skip_spaces(text, at))
@@ -92,10 +92,10 @@ pub fn lookahead_start(next: Lookahead) -> usize
     ensures { result ≡ lookahead_start next }
 {
     match next {
-        Lookahead::LineEnd(at) => at,
-        Lookahead::Open(at) => at,
-        Lookahead::Close(at) => at,
-        Lookahead::Run(at) => at,
+        Lookahead::LineEnd(at)
+        | Lookahead::Open(at)
+        | Lookahead::Close(at)
+        | Lookahead::Run(at) => at,
     }
 }
 
@@ -113,10 +113,18 @@ impl<'a> Reader<'a> {
             × (self.new.text ≡ self.old.text)
             × (self.new.at ≡ lookahead_start result) }
     {
-        let next = lookahead_at(self.text, self.at);
+        let next = find_lookahead(self.text, self.at);
         self.at = lookahead_start(next);
         next
     }
+}
+
+// What a reader at `at` hands out next.
+pub fn lookahead_at(text: &[u8], at: usize) -> Lookahead
+    ensures { result ≡ lookahead_at text.now at }
+{
+    let mut reader = Reader { text, at };
+    reader.next()
 }
 
 // What stands first in the line that begins at `at`: the spaces before it are passed over first.

@@ -14,9 +14,9 @@ use forms::windows::window_form;
 use forms::{DomainParse, Form, OpLine};
 use lexer::{Lookahead, first_in_line, lookahead_start};
 use refusal::Refusal;
+use syntax::FormWord;
 use syntax::keywords::form_keyword_at;
 use syntax::tokens::{pass_close, pass_line_end};
-use syntax::FormWord;
 
 // A line's form or its refusal, the offset of its first bracket, and the offset of its end.
 #[derive(Drop)]
@@ -36,7 +36,8 @@ pub enum Head {
     Plain(PlainHead),
 }
 
-// The beginning of a line that opens no op.
+// The beginning of a line that opens no op. A refused one is among them, and no Err: `line_of` tells
+// its bracket, and what is named, as of any other line.
 #[derive(Drop)]
 pub enum PlainHead {
     // a line without a token, and the offset of its end

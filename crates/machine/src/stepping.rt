@@ -130,6 +130,7 @@ fn run_window(
     let most = ops_allowed(limit, first);
     let mut steps: u64 = 0;
     let mut clock = first.clock;
+    // No `for`: the number of ops done is what the window answers, and an op that is none ends it.
     while steps < most {
         let Some(op) = next_step(scripts, first, steps, clock) else {
             break;
@@ -245,6 +246,7 @@ pub fn run_steps(
     let mut present = state;
     let mut start = window_start(plan, state.windows);
     let mut slot = (state.windows % declared as u64) as usize;
+    // No `for`: a turn adds as many steps as its window took.
     while (steps < limit) & (present.windows < total) {
         let owner = plan.owners[slot] as usize;
         let place = place_of(keep, quota, owner as u64);

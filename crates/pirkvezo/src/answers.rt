@@ -8,12 +8,7 @@ use engine::Ending;
 use refusal::{Refusal, code_of};
 
 // Writes an answer and returns its first number. An answer of another length stays as it is.
-pub fn put_answer(
-    answer: &mut [u64],
-    verdict: Result<(), Refusal>,
-    third: u64,
-    fourth: u64,
-) -> u32
+pub fn put_answer(answer: &mut [u64], verdict: Result<(), Refusal>, third: u64, fourth: u64) -> u32
     ensures { (result ≡ verdict_number verdict)
         × (answer.new ≡ answer_of verdict third fourth answer.old) }
 {

@@ -27,7 +27,13 @@ pub fn no_draft() -> Draft
 
 // What is held against a form other than an op: a second pad or run, or a 33rd window. A domain line
 // always fits: its number was the next one.
-pub fn form_verdict(form: Form, bracket: usize, pad: u32, run: u32, windows: u32) -> Result<(), Refusal>
+pub fn form_verdict(
+    form: Form,
+    bracket: usize,
+    pad: u32,
+    run: u32,
+    windows: u32,
+) -> Result<(), Refusal>
     ensures { result ≡ form_verdict form bracket pad run windows }
 {
     match form {

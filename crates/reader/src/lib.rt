@@ -9,8 +9,8 @@ ghost use Rattle.std.specs.Prelude.{◌≡◌};
 ghost use Rattle.reader.specs.Read.{read_of, read_result};
 
 use final_checks::{final_verdict, plan_with_masks};
-use plan::limits::{DOMAIN_ENTRIES, MOST_TEXT_BYTES};
 use plan::Plan;
+use plan::limits::{DOMAIN_ENTRIES, MOST_TEXT_BYTES};
 use refusal::Refusal;
 use script::limits::SCRIPTS_LENGTH;
 use walk::{hand_over, walk};

@@ -66,6 +66,7 @@ pub fn walk(text: &[u8], store: &mut [u32; SCRIPTS_LENGTH]) -> DraftResult
     let mut counts = first.counts;
     let mut named = first.named;
     let mut at: usize = 0;
+    // No `for`: a turn goes on behind the end of its line.
     while at < text.len() {
         let declared = plan.domains;
         let head = head_at(text, at);

@@ -27,7 +27,8 @@ pub enum Observation {
     Barred(u16),
 }
 
-// Whose records are kept: every domain's, each in its part of the log, or one domain's only.
+// Whose records are kept: every domain's, each in its part of the log, or one domain's only. Not an
+// Option: a None would have to stand for every domain.
 #[derive(Clone, Copy)]
 pub enum Keep {
     Every,
@@ -94,13 +95,7 @@ pub fn place_of(keep: Keep, quota: u64, domain: u64) -> Option<u64>
 {
     match keep {
         Keep::Every => Some(quota * domain),
-        Keep::One(named) => {
-            if domain == named {
-                Some(0)
-            } else {
-                None
-            }
-        }
+        Keep::One(named) => { if domain == named { Some(0) } else { None } }
     }
 }
 

@@ -28,7 +28,8 @@ pub enum Refusal {
     LatestOutOfLimits(usize),
 }
 
-// A refusal as its number and its companion; 0 and 0 for acceptance.
+// A refusal as its number and its companion, as the functions for C answer it; 0 and 0 for
+// acceptance.
 #[derive(Clone, Copy, Debug, PartialEq, Eq)]
 pub struct Code {
     pub number: u32,

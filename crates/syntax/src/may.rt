@@ -54,6 +54,7 @@ pub fn recipients_at(text: &[u8], own: u32, named: [usize; 8], at: usize) -> Rec
     let mut rights: u32 = 0;
     let mut marked = named;
     let mut here = at;
+    // No `for`: a turn goes on behind its recipient, and the list ends where its bracket stands.
     loop {
         let item = match recipient_at(text, own, rights, here) {
             Ok(item) => item,

@@ -45,10 +45,7 @@ fn send_op(text: &[u8], at: usize) -> Result<(Op, usize), Refusal>
 {
     let recipient = take_number(text, 0, LAST_DOMAIN, at)?;
     let word = take_number(text, 0, MOST_WORD, recipient.end)?;
-    Ok((
-        Op::Send(recipient.value as u8, word.value as u16),
-        word.end,
-    ))
+    Ok((Op::Send(recipient.value as u8, word.value as u16), word.end))
 }
 
 // An op's word and its numbers.

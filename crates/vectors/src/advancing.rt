@@ -34,7 +34,12 @@ fn advance_once(
     match step(lent, scripts, before, cache, boxes, log) {
         Ok(progress) => {
             store_state(state, progress.state);
-            put_answer(answer, Ok(()), progress.steps, ending_number(progress.ending));
+            put_answer(
+                answer,
+                Ok(()),
+                progress.steps,
+                ending_number(progress.ending),
+            );
         }
         Err(refusal) => {
             put_answer(answer, Err(refusal), 0, 0);

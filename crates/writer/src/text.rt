@@ -11,8 +11,8 @@ ghost use Rattle.writer.specs.Lines.{domain_line, window_line};
 
 use crate::lines::{write_domain, write_op, write_pad, write_run, write_window};
 use plan::Plan;
-use script::limits::MOST_OPS;
 use script::fetch;
+use script::limits::MOST_OPS;
 
 // Writes the lines of all domains.
 fn write_domains(out: &mut [u8], at: usize, plan: Plan) -> usize

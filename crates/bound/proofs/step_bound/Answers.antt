@@ -1,8 +1,6 @@
 -- `bound::step_bound` meets its contract. Assumes nothing.
-use mathlib.Core.Bool.{true}
-use mathlib.Core.Path.{◌∙◌, ◌≡◌, sym}
+use mathlib.Core.Path.{◌∙◌, sym}
 use native.Mathlib.Omega.{arith}
-use Rattle.plan.specs.Validity.{plan_valid}
 use Rattle.plan.proofs.ValidPlans.{counts}
 use Rattle.bound.proofs.Answers.{impossible_plan, parts_answered, parts_most, wrong_length_lem}
 use Rattle.bound.proofs.step_bound.Goals as goal

@@ -79,8 +79,8 @@ write_run-requires c =
     let ran = c.run-ran in
     let fresh = c.unwrap-fresh.result in
     let started = λ (old : State).
-        ap (λ (s : Result State Refusal). fresh_with s old c.fresh_start.new.cache c.fresh_start.new.boxes) (sym c.unwrap-fresh.ensures)
-        ∙ c.fresh_start.ensures old in
+    ap (λ (s : Result State Refusal). fresh_with s old c.fresh_start.new.cache c.fresh_start.new.boxes) (sym c.unwrap-fresh.ensures)
+    ∙ c.fresh_start.ensures old in
     let is =
     c.state_left.ensures ran.new.cache ran.new.boxes ran.new.log
     ∙ world_is plan c.args.scripts.now fresh _ _ ran.result ran.new.cache ran.new.boxes ran.new.log c.requires started ran.ensures in
@@ -98,8 +98,8 @@ returns c =
     let ran = c.run-ran in
     let fresh = c.unwrap-fresh.result in
     let started = λ (old : State).
-        ap (λ (s : Result State Refusal). fresh_with s old c.fresh_start.new.cache c.fresh_start.new.boxes) (sym c.unwrap-fresh.ensures)
-        ∙ c.fresh_start.ensures old in
+    ap (λ (s : Result State Refusal). fresh_with s old c.fresh_start.new.cache c.fresh_start.new.boxes) (sym c.unwrap-fresh.ensures)
+    ∙ c.fresh_start.ensures old in
     let is =
     c.state_left.ensures ran.new.cache ran.new.boxes ran.new.log
     ∙ world_is plan c.args.scripts.now fresh _ _ ran.result ran.new.cache ran.new.boxes ran.new.log c.requires started ran.ensures in
