@@ -5,10 +5,6 @@ use Rattle.refusal.specs.declared.Refusal.{Refusal}
 use Rattle.script.specs.declared.Op.{Op}
 use Rattle.script.specs.declared.Op.TheVariants.{Read, Write, Send, Receive, Compute}
 use Rattle.script.specs.Limits.{last_domain, least_ticks, most_number, most_ticks, most_word}
-use Rattle.syntax.specs.declared.NumberOp.{NumberOp}
-use Rattle.syntax.specs.declared.NumberOp.TheVariants.{Read as ReadOp, Write as WriteOp}
-use Rattle.syntax.specs.declared.NumberOp.TheVariants.{Receive as ReceiveOp}
-use Rattle.syntax.specs.declared.NumberOp.TheVariants.{Compute as ComputeOp}
 use Rattle.syntax.specs.Keywords.{Keyword, on, one_of}
 use Rattle.syntax.specs.Tokens.{take_number, then_number}
 
@@ -42,17 +38,3 @@ op_at text at = one_of (op_keywords text) text at Err
 abbrev pub then_op : {A : Type 0} → Result (Op × ℕ) Refusal → (Refusal → A) → (Op → ℕ → A) → A
 then_op (Ok (op, end)) refused go = go op end
 then_op (Err refusal) refused go = refused refusal
-
--- ---- the ops of one number, as the code makes them
-
-abbrev pub op_with : NumberOp → ℕ → Op
-op_with ReadOp = Read
-op_with WriteOp = Write
-op_with ReceiveOp = Receive
-op_with ComputeOp = Compute
-
-abbrev pub most_of : NumberOp → ℕ
-most_of ReadOp = most_number
-most_of WriteOp = most_number
-most_of ReceiveOp = last_domain
-most_of ComputeOp = most_ticks

@@ -47,15 +47,6 @@ pub enum OpWord {
     Compute,
 }
 
-// The ops that have one number.
-#[derive(Clone, Copy)]
-enum NumberOp {
-    Read,
-    Write,
-    Receive,
-    Compute,
-}
-
 // What stands next in a list of recipients.
 #[derive(Clone, Copy)]
 pub enum RecipientItem {

@@ -1,41 +1,29 @@
 // An op: one of five words and the numbers that it asks for.
-ghost use Rattle.std.specs.Prelude.{◌≡◌, ◌≤◌};
-ghost use Rattle.syntax.specs.Ops.{most_of, number_op, op_at, op_with, send_op};
+ghost use Rattle.std.specs.Prelude.{ℕ, ◌≡◌, ◌≤◌};
+ghost use Rattle.syntax.specs.Ops.{number_op, op_at, send_op};
 
+use crate::OpWord;
 use crate::keywords::op_keyword_at;
 use crate::tokens::take_number;
-use crate::{NumberOp, OpWord};
 use refusal::Refusal;
 use script::Op;
 use script::limits::{LAST_DOMAIN, LEAST_TICKS, MOST_NUMBER, MOST_TICKS, MOST_WORD};
 
-// The op of a number, which fits as that op holds it.
-fn op_with(kind: NumberOp, number: u32) -> Op
-    requires { number ≤ most_of kind }
-    ensures { result ≡ op_with kind number }
-{
-    match kind {
-        NumberOp::Read => Op::Read(number as u16),
-        NumberOp::Write => Op::Write(number as u16),
-        NumberOp::Receive => Op::Receive(number as u8),
-        NumberOp::Compute => Op::Compute(number as u8),
-    }
-}
-
-// An op of one number.
-#[tactic(auto, unfolding(crate::specs::Ops::number_op))]
-fn number_op(
+// An op of one number, which `op` makes of a number up to `high`.
+fn number_op<F: FnOnce(u32) -> Op>(
     text: &[u8],
-    kind: NumberOp,
     low: u32,
     high: u32,
+    op: F,
     at: usize,
 ) -> Result<(Op, usize), Refusal>
-    requires { high ≤ most_of kind }
-    ensures { result ≡ number_op text.now low high (op_with kind) at }
+    requires { (number : ℕ) → number ≤ high → F.pre op number }
+    ensures { (rule : ℕ → Op)
+        → ((number : ℕ) (made : Op) → number ≤ high → F.post op number made → made ≡ rule number)
+        → result ≡ number_op text.now low high rule at }
 {
     let number = take_number(text, low, high, at)?;
-    Ok((op_with(kind, number.value), number.end))
+    Ok((op(number.value), number.end))
 }
 
 // The recipient and the word of a send.
@@ -44,8 +32,8 @@ fn send_op(text: &[u8], at: usize) -> Result<(Op, usize), Refusal>
     ensures { result ≡ send_op text.now at }
 {
     let recipient = take_number(text, 0, LAST_DOMAIN, at)?;
-    let word = take_number(text, 0, MOST_WORD, recipient.end)?;
-    Ok((Op::Send(recipient.value as u8, word.value as u16), word.end))
+    let domain = recipient.value as u8;
+    number_op(text, 0, MOST_WORD, |word| Op::Send(domain, word as u16), recipient.end)
 }
 
 // An op's word and its numbers.
@@ -54,10 +42,10 @@ pub fn op_at(text: &[u8], at: usize) -> Result<(Op, usize), Refusal>
 {
     let (word, end) = op_keyword_at(text, at)?;
     match word {
-        OpWord::Read => number_op(text, NumberOp::Read, 0, MOST_NUMBER, end),
-        OpWord::Write => number_op(text, NumberOp::Write, 0, MOST_NUMBER, end),
+        OpWord::Read => number_op(text, 0, MOST_NUMBER, |number| Op::Read(number as u16), end),
+        OpWord::Write => number_op(text, 0, MOST_NUMBER, |number| Op::Write(number as u16), end),
         OpWord::Send => send_op(text, end),
-        OpWord::Receive => number_op(text, NumberOp::Receive, 0, LAST_DOMAIN, end),
-        OpWord::Compute => number_op(text, NumberOp::Compute, LEAST_TICKS, MOST_TICKS, end),
+        OpWord::Receive => number_op(text, 0, LAST_DOMAIN, |number| Op::Receive(number as u8), end),
+        OpWord::Compute => number_op(text, LEAST_TICKS, MOST_TICKS, |number| Op::Compute(number as u8), end),
     }
 }

@@ -1,4 +1,5 @@
 -- `syntax::op_tokens::op_at` meets its contract. Assumes nothing.
+use Rattle.std.proofs.Common.{rules}
 use mathlib.Core.Path.{refl, ap, ◌∙◌}
 use Rattle.std.specs.Prelude.{ℕ, List, Result, Ok, Err}
 use Rattle.lists.specs.Ascii.{bytes_of}
@@ -34,14 +35,14 @@ unfolding op_at op_keywords bytes_of
 returns-in-Read c =
     by_keyword Err (op_follow c.args.text.now) op_words _ _ c.op_keyword_at.ensures
     (c.in_ok-word.was ∙ ap (λ (word : OpWord). Ok (word, c.in_ok-word.end)) c.in-Read.is)
-    c.number_op.ensures
+    (c.number_op.ensures ReadOp (search rules))
 
 pub returns-in-Write : goal.returns-in-Write
 unfolding op_at op_keywords bytes_of
 returns-in-Write c =
     by_keyword Err (op_follow c.args.text.now) op_words _ _ c.op_keyword_at.ensures
     (c.in_ok-word.was ∙ ap (λ (word : OpWord). Ok (word, c.in_ok-word.end)) c.in-Write.is)
-    c.number_op-in-Write.ensures
+    (c.number_op-in-Write.ensures WriteOp (search rules))
 
 pub returns-in-Send : goal.returns-in-Send
 unfolding op_at op_keywords bytes_of
@@ -55,11 +56,11 @@ unfolding op_at op_keywords bytes_of
 returns-in-Receive c =
     by_keyword Err (op_follow c.args.text.now) op_words _ _ c.op_keyword_at.ensures
     (c.in_ok-word.was ∙ ap (λ (word : OpWord). Ok (word, c.in_ok-word.end)) c.in-Receive.is)
-    c.number_op-in-Receive.ensures
+    (c.number_op-in-Receive.ensures ReceiveOp (search rules))
 
 pub returns-in-Compute : goal.returns-in-Compute
 unfolding op_at op_keywords bytes_of
 returns-in-Compute c =
     by_keyword Err (op_follow c.args.text.now) op_words _ _ c.op_keyword_at.ensures
     (c.in_ok-word.was ∙ ap (λ (word : OpWord). Ok (word, c.in_ok-word.end)) c.in-Compute.is)
-    c.number_op-in-Compute.ensures
+    (c.number_op-in-Compute.ensures ComputeOp (search rules))
