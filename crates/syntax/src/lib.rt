@@ -1,6 +1,7 @@
 // The parser's parts: what a form asks for, taken token by token (brackets, words and numbers, an
 // op, a list of recipients), or the refusal with its offset. Beside what was taken stands the offset
-// to go on from.
+// to go on from. The parameters of a function, as a text and an offset, are those of the definition
+// in specs/ that its contract names, and so are two where a struct could hold them.
 #![tactic(auto)]
 
 pub mod brackets;
@@ -37,7 +38,7 @@ pub enum FormWord {
     Op,
 }
 
-// The word that opens an op.
+// The word that opens an op. No `Op`: its numbers stand behind the word, and are read later.
 #[derive(Clone, Copy)]
 pub enum OpWord {
     Read,
@@ -66,6 +67,7 @@ pub enum RecipientItem {
 pub struct RecipientList {
     pub passed: Result<usize, Refusal>,
     pub rights: u32,
-    // where the text up to there first names each domain as a recipient, plus one; else 0
+    // where the text up to there first names each domain as a recipient, plus one; else 0. No
+    // `Option`: the definition `mention` has them as numbers.
     pub named: [usize; 8],
 }

@@ -14,8 +14,8 @@ fn number_op<F: FnOnce(u32) -> Op>(
     text: &[u8],
     low: u32,
     high: u32,
-    op: F,
     at: usize,
+    op: F,
 ) -> Result<(Op, usize), Refusal>
     requires { (number : ℕ) → number ≤ high → F.pre op number }
     ensures { (rule : ℕ → Op)
@@ -33,7 +33,13 @@ fn send_op(text: &[u8], at: usize) -> Result<(Op, usize), Refusal>
 {
     let recipient = take_number(text, 0, LAST_DOMAIN, at)?;
     let domain = recipient.value as u8;
-    number_op(text, 0, MOST_WORD, |word| Op::Send(domain, word as u16), recipient.end)
+    number_op(
+        text,
+        0,
+        MOST_WORD,
+        recipient.end,
+        |word| Op::Send(domain, word as u16),
+    )
 }
 
 // An op's word and its numbers.
@@ -42,10 +48,22 @@ pub fn op_at(text: &[u8], at: usize) -> Result<(Op, usize), Refusal>
 {
     let (word, end) = op_keyword_at(text, at)?;
     match word {
-        OpWord::Read => number_op(text, 0, MOST_NUMBER, |number| Op::Read(number as u16), end),
-        OpWord::Write => number_op(text, 0, MOST_NUMBER, |number| Op::Write(number as u16), end),
+        OpWord::Read => number_op(text, 0, MOST_NUMBER, end, |number| Op::Read(number as u16)),
+        OpWord::Write => number_op(text, 0, MOST_NUMBER, end, |number| Op::Write(number as u16)),
         OpWord::Send => send_op(text, end),
-        OpWord::Receive => number_op(text, 0, LAST_DOMAIN, |number| Op::Receive(number as u8), end),
-        OpWord::Compute => number_op(text, LEAST_TICKS, MOST_TICKS, |number| Op::Compute(number as u8), end),
+        OpWord::Receive => number_op(
+            text,
+            0,
+            LAST_DOMAIN,
+            end,
+            |number| Op::Receive(number as u8),
+        ),
+        OpWord::Compute => number_op(
+            text,
+            LEAST_TICKS,
+            MOST_TICKS,
+            end,
+            |number| Op::Compute(number as u8),
+        ),
     }
 }

@@ -1,7 +1,7 @@
 // What is due is taken from the next token, or the line is refused.
-ghost use Rattle.std.specs.Prelude.{◌≡◌, ◌≤◌, length};
-ghost use Rattle.syntax.specs.Tokens.{is_word, pass_close, pass_line_end, pass_open, pass_word};
-ghost use Rattle.syntax.specs.Tokens.{same_bytes, take_number, word_at};
+ghost use Rattle.std.specs.Prelude.{◌≡◌};
+ghost use Rattle.syntax.specs.Tokens.{pass_close, pass_line_end, pass_open, pass_word, same_bytes};
+ghost use Rattle.syntax.specs.Tokens.{take_number, word_at};
 
 use crate::{Numeral, Span};
 use lexer::runs::{number_from, word_from};
@@ -9,7 +9,7 @@ use lexer::{Lookahead, Token, lookahead_at, lookahead_start};
 use refusal::Refusal;
 
 // Whether two runs of bytes are equal. Not `==` of the slices: with it a text is read 4% slower.
-fn same_bytes(a: &[u8], b: &[u8]) -> bool
+pub fn same_bytes(a: &[u8], b: &[u8]) -> bool
     ensures { result ≡ same_bytes a.now b.now }
 {
     if a.len() != b.len() {
@@ -23,15 +23,8 @@ fn same_bytes(a: &[u8], b: &[u8]) -> bool
     true
 }
 
-// The bytes from `start` up to `end` are the word's.
-pub fn is_word(text: &[u8], start: usize, end: usize, word: &[u8]) -> bool
-    requires { (start ≤ end) × (end ≤ length text.now) }
-    ensures { result ≡ is_word text.now start end word.now }
-{
-    same_bytes(&text[start..end], word)
-}
-
-// An opening bracket was due.
+// An opening bracket was due. This and the next two differ in a pattern, which no parameter can be:
+// one function for the three would take a test of the token for it, and be no shorter.
 pub fn pass_open(text: &[u8], at: usize) -> Result<usize, Refusal>
     ensures { result ≡ pass_open text.now at }
 {
@@ -83,7 +76,7 @@ pub fn pass_word(text: &[u8], word: &[u8], at: usize) -> Result<usize, Refusal>
     ensures { result ≡ pass_word text.now word.now at }
 {
     let found = word_at(text, at)?;
-    if !is_word(text, found.start, found.end, word) {
+    if !same_bytes(&text[found.start..found.end], word) {
         return Err(Refusal::BrokenShape(found.start));
     }
     Ok(found.end)

@@ -1,5 +1,6 @@
 -- `syntax::tokens::pass_word` meets its contract. Assumes nothing.
-use Rattle.syntax.specs.Tokens.{pass_word}
+use Rattle.lists.specs.Part.{part}
+use Rattle.syntax.specs.Tokens.{is_word, pass_word}
 use Rattle.std.proofs.lemmas.Result.{err_from_is_err_and}
 use Rattle.syntax.proofs.WordDue.{word_bytes, word_found, word_refused}
 use Rattle.syntax.proofs.tokens.pass_word.Goals as goal
@@ -11,15 +12,21 @@ returns-in_err-found c =
     let told = err_from_is_err_and c.from_residual.result c.from_residual.ensures.1 in
     rw (told.1, told.2) (simp (none.other, ← none.told))
 
-pub is_word-requires : goal.is_word-requires
-is_word-requires c = word_bytes _ _ c.word_at.ensures c.in_ok-found.was
+pub slice_bounds-same_bytes-count : goal.slice_bounds-same_bytes-count
+slice_bounds-same_bytes-count c = (word_bytes _ _ c.word_at.ensures c.in_ok-found.was).0
 
-pub returns-then-not-is_word : goal.returns-then-not-is_word
-unfolding pass_word
-returns-then-not-is_word c =
-    simp (word_found _ _ c.word_at.ensures c.in_ok-found.was, ← c.is_word.ensures, c.if-not-is_word.true)
+pub slice_bounds-same_bytes-start : goal.slice_bounds-same_bytes-start
+slice_bounds-same_bytes-start c = (word_bytes _ _ c.word_at.ensures c.in_ok-found.was).0
+
+pub slice_bounds-same_bytes-end : goal.slice_bounds-same_bytes-end
+slice_bounds-same_bytes-end c = (word_bytes _ _ c.word_at.ensures c.in_ok-found.was).1
+
+pub returns-then-not-same_bytes : goal.returns-then-not-same_bytes
+unfolding pass_word is_word part
+returns-then-not-same_bytes c =
+    simp (word_found _ _ c.word_at.ensures c.in_ok-found.was, ← c.same_bytes.ensures, c.if-not-same_bytes.true)
 
 pub returns : goal.returns
-unfolding pass_word
+unfolding pass_word is_word part
 returns c =
-    simp (word_found _ _ c.word_at.ensures c.in_ok-found.was, ← c.is_word.ensures, c.if-not-is_word.false)
+    simp (word_found _ _ c.word_at.ensures c.in_ok-found.was, ← c.same_bytes.ensures, c.if-not-same_bytes.false)
