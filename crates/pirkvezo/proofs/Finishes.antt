@@ -5,7 +5,7 @@ use mathlib.Core.Bool.{Bool, true, false}
 use mathlib.Core.List.{List}
 use Prim.Native.Nat.{ℕ}
 use Rattle.plan.specs.declared.Plan.{Plan}
-use Rattle.latest.specs.Answer.{LatestOutcome, latest_from, latest_of, latest_verdict, latest_with}
+use Rattle.latest.specs.Answer.{LatestOutcome, latest_from, latest_of, latest_verdict}
 use Rattle.latest.proofs.Answers.{impossible_alike}
 use Rattle.pirkvezo.specs.Answers.{answer_of, plan_fits, wrong_length}
 use Rattle.pirkvezo.specs.Finishing.{LatestCall, host_latest, host_latest_with, latest_done}
@@ -14,8 +14,6 @@ use Rattle.pirkvezo.specs.Theorems.{RefusedLatestKeeps}
 use Rattle.pirkvezo.proofs.Calls.{Told}
 use Rattle.pirkvezo.proofs.Judged.{handed}
 use Rattle.refusal.specs.Verdict.{Verdict}
-use Rattle.refusal.specs.declared.Refusal.{Refusal}
-use Rattle.std.specs.Prelude.{Result}
 
 module _ (plan : List ℕ) (domain : ℕ) (script answer : List ℕ) (number : ℕ) (told : List ℕ) where
   pub latest_unfit :

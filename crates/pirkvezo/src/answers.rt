@@ -1,9 +1,10 @@
 // The four numbers of an answer.
-ghost use Rattle.std.specs.Prelude.{◌≡◌};
+ghost use Rattle.std.specs.Prelude.{◌≡◌, Err};
 ghost use Rattle.engine.specs.Running.{ending_number};
-ghost use Rattle.pirkvezo.specs.Answers.{answer_of, verdict_number, wrong_length};
+ghost use Rattle.pirkvezo.specs.Answers.{all_fit, answer_of, plan_fits, verdict_number};
+ghost use Rattle.pirkvezo.specs.Answers.{wrong_length};
 
-use crate::offsets::ANSWER_LENGTH;
+use crate::offsets::{ANSWER_LENGTH, PLAN_LENGTH, STATE_LENGTH};
 use engine::Ending;
 use refusal::{Refusal, code_of};
 
@@ -22,12 +23,34 @@ pub fn put_answer(answer: &mut [u64], verdict: Result<(), Refusal>, third: u64, 
     code.number
 }
 
+// Writes the answer of a refusal: its own two numbers are 0.
+pub fn refuse(answer: &mut [u64], refusal: Refusal) -> u32
+    ensures { (result ≡ verdict_number (Err refusal))
+        × (answer.new ≡ answer_of (Err refusal) 0 0 answer.old) }
+{
+    put_answer(answer, Err(refusal), 0, 0)
+}
+
 // 11: a lent array of another length.
 pub fn refuse_length(answer: &mut [u64]) -> u32
     ensures { (result ≡ verdict_number wrong_length)
         × (answer.new ≡ answer_of wrong_length 0 0 answer.old) }
 {
-    put_answer(answer, Err(Refusal::WrongLength), 0, 0)
+    refuse(answer, Refusal::WrongLength)
+}
+
+// Whether a lent plan and a lent answer have their lengths.
+pub fn plan_fits(plan: &[u32], answer: &[u64]) -> bool
+    ensures { result ≡ plan_fits plan.now answer.now }
+{
+    plan.len() == PLAN_LENGTH && answer.len() == ANSWER_LENGTH
+}
+
+// Whether a lent plan, a lent state and a lent answer have theirs.
+pub fn all_fit(plan: &[u32], state: &[u64], answer: &[u64]) -> bool
+    ensures { result ≡ all_fit plan.now state.now answer.now }
+{
+    plan.len() == PLAN_LENGTH && state.len() == STATE_LENGTH && answer.len() == ANSWER_LENGTH
 }
 
 // 1 for ended, 0 for stopped.

@@ -2,8 +2,7 @@
 ghost use Rattle.std.specs.Prelude.{◌≡◌};
 ghost use Rattle.pirkvezo.specs.Bounding.{host_bound, host_bound_with};
 
-use crate::answers::{put_answer, refuse_length};
-use crate::offsets::{ANSWER_LENGTH, PLAN_LENGTH};
+use crate::answers::{plan_fits, put_answer, refuse, refuse_length};
 use crate::plans::load_plan;
 use bound::step_bound;
 
@@ -14,12 +13,12 @@ pub extern "C" fn pirkvezo_step_bound(plan: &[u32], scripts: &[u32], answer: &mu
     ensures { host_bound_with result answer.new
         ≡ host_bound plan.now scripts.now answer.old }
 {
-    if !((plan.len() == PLAN_LENGTH) & (answer.len() == ANSWER_LENGTH)) {
+    if !plan_fits(plan, answer) {
         return refuse_length(answer);
     }
     let lent = load_plan(plan);
     match step_bound(lent, scripts) {
         Ok(steps) => put_answer(answer, Ok(()), steps, 0),
-        Err(refusal) => put_answer(answer, Err(refusal), 0, 0),
+        Err(refusal) => refuse(answer, refusal),
     }
 }

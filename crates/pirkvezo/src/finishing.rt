@@ -2,8 +2,7 @@
 ghost use Rattle.std.specs.Prelude.{◌≡◌};
 ghost use Rattle.pirkvezo.specs.Finishing.{host_latest, host_latest_with};
 
-use crate::answers::{put_answer, refuse_length};
-use crate::offsets::{ANSWER_LENGTH, PLAN_LENGTH};
+use crate::answers::{plan_fits, put_answer, refuse, refuse_length};
 use crate::plans::load_plan;
 use latest::latest;
 
@@ -19,12 +18,12 @@ pub extern "C" fn pirkvezo_latest(
     ensures { host_latest_with result script.new answer.new
         ≡ host_latest plan.now domain script.old answer.old }
 {
-    if !((plan.len() == PLAN_LENGTH) & (answer.len() == ANSWER_LENGTH)) {
+    if !plan_fits(plan, answer) {
         return refuse_length(answer);
     }
     let lent = load_plan(plan);
     match latest(lent, domain, script) {
         Ok(ticks) => put_answer(answer, Ok(()), ticks, 0),
-        Err(refusal) => put_answer(answer, Err(refusal), 0, 0),
+        Err(refusal) => refuse(answer, refusal),
     }
 }

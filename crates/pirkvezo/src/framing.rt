@@ -2,7 +2,7 @@
 ghost use Rattle.std.specs.Prelude.{◌≡◌};
 ghost use Rattle.pirkvezo.specs.Framing.{host_frame, host_frame_with};
 
-use crate::answers::{put_answer, refuse_length};
+use crate::answers::{put_answer, refuse, refuse_length};
 use crate::offsets::ANSWER_LENGTH;
 use frame::make_frame;
 use plan::limits::{DOMAIN_ENTRIES, WINDOW_ENTRIES};
@@ -33,7 +33,7 @@ pub extern "C" fn pirkvezo_frame(
         }
         Err(refusal) => {
             frame.fill(0);
-            put_answer(answer, Err(refusal), 0, 0)
+            refuse(answer, refusal)
         }
     }
 }

@@ -3,8 +3,7 @@ ghost use Rattle.std.specs.Prelude.{◌≡◌};
 ghost use Rattle.pirkvezo.specs.LogQuery.{host_log, host_log_with, log_answer, log_answer_of};
 
 use crate::LogPart;
-use crate::answers::{put_answer, refuse_length};
-use crate::offsets::{ANSWER_LENGTH, PLAN_LENGTH, STATE_LENGTH};
+use crate::answers::{all_fit, put_answer, refuse, refuse_length};
 use crate::plans::load_plan;
 use crate::states::load_state;
 use engine::log_query::{log_of, log_refusal};
@@ -39,15 +38,13 @@ pub extern "C" fn pirkvezo_log(
         ≡ host_log plan.now state.now log.now domain
         answer.old }
 {
-    if !((plan.len() == PLAN_LENGTH)
-        & ((state.len() == STATE_LENGTH) & (answer.len() == ANSWER_LENGTH)))
-    {
+    if !all_fit(plan, state, answer) {
         return refuse_length(answer);
     }
     let lent = load_plan(plan);
     let held = load_state(state);
     match query_log(lent, held, log, domain) {
         Ok(part) => put_answer(answer, Ok(()), part.offset, part.length),
-        Err(refusal) => put_answer(answer, Err(refusal), 0, 0),
+        Err(refusal) => refuse(answer, refusal),
     }
 }

@@ -2,8 +2,7 @@
 ghost use Rattle.std.specs.Prelude.{◌≡◌};
 ghost use Rattle.pirkvezo.specs.Reading.{host_read, host_read_with};
 
-use crate::answers::{put_answer, refuse_length};
-use crate::offsets::{ANSWER_LENGTH, PLAN_LENGTH};
+use crate::answers::{plan_fits, put_answer, refuse, refuse_length};
 use crate::plans::store_plan;
 use plan::no_plan;
 use reader::read_plan;
@@ -20,7 +19,7 @@ pub extern "C" fn pirkvezo_read_plan(
         ≡ host_read text.now scripts.old plan.old
         answer.old }
 {
-    if !((plan.len() == PLAN_LENGTH) & (answer.len() == ANSWER_LENGTH)) {
+    if !plan_fits(plan, answer) {
         return refuse_length(answer);
     }
     match read_plan(text, scripts) {
@@ -30,7 +29,7 @@ pub extern "C" fn pirkvezo_read_plan(
         }
         Err(refusal) => {
             store_plan(plan, no_plan());
-            put_answer(answer, Err(refusal), 0, 0)
+            refuse(answer, refusal)
         }
     }
 }

@@ -5,8 +5,7 @@ ghost use Rattle.state.specs.World.{World};
 ghost use Rattle.engine.specs.LentLog.{lent_call_of};
 ghost use Rattle.pirkvezo.specs.Running.{host_run, host_run_by, host_run_with, host_step};
 
-use crate::answers::{ending_number, put_answer, refuse_length};
-use crate::offsets::{ANSWER_LENGTH, PLAN_LENGTH, STATE_LENGTH};
+use crate::answers::{all_fit, ending_number, put_answer, refuse, refuse_length};
 use crate::plans::load_plan;
 use crate::states::{load_state, store_state};
 use engine::LentLog;
@@ -32,9 +31,7 @@ pub fn run_numbers(
         plan.now state.old cache.old boxes.old
         log.old answer.old }
 {
-    if !((plan.len() == PLAN_LENGTH)
-        & ((state.len() == STATE_LENGTH) & (answer.len() == ANSWER_LENGTH)))
-    {
+    if !all_fit(plan, state, answer) {
         return refuse_length(answer);
     }
     let handed = load_plan(plan);
@@ -47,7 +44,7 @@ pub fn run_numbers(
         }
         Err(refusal) => {
             store_state(state, before);
-            put_answer(answer, Err(refusal), 0, 0)
+            refuse(answer, refusal)
         }
     }
 }

@@ -2,8 +2,7 @@
 ghost use Rattle.std.specs.Prelude.{◌≡◌};
 ghost use Rattle.pirkvezo.specs.Starting.{host_fresh_with, host_fresh_start};
 
-use crate::answers::{put_answer, refuse_length};
-use crate::offsets::{ANSWER_LENGTH, PLAN_LENGTH, STATE_LENGTH};
+use crate::answers::{all_fit, put_answer, refuse, refuse_length};
 use crate::plans::load_plan;
 use crate::states::{load_state, store_state};
 use engine::starting::fresh_start;
@@ -22,9 +21,7 @@ pub extern "C" fn pirkvezo_fresh_start(
         ≡ host_fresh_start plan.now state.old cache.old
         boxes.old answer.old }
 {
-    if !((plan.len() == PLAN_LENGTH)
-        & ((state.len() == STATE_LENGTH) & (answer.len() == ANSWER_LENGTH)))
-    {
+    if !all_fit(plan, state, answer) {
         return refuse_length(answer);
     }
     let lent = load_plan(plan);
@@ -36,7 +33,7 @@ pub extern "C" fn pirkvezo_fresh_start(
         }
         Err(refusal) => {
             store_state(state, before);
-            put_answer(answer, Err(refusal), 0, 0)
+            refuse(answer, refusal)
         }
     }
 }

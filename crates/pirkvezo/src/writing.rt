@@ -2,8 +2,7 @@
 ghost use Rattle.std.specs.Prelude.{◌≡◌};
 ghost use Rattle.pirkvezo.specs.Writing.{host_write, host_write_with};
 
-use crate::answers::{put_answer, refuse_length};
-use crate::offsets::{ANSWER_LENGTH, PLAN_LENGTH};
+use crate::answers::{plan_fits, put_answer, refuse, refuse_length};
 use crate::plans::load_plan;
 use writer::write_plan;
 
@@ -20,12 +19,12 @@ pub extern "C" fn pirkvezo_write_plan(
         ≡ host_write plan.now scripts.now out.old
         answer.old }
 {
-    if !((plan.len() == PLAN_LENGTH) & (answer.len() == ANSWER_LENGTH)) {
+    if !plan_fits(plan, answer) {
         return refuse_length(answer);
     }
     let lent = load_plan(plan);
     match write_plan(lent, scripts, out) {
         Ok(bytes) => put_answer(answer, Ok(()), bytes as u64, 0),
-        Err(refusal) => put_answer(answer, Err(refusal), 0, 0),
+        Err(refusal) => refuse(answer, refusal),
     }
 }

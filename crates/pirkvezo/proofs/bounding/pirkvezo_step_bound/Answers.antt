@@ -6,22 +6,22 @@ use Rattle.pirkvezo.proofs.Bounds.{bound_fit, bound_unfit}
 use Rattle.pirkvezo.proofs.Calls.{read_lengths, told}
 use Rattle.pirkvezo.proofs.bounding.pirkvezo_step_bound.Goals as goal
 
-pub returns-then-not-plan-answer : goal.returns-then-not-plan-answer
-returns-then-not-plan-answer c =
+pub returns-then-not-plan_fits : goal.returns-then-not-plan_fits
+returns-then-not-plan_fits c =
     let start = c.args in
-    bound_unfit start.plan.now start.scripts.now start.answer.now _ _ c.if-not-plan-answer.true
+    bound_unfit start.plan.now start.scripts.now start.answer.now _ _ (sym c.plan_fits.ensures ∙ c.if-not-plan_fits.true)
     (told c.refuse_length.ensures)
 
 pub load_plan-lent-requires : goal.load_plan-lent-requires
 load_plan-lent-requires c =
     let start = c.args in
-    (read_lengths start.plan.now start.answer.now c.if-not-plan-answer.false).0
+    (read_lengths start.plan.now start.answer.now (sym c.plan_fits.ensures ∙ c.if-not-plan_fits.false)).0
 
 pub returns-in-Ok : goal.returns-in-Ok
 returns-in-Ok c =
     let start = c.args in
     bound_fit start.plan.now start.scripts.now start.answer.now _ _ _ (bound_answer (Ok c.in-Ok.steps))
-    c.if-not-plan-answer.false
+    (sym c.plan_fits.ensures ∙ c.if-not-plan_fits.false)
     c.load_plan-lent.ensures
     (ap bound_answer (sym c.in-Ok.is) ∙ c.step_bound.ensures)
     (told c.put_answer.ensures)
@@ -30,7 +30,7 @@ pub returns-in-Err : goal.returns-in-Err
 returns-in-Err c =
     let start = c.args in
     bound_fit start.plan.now start.scripts.now start.answer.now _ _ _ (bound_answer (Err c.in-Err.refusal))
-    c.if-not-plan-answer.false
+    (sym c.plan_fits.ensures ∙ c.if-not-plan_fits.false)
     c.load_plan-lent.ensures
     (ap bound_answer (sym c.in-Err.is) ∙ c.step_bound.ensures)
-    (told c.put_answer-in-Err.ensures)
+    (told c.refuse.ensures)

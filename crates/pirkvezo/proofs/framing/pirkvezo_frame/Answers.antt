@@ -51,4 +51,4 @@ returns-in-Err c =
     c.copy_from_slice.ensures.after
     (ap frame_answer (sym c.in-Err.is) ∙ c.make_frame.ensures)
     (c.fill.ensures.after (λ number is. is) ∙ ap (λ (size : ℕ). replicate size 0) long.frame_is)
-    (told c.put_answer-in-Err.ensures)
+    (told c.refuse.ensures)

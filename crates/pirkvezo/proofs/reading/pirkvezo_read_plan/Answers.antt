@@ -8,27 +8,27 @@ use Rattle.pirkvezo.specs.Numbers.{plan_numbers}
 use Rattle.pirkvezo.proofs.Calls.{read_fit, read_lengths, read_unfit, told}
 use Rattle.pirkvezo.proofs.reading.pirkvezo_read_plan.Goals as goal
 
-pub returns-then-not-plan-answer : goal.returns-then-not-plan-answer
-returns-then-not-plan-answer c =
+pub returns-then-not-plan_fits : goal.returns-then-not-plan_fits
+returns-then-not-plan_fits c =
     let start = c.args in
-    read_unfit start.text.now start.scripts.now start.plan.now start.answer.now _ _ c.if-not-plan-answer.true
+    read_unfit start.text.now start.scripts.now start.plan.now start.answer.now _ _ (sym c.plan_fits.ensures ∙ c.if-not-plan_fits.true)
     (told c.refuse_length.ensures)
 
 pub store_plan-requires : goal.store_plan-requires
 store_plan-requires c =
     let start = c.args in
-    (read_lengths start.plan.now start.answer.now c.if-not-plan-answer.false).0
+    (read_lengths start.plan.now start.answer.now (sym c.plan_fits.ensures ∙ c.if-not-plan_fits.false)).0
 
 pub store_plan-requires-in-Err : goal.store_plan-requires-in-Err
 store_plan-requires-in-Err c =
     let start = c.args in
-    (read_lengths start.plan.now start.answer.now c.if-not-plan-answer.false).0
+    (read_lengths start.plan.now start.answer.now (sym c.plan_fits.ensures ∙ c.if-not-plan_fits.false)).0
 
 pub returns-in-Ok : goal.returns-in-Ok
 returns-in-Ok c =
     let start = c.args in
     read_fit start.text.now start.scripts.now start.plan.now start.answer.now _ _ (read_result (Ok c.in-Ok.read) c.read_plan.new.scripts) _
-    c.if-not-plan-answer.false
+    (sym c.plan_fits.ensures ∙ c.if-not-plan_fits.false)
     (ap (λ (read : Result Plan Refusal). read_result read c.read_plan.new.scripts) (sym c.in-Ok.is) ∙ c.read_plan.ensures)
     c.store_plan.ensures
     (told c.put_answer.ensures)
@@ -37,7 +37,7 @@ pub returns-in-Err : goal.returns-in-Err
 returns-in-Err c =
     let start = c.args in
     read_fit start.text.now start.scripts.now start.plan.now start.answer.now _ _ (read_result (Err c.in-Err.refusal) c.read_plan.new.scripts) _
-    c.if-not-plan-answer.false
+    (sym c.plan_fits.ensures ∙ c.if-not-plan_fits.false)
     (ap (λ (read : Result Plan Refusal). read_result read c.read_plan.new.scripts) (sym c.in-Err.is) ∙ c.read_plan.ensures)
     (c.store_plan-in-Err.ensures ∙ ap plan_numbers c.no_plan.ensures)
-    (told c.put_answer-in-Err.ensures)
+    (told c.refuse.ensures)

@@ -9,33 +9,33 @@ use Rattle.pirkvezo.proofs.Judged.{lent_alike}
 use Rattle.pirkvezo.proofs.Calls.{lengths, run_fit, run_unfit, told}
 use Rattle.pirkvezo.proofs.running.run_numbers.Goals as goal
 
-pub returns-then-not-plan-state : goal.returns-then-not-plan-state
-returns-then-not-plan-state c =
+pub returns-then-not-all_fit : goal.returns-then-not-all_fit
+returns-then-not-all_fit c =
     let start = c.args in
     run_unfit (λ handed world. lent_call_of start.lent handed start.scripts.now world start.limit)
     start.plan.now start.state.now start.cache.now start.boxes.now start.log.now
-    start.answer.now _ _ c.if-not-plan-state.true
+    start.answer.now _ _ (sym c.all_fit.ensures ∙ c.if-not-all_fit.true)
     (told c.refuse_length.ensures)
 
 pub load_plan-handed-requires : goal.load_plan-handed-requires
 load_plan-handed-requires c =
     let start = c.args in
-    (lengths start.plan.now start.state.now start.answer.now c.if-not-plan-state.false).plan_is
+    (lengths start.plan.now start.state.now start.answer.now (sym c.all_fit.ensures ∙ c.if-not-all_fit.false)).plan_is
 
 pub load_state-before-requires : goal.load_state-before-requires
 load_state-before-requires c =
     let start = c.args in
-    (lengths start.plan.now start.state.now start.answer.now c.if-not-plan-state.false).state_is
+    (lengths start.plan.now start.state.now start.answer.now (sym c.all_fit.ensures ∙ c.if-not-all_fit.false)).state_is
 
 pub store_state-requires : goal.store_state-requires
 store_state-requires c =
     let start = c.args in
-    (lengths start.plan.now start.state.now start.answer.now c.if-not-plan-state.false).state_is
+    (lengths start.plan.now start.state.now start.answer.now (sym c.all_fit.ensures ∙ c.if-not-all_fit.false)).state_is
 
 pub store_state-requires-in-Err : goal.store_state-requires-in-Err
 store_state-requires-in-Err c =
     let start = c.args in
-    (lengths start.plan.now start.state.now start.answer.now c.if-not-plan-state.false).state_is
+    (lengths start.plan.now start.state.now start.answer.now (sym c.all_fit.ensures ∙ c.if-not-all_fit.false)).state_is
 
 pub returns-in-Ok : goal.returns-in-Ok
 returns-in-Ok c =
@@ -44,7 +44,7 @@ returns-in-Ok c =
     run_fit (λ handed world. lent_call_of start.lent handed start.scripts.now world start.limit)
     start.plan.now start.state.now start.cache.now start.boxes.now start.log.now
     start.answer.now _ _ (λ world. lent_alike start.lent start.scripts.now world start.limit) _ _ _ _ _ _ _ _ _ _ _
-    c.if-not-plan-state.false
+    (sym c.all_fit.ensures ∙ c.if-not-all_fit.false)
     c.load_plan-handed.ensures
     c.load_state-before.ensures
     (ap (λ (progress : Result Progress Refusal). run_with progress c.load_state-before.result ran.new.cache ran.new.boxes ran.new.log)
@@ -60,11 +60,11 @@ returns-in-Err c =
     run_fit (λ handed world. lent_call_of start.lent handed start.scripts.now world start.limit)
     start.plan.now start.state.now start.cache.now start.boxes.now start.log.now
     start.answer.now _ _ (λ world. lent_alike start.lent start.scripts.now world start.limit) _ _ _ _ _ _ _ _ _ _ _
-    c.if-not-plan-state.false
+    (sym c.all_fit.ensures ∙ c.if-not-all_fit.false)
     c.load_plan-handed.ensures
     c.load_state-before.ensures
     (ap (λ (progress : Result Progress Refusal). run_with progress c.load_state-before.result ran.new.cache ran.new.boxes ran.new.log)
     (sym c.in-Err.is) ∙ ran.ensures)
     refl
     c.store_state-in-Err.ensures
-    (told c.put_answer-in-Err.ensures)
+    (told c.refuse.ensures)
