@@ -1,8 +1,9 @@
 // The calls that run the machine.
 ghost use Rattle.std.specs.Prelude.{◌≡◌, length};
+ghost use Rattle.pirkvezo.specs.Numbers.{plan_length, state_length};
 
 use engine::lending::step;
-use pirkvezo::answers::{ending_number, put_answer};
+use pirkvezo::answers::{ending_number, put_answer, refuse};
 use pirkvezo::keeping::pirkvezo_run_kept;
 use pirkvezo::plans::load_plan;
 use pirkvezo::running::pirkvezo_run;
@@ -27,7 +28,7 @@ fn advance_once(
     log: &mut [u8],
     answer: &mut [u64],
 )
-    requires { (length plan.now ≡ 92) × (length state.old ≡ 18) }
+    requires { (length plan.now ≡ plan_length) × (length state.old ≡ state_length) }
 {
     let lent = load_plan(plan);
     let before = load_state(state);
@@ -42,7 +43,7 @@ fn advance_once(
             );
         }
         Err(refusal) => {
-            put_answer(answer, Err(refusal), 0, 0);
+            refuse(answer, refusal);
         }
     }
 }
@@ -58,7 +59,7 @@ pub fn advance(
     log: &mut [u8],
     answer: &mut [u64],
 )
-    requires { (length plan.now ≡ 92) × (length state.old ≡ 18) }
+    requires { (length plan.now ≡ plan_length) × (length state.old ≡ state_length) }
 {
     match call {
         Call::Step => {

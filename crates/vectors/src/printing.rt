@@ -1,5 +1,6 @@
 // What is printed: words, numbers, answers and records.
 ghost use Rattle.std.specs.Prelude.{◌≡◌, length};
+ghost use Rattle.records.specs.Records.{record_size};
 
 use pirkvezo::offsets::ANSWER_LENGTH;
 use std::io;
@@ -47,7 +48,7 @@ fn print_kind(rt: &impl Print, kind: u8) -> io::Result<()> {
 
 // A record's kind, value and clock.
 fn print_record(rt: &impl Print, seen: &[u8]) -> io::Result<()>
-    requires { length seen.now ≡ 8 }
+    requires { length seen.now ≡ record_size }
 {
     let value = u16::from_le_bytes([seen[2], seen[3]]);
     let clock = u32::from_le_bytes([seen[4], seen[5], seen[6], seen[7]]);

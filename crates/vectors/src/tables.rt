@@ -1,5 +1,6 @@
 // The numbers of the example's tables: how many of them are lent, setting them, and showing them.
 ghost use Rattle.std.specs.Prelude.{◌+◌, ◌^◌, ◌<◌};
+ghost use Rattle.pirkvezo.specs.Numbers.{plan_length};
 
 use crate::example::Example;
 use crate::fields::{number, rest, small, word, word32};
@@ -32,7 +33,7 @@ struct Area {
 
 // What no other area has as its name is the plan.
 fn area_of(name: &[u8]) -> Area
-    ensures { result.first < 92 }
+    ensures { result.first < plan_length }
 {
     let (table, first) = match name {
         b"scripts" => (Table::Scripts, 0),
