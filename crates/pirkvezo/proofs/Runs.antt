@@ -26,11 +26,6 @@ run_last list first (suc count) =
     ap (λ (rest : List ℕ). get_or list first 0 ∷ rest)
     (run_last list (first + 1) count ∙ ap (λ (k : ℕ). numbers_from list (first + 1) count ++ (get_or list k 0 ∷ [])) index)
 
-pub run_more :
-    (list : List ℕ) (first count : ℕ)
-    → numbers_from list first (count + 1) ≡ numbers_from list first count ++ (get_or list (first + count) 0 ∷ [])
-run_more list first count = rw add-one (run_last list first count)
-
 -- the numbers of a run are the list's, from its first index on
 pub run_at :
     (list : List ℕ) (first count index : ℕ)
@@ -63,35 +58,6 @@ pub taken_all :
     → taken ≡ numbers_from list first count
 taken_all list taken first i count long ended so_far =
     sym (take_all count taken (omega arith)) ∙ (rw (sym ended) so_far)
-
--- ---- storing a run in a table
-
-stores_last :
-    (table values : List ℕ) (index value : ℕ)
-    → sets table index (values ++ (value ∷ [])) ≡ set (sets table index values) (index + length values) value
-stores_last table [] index value = rw add-zero
-stores_last table (one ∷ values) index value =
-    let further : suc index + length values ≡ index + suc (length values) = omega arith in
-    stores_last (set table index one) values (suc index) value
-    ∙ ap (λ (k : ℕ). set (sets (set table index one) (suc index) values) k value) further
-
--- one number more is stored
-pub stored_more :
-    (table list : List ℕ) (first i : ℕ)
-    → set (sets table first (numbers_from list 0 i)) (first + i) (get_or list i 0) ≡ sets table first (numbers_from list 0 (i + 1))
-stored_more table list first i =
-    let here : 0 + i ≡ i = omega arith in
-    sym (ap (sets table first) (run_more list 0 i)
-    ∙ stores_last table (numbers_from list 0 i) first (get_or list (0 + i) 0)
-    ∙ rw (run_length list 0 i, here) refl)
-
--- all are stored
-pub stored_all :
-    (numbers table list : List ℕ) (first i count : ℕ)
-    → i ≡ count
-    → numbers ≡ sets table first (numbers_from list 0 i)
-    → numbers ≡ sets table first (numbers_from list 0 count)
-stored_all numbers table list first i count ended so_far = so_far ∙ ap (λ (n : ℕ). sets table first (numbers_from list 0 n)) ended
 
 -- ---- a table that is written from its front
 

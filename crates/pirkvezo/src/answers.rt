@@ -53,7 +53,8 @@ pub fn all_fit(plan: &[u32], state: &[u64], answer: &[u64]) -> bool
     plan.len() == PLAN_LENGTH && state.len() == STATE_LENGTH && answer.len() == ANSWER_LENGTH
 }
 
-// 1 for ended, 0 for stopped.
+// 1 for ended, 0 for stopped: C's number for an ending. No `From`, which engine alone could have for
+// its type, and engine answers in no numbers.
 pub fn ending_number(ending: Ending) -> u64
     ensures { result ≡ ending_number ending }
 {

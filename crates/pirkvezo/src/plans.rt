@@ -1,6 +1,7 @@
-// A plan as numbers, each list of them at its offset.
+// A plan as numbers, each list of them at its offset. C lends slices of any length, and plan_fits or
+// all_fit has told theirs before: so the functions here ask for slices of plan_length numbers, and
+// take no array of them, for which a length would be tested again.
 ghost use Rattle.std.specs.Prelude.{◌≡◌, true, ◌+◌, length};
-ghost use Rattle.std.proofs.lemmas.List.Edits.{sets};
 ghost use Rattle.plan.specs.Limits.{most_domains};
 ghost use Rattle.pirkvezo.specs.Numbers.{handed_plan, masks_fit, masks_offset, numbers_from};
 ghost use Rattle.pirkvezo.specs.Numbers.{plan_length, plan_numbers};
@@ -12,7 +13,8 @@ use crate::offsets::{
 use plan::limits::{DOMAIN_ENTRIES, WINDOW_ENTRIES};
 use plan::{Plan, no_plan};
 
-// Whether the lent colour masks have at most 16 bits.
+// Whether the lent colour masks have at most 16 bits. By index, as the definition masks_fit has it:
+// with `iter().all(..)` over the part of the masks the search for a proof gave up.
 fn masks_fit(numbers: &[u32]) -> bool
     requires { length numbers.now ≡ plan_length }
     ensures { result ≡ masks_fit numbers.now }
@@ -25,7 +27,8 @@ fn masks_fit(numbers: &[u32]) -> bool
     true
 }
 
-// The eight colour masks, where they fit.
+// The eight colour masks, where they fit. By index: what masks_fit says of each index is what lets
+// its cast be made, and a `map` would ask it of each item of a list that is made only for it.
 fn take_masks(numbers: &[u32]) -> [u16; DOMAIN_ENTRIES]
     requires { (length numbers.now ≡ plan_length) × (masks_fit numbers.now ≡ true) }
     ensures { result ≡ numbers_from numbers.now masks_offset most_domains }
@@ -68,17 +71,6 @@ pub fn load_plan(numbers: &[u32]) -> Plan
     }
 }
 
-// Writes the eight colour masks, each as wide as the lent numbers.
-fn put_masks(numbers: &mut [u32], masks: &[u16; DOMAIN_ENTRIES])
-    requires { length numbers.old ≡ plan_length }
-    ensures { numbers.new
-        ≡ sets numbers.old masks_offset (numbers_from masks.now 0 most_domains) }
-{
-    for domain in 0..DOMAIN_ENTRIES {
-        numbers[MASKS_OFFSET + domain] = u32::from(masks[domain]);
-    }
-}
-
 // Writes a plan's numbers.
 pub fn store_plan(numbers: &mut [u32], plan: Plan)
     requires { length numbers.old ≡ plan_length }
@@ -92,5 +84,7 @@ pub fn store_plan(numbers: &mut [u32], plan: Plan)
     numbers[RIGHTS_OFFSET..RIGHTS_OFFSET + DOMAIN_ENTRIES].copy_from_slice(&plan.rights);
     numbers[OWNERS_OFFSET..OWNERS_OFFSET + WINDOW_ENTRIES].copy_from_slice(&plan.owners);
     numbers[LENGTHS_OFFSET..LENGTHS_OFFSET + WINDOW_ENTRIES].copy_from_slice(&plan.lengths);
-    put_masks(numbers, &plan.masks);
+    numbers[MASKS_OFFSET..MASKS_OFFSET + DOMAIN_ENTRIES].copy_from_slice(
+        &plan.masks.map(u32::from),
+    );
 }
