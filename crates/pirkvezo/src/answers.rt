@@ -53,8 +53,8 @@ pub fn all_fit(plan: &[u32], state: &[u64], answer: &[u64]) -> bool
     plan.len() == PLAN_LENGTH && state.len() == STATE_LENGTH && answer.len() == ANSWER_LENGTH
 }
 
-// 1 for ended, 0 for stopped: C's number for an ending. No `From`: only the crate of its type, engine,
-// could have it, and what C is told is said here alone.
+// 1 for ended, 0 for stopped: C's number for an ending. No `From`: only engine, the crate of its
+// type, could have it, and what C is told is said here alone.
 pub fn ending_number(ending: Ending) -> u64
     ensures { result ≡ ending_number ending }
 {
