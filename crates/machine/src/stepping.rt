@@ -143,13 +143,10 @@ fn run_window(
     WindowProgress {
         steps,
         turn: Turn {
-            windows: first.windows,
-            owner: first.owner,
-            end: first.end,
-            quota: first.quota,
             clock,
             position: first.position + steps,
             records: first.records + steps,
+            ..first
         },
     }
 }
@@ -194,12 +191,8 @@ fn run_turn(
         steps: ran.steps + 1,
         turn: Turn {
             windows: done.windows + 1,
-            owner: done.owner,
-            end: done.end,
-            quota: done.quota,
             clock,
-            position: done.position,
-            records: done.records,
+            ..done
         },
     }
 }
