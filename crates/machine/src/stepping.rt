@@ -9,7 +9,7 @@ ghost use Rattle.ops.specs.Ops.{boxes_length};
 ghost use Rattle.ops.specs.View.{view_of};
 ghost use Rattle.state.specs.StateValidity.{state_valid};
 ghost use Rattle.machine.specs.Steps.{next_step_of, run_keeping};
-ghost use Rattle.machine.specs.Switch.{is_last, padded_clock, settled_cache, switched_cache};
+ghost use Rattle.machine.specs.Switch.{is_last, padded_clock, switched_cache};
 ghost use Rattle.machine.specs.Switch.{touched_clock};
 ghost use Rattle.machine.specs.View.{InTurn, OpRan, RunsTo, TurnRan, WindowRan, clock_bound};
 ghost use Rattle.machine.specs.View.{ops_allowed, ran_with, turn_after, turn_moved, turned};
@@ -27,18 +27,8 @@ use script::limits::MOST_OPS;
 use script::{Op, fetch};
 use state::State;
 
-// What a switch leaves of the line that it touched: the run's last empties it again.
-fn settle(cache: &mut [u16], last: bool)
-    requires { length cache.old ≡ table_length }
-    ensures { cache.new ≡ settled_cache last cache.old }
-{
-    if last {
-        empty_line(cache, KERNEL_ENTRY_LINE);
-    }
-}
-
 // The switch: the clock raised to the window's end if lower, both flushes, the touch of the return
-// path, and the pad. Answers the clock at the next window's start.
+// path, which the run's last switch empties again, and the pad. Answers the clock at the next window's start.
 fn switch(cache: &mut [u16], clock: u64, end: u64, pad: u64, last: bool) -> u64
     requires { (length cache.old ≡ table_length) × (clock ≤ end + (dearest_op - 1)) × (end ≤ clock_bound) × (pad ≤ most_pad) }
     ensures { (result ≡ padded_clock end pad (touched_clock clock end cache.old))
@@ -48,7 +38,9 @@ fn switch(cache: &mut [u16], clock: u64, end: u64, pad: u64, last: bool) -> u64
     let kernel = flush_kernel(cache);
     let l1 = flush_l1(cache);
     let touch = access(cache, KERNEL_ENTRY_LINE, false);
-    settle(cache, last);
+    if last {
+        empty_line(cache, KERNEL_ENTRY_LINE);
+    }
     (begun + kernel + l1 + touch.ticks).max(end + pad)
 }
 

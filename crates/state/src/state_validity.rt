@@ -50,13 +50,6 @@ pub fn state_valid(plan: Plan, quota: u64, state: State) -> bool
     requires { plan_valid plan ≡ true }
     ensures { result ≡ state_valid plan quota state }
 {
-    if !clock_valid(plan, state) {
-        return false;
-    }
-    for domain in 0..DOMAIN_ENTRIES {
-        if !domain_counts_valid(plan, quota, state, domain) {
-            return false;
-        }
-    }
-    true
+    clock_valid(plan, state)
+        && (0..DOMAIN_ENTRIES).all(|domain| domain_counts_valid(plan, quota, state, domain))
 }
