@@ -29,12 +29,14 @@ fn ending_of(plan: Plan, state: State) -> Ending
 }
 
 // Whose records a run keeps.
-fn keep_of(lent: LentLog) -> Keep
-    ensures { result ≡ keep_of lent }
-{
-    match lent {
-        LentLog::Whole => Keep::Every,
-        LentLog::Part(domain, _) => Keep::One(domain as u64),
+impl From<LentLog> for Keep {
+    ghost from_gives = { λ lent keep. keep ≡ keep_of lent };
+
+    fn from(lent: LentLog) -> Keep {
+        match lent {
+            LentLog::Whole => Keep::Every,
+            LentLog::Part(domain, _) => Keep::One(u64::from(domain)),
+        }
     }
 }
 
@@ -56,7 +58,7 @@ pub fn run_lent(
         (world_with state cache.old boxes.old log.old) limit }
 {
     check_run(lent, plan, scripts, state, cache, boxes, log)?;
-    let keep = keep_of(lent);
+    let keep = Keep::from(lent);
     let quota = quota_of(lent, plan, log.len());
     let advance = run_steps(plan, scripts, keep, quota, limit, state, cache, boxes, log);
     let last = advance.state;

@@ -21,7 +21,7 @@ run_steps-advance-requires c =
       ok.tables.cache_long,
       ok.tables.boxes_long,
       λ domain declared.
-          rw (c.keep_of-keep.ensures, quota)
+          rw (c.from-keep.ensures, quota)
           (places_fit args.lent args.plan _ ok.log_fits_lem domain declared),
     )
 
@@ -38,6 +38,6 @@ returns-in_err-check_run c =
 pub returns : goal.returns
 returns c =
     call_ran _ _ _ _ _ _ _ _ _ _ (sym c.in_ok-check_run.was ∙ c.check_run.ensures)
-    c.keep_of-keep.ensures
+    c.from-keep.ensures
     c.quota_of-quota.ensures
     c.run_steps-advance.ensures c.ending_of.ensures
