@@ -79,7 +79,8 @@ fn is_part(length: usize, records: u64) -> bool
     (bytes / RECORD_SIZE == records) & (bytes % RECORD_SIZE == 0)
 }
 
-// Whether a log has a length that it may have.
+// Whether a log has a length that it may have. This match and the two that follow stand apart, as
+// their definitions do: `lent_log_verdict` asks them at three places.
 fn log_fits(lent: LentLog, length: usize) -> bool
     ensures { result ≡ log_fits lent «length» }
 {

@@ -19,7 +19,8 @@ pub enum Ending {
 
 // The log that a run is lent: a whole one, which is divided among the declared domains, or one
 // domain's part, with the domain and how many records a part holds. Not an Option: a None would have
-// to stand for the whole log.
+// to stand for the whole log. Nor one type with `Keep`: `run_keeping` takes the quota beside a Keep,
+// which holds for every domain.
 #[derive(Clone, Copy)]
 pub enum LentLog {
     Whole,
@@ -36,7 +37,7 @@ pub struct Progress {
 }
 
 // What a single step that was not refused answers, beside the state, the cache table, the boxes and
-// the log.
+// the log. A struct of its own: one generic over the state would hold `()` for it here.
 #[derive(Drop)]
 pub struct Answer {
     // the number of steps done

@@ -30,7 +30,8 @@ pub struct WindowProgress {
     pub turn: Turn,
 }
 
-// What n steps answer, beside the cache table, the boxes and the log.
+// What n steps answer, beside the cache table, the boxes and the log. A struct of its own: one
+// generic over what it holds would call a turn and a state by one name.
 #[derive(Clone, Copy)]
 pub struct Advance {
     // the number of steps done

@@ -11,7 +11,7 @@ ghost use Rattle.script.specs.Limits.{OpWithinLimits};
 ghost use Rattle.cache.specs.Access.{access_of};
 ghost use Rattle.cache.specs.Lines.{most_line, set_count, table_length};
 ghost use Rattle.ops.specs.Ops.{access_observation, box_index, boxes_length, box_observation};
-ghost use Rattle.ops.specs.Ops.{effect_of, first_box_line, kernel_entry_line};
+ghost use Rattle.ops.specs.Ops.{effect_of, first_box_line};
 ghost use Rattle.ops.specs.Ops.{owns_line, receive_of, send_of, touch_of};
 ghost use Rattle.ops.specs.View.{effect_with};
 
@@ -98,18 +98,8 @@ fn box_index(sender: usize, recipient: usize) -> usize
     DOMAIN_ENTRIES * sender + recipient
 }
 
-// How every send and receive begins, whatever its rights: the kernel's entry line is read.
-fn enter_kernel(cache: &mut [u16]) -> AccessResult
-    requires { length cache.old ≡ table_length }
-    ensures { (result.found ≡ (access_of false kernel_entry_line cache.old).found)
-        × (result.ticks ≡ (access_of false kernel_entry_line cache.old).ticks)
-        × (result.back ≡ (access_of false kernel_entry_line cache.old).back)
-        × (cache.new ≡ (access_of false kernel_entry_line cache.old).table) }
-{
-    access(cache, KERNEL_ENTRY_LINE, false)
-}
-
-// How a send or a receive reaches a box that it has the right to: the box's line is written.
+// How a send or a receive reaches a box that it has the right to: the box's line, which is worked
+// out here alone, is written.
 fn reach_box(index: usize, cache: &mut [u16]) -> AccessResult
     requires { (index < boxes_length) × (length cache.old ≡ table_length) }
     ensures { (result.found ≡ (access_of true (first_box_line + set_count * index) cache.old).found)
@@ -122,7 +112,8 @@ fn reach_box(index: usize, cache: &mut [u16]) -> AccessResult
     access(cache, line as u16, true)
 }
 
-// A send of a word to a recipient.
+// A send of a word to a recipient. It begins as every message does, whatever its rights: the
+// kernel's entry line is read.
 fn send(
     rights: &[u32; DOMAIN_ENTRIES],
     sender: usize,
@@ -140,7 +131,7 @@ fn send(
         → effect_with result cache.new boxes.new
         ≡ send_of plan sender recipient word cache.old boxes.old }
 {
-    let entered = enter_kernel(cache);
+    let entered = access(cache, KERNEL_ENTRY_LINE, false);
     let first = entered.back;
     if !has_bit(rights[sender], recipient as u32) {
         return OpResult {
@@ -173,7 +164,8 @@ fn box_observation(sender: u8, number: u32) -> Observation
     }
 }
 
-// A receive from a sender.
+// A receive from a sender. It stands apart from `send`: the sender's right is asked, and not the
+// running domain's, and the box is read before it is emptied, only where that right is there.
 fn receive(
     rights: &[u32; DOMAIN_ENTRIES],
     receiver: usize,
@@ -191,7 +183,7 @@ fn receive(
         ≡ receive_of plan receiver sender cache.old boxes.old }
 {
     let from = sender as usize;
-    let entered = enter_kernel(cache);
+    let entered = access(cache, KERNEL_ENTRY_LINE, false);
     let first = entered.back;
     if !has_bit(rights[from], receiver as u32) {
         return OpResult {

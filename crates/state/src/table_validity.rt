@@ -26,7 +26,7 @@ use script::limits::MOST_WORD;
 // divides the number of sets, so that no block reaches past the last.
 const SETS_PER_BLOCK: usize = 8;
 
-// An L1 number without its dirty mark.
+// An L1 number without its dirty mark. No `saturating_sub`: a number below the mark stays as it is.
 fn without_mark(entry: u16) -> u16
     ensures { result ≡ unmarked entry }
 {
@@ -44,7 +44,8 @@ fn is_line(entry: u16) -> bool
     (1 <= entry) & (entry <= MOST_LINE + 1)
 }
 
-// Whether an L1 number is valid, by whether the run has ended and by the running domain's mask.
+// Whether an L1 number is valid, by whether the run has ended and by the running domain's mask. The
+// mask is no Option: the definition `l1_entry_valid` asks for both, of an ended run too.
 fn l1_entry_valid(cache: &[u16], index: usize, ended: bool, mask: u16) -> bool
     requires { index < length cache.now }
     ensures { (plan : Plan) (state : State)
@@ -96,7 +97,8 @@ fn way_valid(ways: &[u16], way: usize, set: usize) -> bool
     ((entry - 1) as usize % SET_COUNT == set) & !repeated
 }
 
-// Whether the ways of a set, of any number, are valid.
+// Whether the ways of a set, of any number, are valid. No iterator: a way is looked at beside all
+// that stand behind it.
 fn ways_valid(ways: &[u16], set: usize) -> bool
     ensures { result ≡ ways_valid set ways.now }
 {

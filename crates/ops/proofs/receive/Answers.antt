@@ -8,13 +8,13 @@ use Rattle.ops.proofs.receive.Goals as goal
 
 pub overflow_add-result : goal.overflow_add-result
 overflow_add-result c =
-    let enter = c.enter_kernel-entered in
+    let enter = c.access-entered in
     omega (arith, answered_ticks false kernel_entry_line _ _ enter.ensures.1)
 
 pub returns-then-not-has_bit : goal.returns-then-not-has_bit
 unfolding receive_by
 returns-then-not-has_bit c =
-    let enter = c.enter_kernel-entered in
+    let enter = c.access-entered in
     λ plan handed.
     message_denied _ _ _ _ _ _ _ _ _ handed _ _ _ enter.ensures.1 enter.ensures.2 enter.ensures.3
     (sym c.has_bit.ensures ∙ c.if-not-has_bit.true)
@@ -22,13 +22,13 @@ returns-then-not-has_bit c =
 pub overflow_add-result-2 : goal.overflow_add-result-2
 overflow_add-result-2 c =
     let right = c in
-    let enter = right.enter_kernel-entered in
+    let enter = right.access-entered in
     omega (arith, answered_ticks false kernel_entry_line _ _ enter.ensures.1)
 
 pub overflow_add-result-3 : goal.overflow_add-result-3
 overflow_add-result-3 c =
     let right = c in
-    let enter = right.enter_kernel-entered in
+    let enter = right.access-entered in
     let reach = c.reach_box-reached in
     omega (arith, message_ticks_lem _ _ _ _ _ enter.ensures.1 reach.ensures.1)
 
@@ -38,7 +38,7 @@ returns c =
     let reach = c.reach_box-reached in
     let index = c.box_index-index in
     let right = c in
-    let enter = right.enter_kernel-entered in
+    let enter = right.access-entered in
     λ plan handed.
     rw (← index.ensures, ← c.box_observation.ensures)
     (message_passed _ _ _ _ _ _ _ _ _ handed _ _ _ enter.ensures.1 enter.ensures.2 enter.ensures.3 _ _ _ _
