@@ -75,12 +75,7 @@ fn l1_valid(cache: &[u16], ended: bool, mask: u16) -> bool
         → mask_at plan (running_of plan state) ≡ mask
         → result ≡ all_below (l1_entry_valid plan state cache.now) l1_length }
 {
-    for index in 0..L1_LENGTH {
-        if !l1_entry_valid(cache, index, ended, mask) {
-            return false;
-        }
-    }
-    true
+    (0..L1_LENGTH).all(|index| l1_entry_valid(cache, index, ended, mask))
 }
 
 // Whether a full way of a set is a line of this set that no way behind it repeats.
@@ -187,15 +182,7 @@ fn boxes_valid(rights: &[u32; DOMAIN_ENTRIES], boxes: &[u32]) -> bool
     let no_word = boxes
         .iter()
         .fold(true, |none, &number| none & (number == 0));
-    if no_word {
-        return true;
-    }
-    for index in 0..BOXES_LENGTH {
-        if !box_valid(rights, boxes, index) {
-            return false;
-        }
-    }
-    true
+    no_word || (0..BOXES_LENGTH).all(|index| box_valid(rights, boxes, index))
 }
 
 // Whether a lent cache table and lent boxes are valid beside a state.

@@ -1,12 +1,14 @@
--- `state::table_validity::boxes_valid` meets its contract. The loop's invariant: the boxes passed
--- are sound. Assumes nothing.
+-- `state::table_validity::boxes_valid` meets its contract. Assumes nothing.
 use mathlib.Core.Path.{◌∙◌, ◌≡◌, ap, refl, sym}
-use native.Mathlib.Omega.{arith}
-use Rattle.ops.specs.Ops.{boxes_length}
-use Rattle.plan.proofs.Sums.{all_below_fails, all_below_more}
-use Rattle.plan.specs.Sums.{all_below}
+use borrow.Author.Tests.{tests}
 use Rattle.std.proofs.Common.{rules}
-use Rattle.state.specs.TableValidity.{all_empty}
+use Rattle.std.specs.List.{list_all, range_with_len}
+use Rattle.std.proofs.lemmas.Iterator.{YieldsList-from_range}
+use Rattle.std.proofs.lemmas.Iterator.Search.{all_from_yields_List}
+use Rattle.ops.specs.Ops.{boxes_length}
+use Rattle.plan.proofs.Sums.{all_entries}
+use Rattle.plan.specs.Sums.{all_below}
+use Rattle.state.specs.TableValidity.{all_empty, box_valid}
 use Rattle.state.proofs.Empties.{empty_boxes_lem, fold_empty}
 use Rattle.state.proofs.table_validity.boxes_valid.Goals as goal
 
@@ -15,30 +17,15 @@ returns-then-no_word c =
     let seen =
     fold_empty _ _ c.iter.result _ (λ none number more f' called. search rules) c.fold-no_word.ensures.ran in
     let empty = ap all_empty (sym c.iter.ensures.rest) ∙ sym seen ∙ c.if-no_word.true in
-    λ plan rights. sym (empty_boxes_lem plan _ boxes_length empty)
+    λ plan rights. c.if-no_word.true ∙ sym (empty_boxes_lem plan _ boxes_length empty)
 
-pub loop-index-init : goal.loop-index-init
+pub returns-else-no_word : goal.returns-else-no_word
 unfolding all_below
-loop-index-init c = (omega arith, λ plan rights. refl)
-
-pub returns-then-not-box_valid : goal.returns-then-not-box_valid
-returns-then-not-box_valid c =
+returns-else-no_word c =
     λ plan rights.
-    let fails = sym (c.box_valid.ensures plan rights) ∙ c.if-not-box_valid.true in
-    all_below_fails _ boxes_length c.loop-index.index
-    c.loop-index-test.true fails
-
-pub loop-index-preserved : goal.loop-index-preserved
-loop-index-preserved c =
-    let loop = c.loop-index in (
-      omega (arith, c.loop-index-test),
-      λ plan rights.
-          let passes = sym (c.box_valid.ensures plan rights)
-          ∙ c.if-not-box_valid.false in
-          all_below_more _ loop.index (loop.invariant.1 plan rights) passes,
-    )
-
-pub returns : goal.returns
-returns c =
-    let ended : c.loop-index.index ≡ boxes_length = omega arith in
-    λ plan rights. sym (c.loop-index.invariant.1 plan rights) ∙ ap (all_below _) ended
+    let test = box_valid plan c.args.boxes.now in
+    let indices = range_with_len 0 boxes_length in
+    let all : c.all.result ≡ list_all test indices =
+    all_from_yields_List test _ _ c.all.result c.all.ensures.ran (YieldsList-from_range 0 boxes_length boxes_length refl refl)
+    (λ index valid after call. search (rules, tests, rights)) in
+    all ∙ all_entries test indices boxes_length refl
