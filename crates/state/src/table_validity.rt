@@ -120,7 +120,8 @@ fn set_valid(cache: &[u16], set: usize) -> bool
 
 // Whether the sets of a block are valid: `count` sets from `first` on. Most blocks hold no line:
 // that is seen at once, before the sets are walked. All numbers are looked at, with no way out
-// before the last, so that the compiler can look at several at once.
+// before the last, so that the compiler can look at several at once. The walk is no `all`: its proof
+// did not close, since `count` is no number that all_below computes with.
 fn block_valid(cache: &[u16], first: usize, count: usize) -> bool
     requires { (length cache.now ≡ table_length) × (first + count ≤ set_count) }
     ensures { result ≡ all_below (λ k. set_valid cache.now (first + k)) count }
@@ -141,7 +142,8 @@ fn block_valid(cache: &[u16], first: usize, count: usize) -> bool
     true
 }
 
-// Whether every set is valid, block by block.
+// Whether every set is valid, block by block. A `for`: its proof goes by whole blocks, while an `all`
+// would tell of their first sets alone.
 fn sets_valid(cache: &[u16]) -> bool
     requires { length cache.now ≡ table_length }
     ensures { result ≡ all_below (set_valid cache.now) set_count }
