@@ -1,5 +1,6 @@
 // The five forms of a line, past the word that opens each: what the form says, or the refusal with
-// its offset.
+// its offset. The parameters of a function are those of the definition in specs/Forms that its contract
+// names, and so are two where a struct could hold them.
 #![tactic(auto)]
 
 pub mod domains;
@@ -48,6 +49,7 @@ pub enum Form {
 #[derive(Clone, Copy)]
 pub struct DomainParse {
     pub parse: Result<(Form, usize), Refusal>,
-    // where the text up to there first names each domain as a recipient, plus one; else 0
+    // where the text up to there first names each domain as a recipient, plus one; else 0. No
+    // `Option`: the definition `mention` (syntax) has them as numbers.
     pub named: [usize; 8],
 }

@@ -1,5 +1,6 @@
 // Words and decimal numbers, written into a lent buffer from an offset on. What lies past the
-// buffer's end is left out.
+// buffer's end is left out: so a buffer and an offset are handed on, and no slice of the rest, and each
+// function asks that its own end stays below 2 ^ 64.
 ghost use Rattle.std.specs.Prelude.{◌++◌, ◌≡◌, ◌+◌, ◌^◌, ◌<◌, length, set};
 ghost use Rattle.lexer.specs.Decimal.{decimal_of};
 ghost use Rattle.lexer.specs.Limits.{widest_digits};
@@ -29,7 +30,8 @@ pub fn write_bytes(out: &mut [u8], at: usize, bytes: &[u8]) -> usize
     at + bytes.len()
 }
 
-// Writes a number in decimal, with no leading zero.
+// Writes a number in decimal, with no leading zero. By hand: `to_string` takes a heap, and `write!`
+// a type of its own that writes into the buffer.
 pub fn write_decimal(out: &mut [u8], at: usize, number: u64) -> usize
     requires { at + widest_digits < 2 ^ 64 }
     ensures { Wrote out.old at (decimal_of number) out.new result }

@@ -79,23 +79,13 @@ fn lookahead_from(text: &[u8], start: usize) -> Lookahead
     Lookahead::LineEnd(start)
 }
 
-// What stands next in the line from `at` on: spaces are passed over.
-#[tactic(auto, unfolding(crate::specs::Lookaheads::lookahead_at))]
-fn find_lookahead(text: &[u8], at: usize) -> Lookahead
-    ensures { result ≡ lookahead_at text.now at }
-{
-    lookahead_from(text, skip_spaces(text, at))
-}
-
 // The offset of the first byte of what stands next, or of the line's end.
 pub fn lookahead_start(next: Lookahead) -> usize
     ensures { result ≡ lookahead_start next }
 {
     match next {
-        Lookahead::LineEnd(at)
-        | Lookahead::Open(at)
-        | Lookahead::Close(at)
-        | Lookahead::Run(at) => at,
+        Lookahead::LineEnd(at) | Lookahead::Open(at) | Lookahead::Close(at) | Lookahead::Run(at) =>
+            at,
     }
 }
 
@@ -108,18 +98,21 @@ pub struct Reader<'a> {
 
 impl<'a> Reader<'a> {
     // Hands out what stands next, and moves to its first byte: the offset that a refusal names.
+    // Spaces are passed over.
+    #[tactic(auto, unfolding(crate::specs::Lookaheads::lookahead_at))]
     pub fn next(&mut self) -> Lookahead
         ensures { (result ≡ lookahead_at self.old.text.now self.old.at)
             × (self.new.text ≡ self.old.text)
             × (self.new.at ≡ lookahead_start result) }
     {
-        let next = find_lookahead(self.text, self.at);
+        let next = lookahead_from(self.text, skip_spaces(self.text, self.at));
         self.at = lookahead_start(next);
         next
     }
 }
 
-// What a reader at `at` hands out next.
+// What a reader at `at` hands out next. Here and above a text and an offset are two parameters, not a
+// `Reader`: the definitions of tokens (specs/) have them so, and a refusal needs the offset by itself.
 pub fn lookahead_at(text: &[u8], at: usize) -> Lookahead
     ensures { result ≡ lookahead_at text.now at }
 {

@@ -10,7 +10,8 @@ use crate::Token;
 use crate::limits::MOST_DIGITS;
 use crate::scan::{digits_end, letters_end, run_ends};
 
-// The number that a run of digits writes.
+// The number that a run of digits writes. By hand: `parse` takes a `str`, and what it would refuse
+// cannot be here.
 fn decimal_value(digits: &[u8]) -> u64
     requires { (length digits.now ≤ most_digits) × (all_bytes is_digit digits.now ≡ true) }
     ensures { result ≡ decimal_value digits.now }

@@ -1,6 +1,7 @@
 // One line of a plan text: its opening bracket, the form that its word opens, its closing bracket
 // and its end; or the refusal with its offset. The beginning of a line is read first, so that an op
-// line, of which a long text has the most, is read without what the other lines carry.
+// line, of which a long text has the most, is read without what the other lines carry. The parameters
+// of a function are those of the definition in specs/ that its contract names.
 #![tactic(auto)]
 
 ghost use Rattle.std.specs.Prelude.{List, ◌≡◌, ℕ, ◌+◌, ◌^◌, ◌<◌};
@@ -24,7 +25,8 @@ pub struct Line {
     pub form: Result<Form, Refusal>,
     pub bracket: usize,
     pub end: usize,
-    // where the text up to there first names each domain as a recipient, plus one; else 0
+    // where the text up to there first names each domain as a recipient, plus one; else 0. No
+    // `Option`: the definition `mention` (syntax) has them as numbers.
     pub named: [usize; 8],
 }
 
@@ -44,7 +46,8 @@ pub enum PlainHead {
     Blank(usize),
     // no form is opened: the offset of the line's first token, and the refusal
     Refused { bracket: usize, refusal: Refusal },
-    // the offset of the opening bracket, and that past the word
+    // the offset of the opening bracket, and that past the word. Not one case with a `FormWord`: that
+    // can be `Op` too, which opens no plain line.
     Pad { bracket: usize, inside: usize },
     Run { bracket: usize, inside: usize },
     Domain { bracket: usize, inside: usize },

@@ -30,8 +30,8 @@ use Rattle.reader.proofs.GoodDraft.{GoodDraft, GoodOutcome, draft_first, line_ta
 use Rattle.reader.specs.declared.Draft.{Draft}
 use Rattle.reader.specs.declared.DraftResult.{DraftResult}
 use Rattle.reader.specs.Draft.{DraftOutcome, no_draft, no_ops, outcome_of, take_form, take_line, taken}
-use Rattle.reader.specs.DraftParts.{TakenOp, draft_with, form_verdict, outcome_with}
-use Rattle.reader.specs.DraftParts.{passed_verdict, plan_with_form}
+use Rattle.reader.specs.DraftParts.{TakenOp, draft_with, outcome_with}
+use Rattle.reader.specs.DraftParts.{passed_verdict}
 use Rattle.reader.specs.Read.{draft_line, lines_of, walk_from}
 use Rattle.refusal.specs.Verdict.{Verdict}
 use Rattle.reader.proofs.DraftParts.{line_verdict, plan_with_line}

@@ -6,8 +6,6 @@ use mathlib.Core.Path.{◌≡◌, refl, sym, subst, ap, ◌∙◌}
 use lib.ListN.{length}
 use borrow.Author.Tests.{eq-eqb, le-ltb, lt-ltb, ne_eqb}
 use Rattle.plan.specs.Limits.{most_text_bytes}
-use Rattle.plan.specs.Zeros.{no_plan}
-use Rattle.plan.specs.declared.Plan.{Plan}
 use Rattle.refusal.specs.Checks.{and_then}
 use Rattle.refusal.specs.declared.Refusal.{Refusal}
 use Rattle.refusal.specs.declared.Refusal.TheVariants.{TextTooLong, WrongLength}

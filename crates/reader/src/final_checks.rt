@@ -19,7 +19,8 @@ fn is_lacking(plan: Plan) -> bool
     (plan.pad == 0) | (plan.domains == 0) | (plan.windows == 0) | (plan.run == 0)
 }
 
-// The earlier of two offsets, each plus one, or 0 for none.
+// The earlier of two offsets, each plus one, or 0 for none: the definition of the name has numbers, no
+// `Option`.
 fn earlier_kept(a: usize, b: usize) -> usize
     ensures { result ≡ earlier_kept a b }
 {
@@ -29,7 +30,7 @@ fn earlier_kept(a: usize, b: usize) -> usize
     if b == 0 {
         return a;
     }
-    if a <= b { a } else { b }
+    a.min(b)
 }
 
 // Whether some list names a domain that is not declared: where the text does so first.
@@ -37,6 +38,7 @@ fn may_verdict(named: [usize; DOMAIN_ENTRIES], declared: u32) -> Result<(), Refu
     ensures { result ≡ may_verdict (undeclared_mentions named declared) }
 {
     let mut found: usize = 0;
+    // A range, and no slice of `named`: nothing says here that `declared` is at most its length.
     for domain in declared as usize..DOMAIN_ENTRIES {
         found = earlier_kept(found, named[domain]);
     }

@@ -1,4 +1,5 @@
-// The plan reader: from a text to a plan and the scripts, or a refusal with its offset.
+// The plan reader: from a text to a plan and the scripts, or a refusal with its offset. What functions
+// here ask of a plan or a length is a definition of the lower crates (`SharesBounded`), or one line.
 #![tactic(auto)]
 
 mod drafting;
@@ -13,9 +14,10 @@ use plan::Plan;
 use plan::limits::{DOMAIN_ENTRIES, MOST_TEXT_BYTES};
 use refusal::Refusal;
 use script::limits::SCRIPTS_LENGTH;
-use walk::{hand_over, walk};
+use walk::walk;
 
-// What the lines read so far have given, beside the script store.
+// What the lines read so far have given, beside the script store. Its numbers, with 0 for none, and
+// arrays beside the store are those of the definition `no_draft` (specs/Draft): no heap, fixed memory.
 #[derive(Clone, Copy)]
 pub struct Draft {
     // masks stay 0 until the whole text is read; a pad or a run of 0 stands for none yet
@@ -50,6 +52,6 @@ pub fn read_plan(text: &[u8], scripts: &mut [u32]) -> Result<Plan, Refusal>
     walked.verdict?;
     let draft = walked.draft;
     final_verdict(text.len(), draft)?;
-    hand_over(&store, scripts);
+    scripts.copy_from_slice(&store);
     Ok(plan_with_masks(draft.plan))
 }

@@ -3,7 +3,6 @@
 ghost use Rattle.std.specs.Prelude.{List, ◌≡◌, ℕ, ◌≤◌, length};
 ghost use Rattle.line.specs.Heads.{op_line_of};
 ghost use Rattle.plan.specs.Limits.{most_domains};
-ghost use Rattle.script.specs.Limits.{scripts_length};
 ghost use Rattle.reader.specs.Draft.{no_draft, outcome_of};
 ghost use Rattle.reader.specs.DraftParts.{TakenOp, draft_with, outcome_with};
 ghost use Rattle.reader.specs.Read.{walk_from};
@@ -96,12 +95,4 @@ pub fn walk(text: &[u8], store: &mut [u32; SCRIPTS_LENGTH]) -> DraftResult
         at = line.end + 1;
     }
     draft_result(Ok(()), plan, counts, named)
-}
-
-// A store's numbers are handed over, all of them.
-pub fn hand_over(store: &[u32; SCRIPTS_LENGTH], scripts: &mut [u32])
-    requires { (length store.now ≡ scripts_length) × (length scripts.old ≡ scripts_length) }
-    ensures { scripts.new ≡ store.now }
-{
-    scripts.copy_from_slice(store);
 }

@@ -1,5 +1,5 @@
 -- What a part of the store holds past its ops, by how many ops it has. Assumes nothing.
-use Prim.Native.Nat.{ℕ, zero, suc, ◌+◌, ◌*◌, ◌<◌, ◌≤◌}
+use Prim.Native.Nat.{ℕ, zero, suc, ◌+◌, ◌<◌, ◌≤◌}
 use native.Mathlib.Numerals.{add-one}
 use native.Mathlib.Omega.{arith}
 use mathlib.Core.Bool.{Bool, ◌&&◌, ◌||◌}
@@ -8,22 +8,19 @@ use mathlib.Core.Path.{◌≡◌, ap, ap₂, refl, sym, ◌∙◌}
 use borrow.Author.Tests.{le-ltb, lt-ltb}
 use lib.Dec.{eqb, ltb}
 use lib.ListN.{drop, get_or, length, length-drop, take}
-use Rattle.std.specs.List.{list_all}
+use Rattle.std.specs.List.{list_all, range_with_len}
 use Rattle.std.proofs.lemmas.List.{get_or-drop}
 use Rattle.std.proofs.lemmas.List.Folds.{list_all_more}
 use Rattle.plan.proofs.Sums.{below_all}
+use Rattle.plan.specs.Limits.{most_domains}
 use Rattle.plan.specs.Sums.{all_below}
-use Rattle.script.specs.Limits.{most_ops}
-use Rattle.writer.specs.Scripts.{op_or_zero, written_ops}
 
-pub part_test :
-    (declared : ℕ) (scripts : List ℕ) (domain ops : ℕ)
-    → ops ≡ written_ops declared scripts domain
-    → all_below (λ position. ltb position ops || eqb (get_or scripts (most_ops * domain + position) 0) 0) most_ops
-    ≡ all_below (op_or_zero declared scripts domain) most_ops
-unfolding op_or_zero
-part_test declared scripts domain ops are =
-    ap (λ (count : ℕ). all_below (λ position. ltb position count || eqb (get_or scripts (most_ops * domain + position) 0) 0) most_ops) are
+-- a test of each domain, by the range of their numbers
+pub each_entry :
+    (test : ℕ → Bool)
+    → all_below (λ index. test (get_or (range_with_len 0 most_domains) index 0)) most_domains ≡ all_below test most_domains
+unfolding all_below
+each_entry test = refl
 
 -- the numbers past the first ones of a part are 0 where each position holds one of those or 0
 pub rest_zero :

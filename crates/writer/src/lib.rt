@@ -1,11 +1,14 @@
-// The plan writer: a plan and its scripts as a text in the single form, or a refusal.
+// The plan writer: a plan and its scripts as a text in the single form, or a refusal. A buffer and an
+// offset are handed on, and no slice of the rest: what lies past the buffer's end is left out, and the
+// end that is answered may lie past it. What functions ask of it, of a plan and of the store are single
+// facts, each with other numbers.
 #![tactic(auto)]
 
 mod lines;
 mod store;
 mod text;
 
-ghost use Rattle.std.specs.Prelude.{◌++◌, ◌≡◌, ◌≤◌, drop, length, take};
+ghost use Rattle.std.specs.Prelude.{◌≡◌};
 ghost use Rattle.writer.specs.Write.{write_of, write_result};
 
 use plan::Plan;
@@ -16,17 +19,9 @@ use script::limits::SCRIPTS_LENGTH;
 use store::ops_alone;
 use text::write_text;
 
-// The first bytes of a text are handed over to a buffer that has room for them.
-fn hand_over(text: &[u8], count: usize, out: &mut [u8])
-    requires { (count ≤ length text.now) × (count ≤ length out.old) }
-    ensures { out.new ≡ take count text.now ++ drop count out.old }
-{
-    out[..count].copy_from_slice(&text[..count]);
-}
-
 // A plan and its scripts are written in the single form, or refused; how many bytes were written. The
-// text is made in a buffer of its own, so that the one lent is written only once every check has
-// passed.
+// text is made in a buffer of its own, of fixed length as there is no heap, so that the one lent is
+// written only once every check has passed.
 pub fn write_plan(plan: Plan, scripts: &[u32], out: &mut [u8]) -> Result<usize, Refusal>
     ensures { write_result result out.new ≡ write_of plan scripts.now out.old }
 {
@@ -47,6 +42,6 @@ pub fn write_plan(plan: Plan, scripts: &[u32], out: &mut [u8]) -> Result<usize, 
     if out.len() < needed {
         return Err(Refusal::BufferTooShort(needed));
     }
-    hand_over(&text, needed, out);
+    out[..needed].copy_from_slice(&text[..needed]);
     Ok(needed)
 }

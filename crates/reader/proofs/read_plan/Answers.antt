@@ -1,5 +1,5 @@
 -- `reader::read_plan` meets its contract. Assumes nothing.
-use mathlib.Core.Path.{refl, sym, ◌∙◌}
+use mathlib.Core.Path.{sym, ◌∙◌}
 use Rattle.plan.specs.Bounds.{SharesBounded, TicksBounded}
 use Rattle.reader.specs.Draft.{no_ops}
 use Rattle.std.proofs.lemmas.Result.{err_from_is_err_and}
@@ -56,7 +56,7 @@ plan_with_masks-requires c =
 pub returns : goal.returns
 unfolding no_ops
 returns c =
-    rw (c.plan_with_masks.ensures, c.hand_over.ensures)
+    rw (c.plan_with_masks.ensures, c.copy_from_slice.ensures.after)
     (read_accepted c.args.text.now c.args.scripts.now c.if-scripts-ne-SCRIPTS_LENGTH.false c.if-text-gt-MOST_TEXT_BYTES.false
     c.walk-walked.result _ c.walk-walked.ensures c.in_ok-walked.was
     _ c.final_verdict.ensures c.in_ok-final_verdict.was)

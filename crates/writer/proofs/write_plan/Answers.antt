@@ -50,17 +50,13 @@ returns-then-out-needed c =
     ∙ too_short args.plan args.scripts.now args.out.now c.if-scripts-ne-SCRIPTS_LENGTH.false possible alone
     (omega (arith, c.if-needed-gt-MOST_TEXT_BYTES.false, is)) (omega (arith, c.if-out-needed.true, is))
 
-pub hand_over-requires : goal.hand_over-requires
-hand_over-requires c =
-    (omega (arith, c.if-needed-gt-MOST_TEXT_BYTES.false, c.write_text-needed.ensures), c.if-out-needed.false)
-
 pub returns : goal.returns
 returns c =
     let args = c.args in
     let possible = sym c.is_valid.ensures ∙ c.if-not-is_valid.false in
     let alone = sym c.ops_alone.ensures ∙ c.if-not-ops_alone.false in
     let is : c.write_text-needed.result ≡ length (canonical_text args.plan args.scripts.now) = c.write_text-needed.ensures.0 ∙ zero-add _ in
-    rw c.hand_over.ensures
+    rw c.copy_from_slice.ensures.after
     (handed args.plan args.scripts.now args.out.now c.if-scripts-ne-SCRIPTS_LENGTH.false possible alone
     (omega (arith, c.if-needed-gt-MOST_TEXT_BYTES.false, is)) (replicate most_text_bytes 0) c.write_text-needed.ensures
     (length-replicate {A = ℕ} most_text_bytes 0) c.if-out-needed.false)
