@@ -1,13 +1,12 @@
 -- How large the parts of a bound can be, and the bound. Assumes nothing.
-use Prim.Native.Nat.{ℕ, ◌+◌, ◌*◌, ◌≤◌}
+use Prim.Native.Nat.{ℕ, ◌*◌, ◌≤◌}
 use mathlib.Core.List.{List}
-use mathlib.Core.Path.{◌≡◌}
 use native.Mathlib.Nat.{mul-le-mul}
 use native.Mathlib.Omega.{arith}
 use Rattle.plan.specs.Limits.{most_domains, most_run, most_windows}
 use Rattle.plan.specs.Sums.{sum_to}
 use Rattle.plan.specs.Windows.{windows_total}
-use Rattle.plan.proofs.Sums.{sum_more, sum_most}
+use Rattle.plan.proofs.Sums.{sum_most}
 use Rattle.plan.proofs.ValidPlans.{counts}
 use Rattle.script.specs.Limits.{most_ops}
 use Rattle.script.specs.ScriptEnd.{stored_ops}
@@ -16,21 +15,8 @@ use Rattle.bound.specs.Bound.{ops_stored, step_bound}
 use Rattle.bound.specs.Theorems.{BoundsBounded}
 
 -- the scripts of the first domains have at most 256 ops each
-ops_most : (scripts : List ℕ) (domains : ℕ) → sum_to (stored_ops scripts) domains ≤ most_ops * domains
+pub ops_most : (scripts : List ℕ) (domains : ℕ) → sum_to (stored_ops scripts) domains ≤ most_ops * domains
 ops_most scripts domains = sum_most (stored_ops scripts) most_ops domains (λ domain below. (ends_at scripts domain).within)
-
--- the ops of one script more
-pub record OneMore (scripts : List ℕ) (domain total : ℕ) : Type 0 where
-  pub is : total ≡ sum_to (stored_ops scripts) (domain + 1)
-  pub most : total ≤ most_ops * (domain + 1)
-
-pub one_more_lem : (scripts : List ℕ) (domain total here : ℕ)
-    → total ≡ sum_to (stored_ops scripts) domain
-    → here ≡ stored_ops scripts domain
-    → OneMore scripts domain (total + here)
-one_more_lem scripts domain total here so_far is =
-    let sum : total + here ≡ sum_to (stored_ops scripts) (domain + 1) = rw is (sum_more (stored_ops scripts) total domain so_far) in
-    record { is = sum; most = rw sum (ops_most scripts (domain + 1)) }
 
 -- a valid plan has at most 32 windows 1,000 times
 pub bounded : BoundsBounded

@@ -14,16 +14,13 @@ use script::limits::SCRIPTS_LENGTH;
 use script::stored_ops;
 
 // The ops stored in all scripts together.
-#[tactic(auto, unfolding(plan::specs::Sums::sum_to, crate::specs::Bound::ops_stored))]
 fn ops_stored(scripts: &[u32]) -> u64
     requires { length scripts.now ≡ scripts_length }
     ensures { result ≡ ops_stored scripts.now }
 {
-    let mut total: u64 = 0;
-    for domain in 0..DOMAIN_ENTRIES {
-        total += stored_ops(scripts, domain);
-    }
-    total
+    (0..DOMAIN_ENTRIES)
+        .map(|domain| stored_ops(scripts, domain))
+        .sum()
 }
 
 // The bound of a plan and a script store: 11, then 12, then the steps of both kinds.

@@ -10,7 +10,7 @@ use lib.ListN.{get_or}
 use borrow.Author.Tests.{lt-ltb}
 use Rattle.plan.specs.Limits.{most_domains}
 use Rattle.plan.specs.Sums.{sum_to}
-use Rattle.plan.proofs.Sums.{last-or-earlier, sum_mono, sum_more, sum_most, sum_same, sum_under}
+use Rattle.plan.proofs.Sums.{last-or-earlier, sum_mono, sum_most, sum_same, sum_under}
 use Rattle.frame.specs.Quotas.{count_below}
 
 -- ---- sums
@@ -25,14 +25,6 @@ term_most f (suc count) index below =
 
 -- ---- counting
 
--- one index more
-pub count_next : (test : ℕ → Bool) (total count here : ℕ)
-    → total ≡ count_below test count
-    → here ≡ cond (test count) 1 0
-    → total + here ≡ count_below test (count + 1)
-unfolding count_below
-count_next test total count here so_far is = rw is (sum_more _ total count so_far)
-
 -- at most every index
 pub count_most : (test : ℕ → Bool) (count : ℕ) → count_below test count ≤ count
 unfolding count_below
@@ -42,14 +34,6 @@ count_most test count =
     one_at_most : (b : Bool) → cond b 1 0 ≤ 1
     one_at_most true = omega arith
     one_at_most false = omega arith
-
--- and so with one index more
-pub count_fits : (test : ℕ → Bool) (total count here : ℕ)
-    → total ≡ count_below test count
-    → here ≡ cond (test count) 1 0
-    → total + here ≤ count + 1
-count_fits test total count here so_far is =
-    rw (count_next test total count here so_far is) (count_most test (count + 1))
 
 -- over more indices no fewer
 pub count_mono :

@@ -8,7 +8,8 @@ ghost use Rattle.frame.specs.Quotas.{total_weight, whole_part, window_count};
 
 use plan::limits::DOMAIN_ENTRIES;
 
-// Each domain's quota, as its whole part and its remainder.
+// Each domain's quota, as its whole part and its remainder: two arrays, for each is read on its own,
+// the wholes for their sum.
 #[derive(Drop)]
 struct Quotas {
     wholes: [u32; DOMAIN_ENTRIES],
@@ -50,13 +51,13 @@ fn leftover_of(count: u32, wholes: [u32; DOMAIN_ENTRIES]) -> u32
     count - given
 }
 
-// Whether another domain is ahead of a domain when leftover windows are given out, by its remainder
-// and the domain's own.
-fn is_ahead(other: usize, its: u32, domain: usize, own: u32) -> bool
-    ensures { (remainders : ℕ → ℕ) → remainders other ≡ its → remainders domain ≡ own
-        → result ≡ is_ahead remainders other domain }
+// Whether another domain is ahead of a domain when leftover windows are given out: its remainder is
+// larger, or they are equal and its number is lower.
+fn is_ahead(remainders: [u32; DOMAIN_ENTRIES], other: usize, domain: usize) -> bool
+    requires { (other < most_domains) × (domain < most_domains) }
+    ensures { result ≡ is_ahead (entry_of remainders) other domain }
 {
-    (own < its) | ((its == own) & (other < domain))
+    (remainders[domain], other) < (remainders[other], domain)
 }
 
 // How many domains are ahead of a domain.
@@ -64,12 +65,9 @@ fn ahead_of(remainders: [u32; DOMAIN_ENTRIES], domain: usize) -> u32
     requires { domain < most_domains }
     ensures { result ≡ ahead_of (entry_of remainders) domain }
 {
-    let own = remainders[domain];
-    let mut ahead: u32 = 0;
-    for other in 0..DOMAIN_ENTRIES {
-        ahead += u32::from(is_ahead(other, remainders[other], domain, own));
-    }
-    ahead
+    (0..DOMAIN_ENTRIES)
+        .map(|other| u32::from(is_ahead(remainders, other, domain)))
+        .sum()
 }
 
 // The number of windows that each domain gets: its whole part, and one more where fewer domains are

@@ -11,7 +11,7 @@ use Rattle.plan.specs.Limits.{most_domains}
 use Rattle.plan.specs.Rights.{may_send}
 use Rattle.plan.specs.Sums.{sum_to}
 use Rattle.plan.specs.Validity.{plan_valid}
-use Rattle.plan.proofs.Sums.{last-or-earlier, sum_larger, sum_more, sum_most}
+use Rattle.plan.proofs.Sums.{last-or-earlier, sum_larger, sum_most}
 use Rattle.plan.proofs.ValidPlans.{counts, declared}
 use Rattle.latest.specs.Reach.{box_count, has_box, lowest_recipient, lowest_sender}
 use Rattle.latest.specs.Script.{all_messages}
@@ -76,21 +76,6 @@ module _ (plan : Plan) (domain : ℕ) where
   pub with_counted : (other : ℕ) → other < most_domains → boxes_with plan domain other ≤ box_count plan domain
   unfolding box_count
   with_counted other below = term_most (boxes_with plan domain) most_domains other below
-
-  -- counted one domain at a time
-  module _
-      (boxes other added : ℕ)
-      (so_far : boxes ≡ sum_to (boxes_with plan domain) other)
-      (adds : added ≡ boxes_with plan domain other)
-    where
-      pub boxes_next : boxes + added ≡ sum_to (boxes_with plan domain) (other + 1)
-      boxes_next = rw adds (sum_more (boxes_with plan domain) boxes other so_far)
-
-      pub boxes_fit : other < most_domains → boxes + added ≤ all_messages
-      boxes_fit below =
-          let few : sum_to (boxes_with plan domain) (other + 1) ≤ 2 * (other + 1) =
-          sum_most (boxes_with plan domain) 2 (other + 1) (λ index within. with_most index) in
-          omega (arith, boxes_next)
 
   -- whatever the plan
   pub count_most : box_count plan domain ≤ all_messages

@@ -1,4 +1,6 @@
 // The latest that a domain can finish a window, and a script that finishes its first window then.
+// Each function takes a plan and a domain, in the order in which its definition does, and says what it
+// asks of them: some need a domain of the plan's eight, others one that fits.
 #![tactic(auto)]
 
 mod figure;
@@ -30,7 +32,7 @@ pub struct LateScript {
     // how many of the longest computes, and the ticks of the one after them
     pub waits: u32,
     pub rest: u32,
-    // the stored number of the last op
+    // the stored number of the last op, as the definition late_script_of has it, and no Op
     pub last: u32,
 }
 

@@ -73,22 +73,16 @@ pub fn box_count(plan: Plan, domain: u32) -> u32
     requires { domain < most_domains }
     ensures { result ≡ box_count plan domain }
 {
-    let mut boxes: u32 = 0;
-    for other in 0..MOST_DOMAINS {
-        boxes += boxes_with(plan, domain, other);
-    }
-    boxes
+    (0..MOST_DOMAINS)
+        .map(|other| boxes_with(plan, domain, other))
+        .sum()
 }
 
 // How many L1 indices a domain's own lines have.
 pub fn own_indices(plan: Plan, domain: u32) -> u32
     ensures { result ≡ own_indices plan domain }
 {
-    let held = holding(plan, domain as usize);
-    if held < L1_COLOURS {
-        return COLOUR_SETS * held;
-    }
-    COLOUR_SETS * L1_COLOURS
+    COLOUR_SETS * holding(plan, domain as usize).min(L1_COLOURS)
 }
 
 // Whether the L1 indices of the kernel's lines are among them.

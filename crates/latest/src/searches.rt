@@ -9,7 +9,8 @@ use plan::Plan;
 use plan::limits::MOST_DOMAINS;
 use plan::sharing::has_bit;
 
-// The lowest index below a count that passes a test; `count` where none does.
+// The lowest index below a count that passes a test; `count` where none does, and no Option: so the
+// definition lowest_below answers, and those that it serves here and in reach.
 fn lowest_below<F: Fn(u32) -> bool>(count: u32, test: F) -> u32
     requires { (index : ℕ) → index < count → F.pre test index }
     ensures { (rule : ℕ → Bool)

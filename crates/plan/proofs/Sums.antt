@@ -11,9 +11,10 @@ use lib.ListN.{get_or, get_or-replicate, length, replicate, set, take}
 use lib.Seq.{get_or-set_other, get_or-set_same}
 use borrow.Author.Tests.{eqb-true, eqb-false, le-ltb, lt-ltb, ltb-false, ltb-true}
 use Rattle.std.specs.Int.{from_bool}
-use Rattle.std.specs.List.{list_all, sum, sum_by}
+use Rattle.std.specs.List.{list_all, range_with_len, sum, sum_by}
 use Rattle.std.proofs.lemmas.List.{take_all}
 use Rattle.std.proofs.lemmas.List.Folds.{list_all_more}
+use Rattle.std.proofs.lemmas.List.FromFn.{get_or-range_with_len, length-range_with_len}
 use Rattle.std.proofs.lemmas.List.Sums.{sum_by_more}
 use Rattle.plan.specs.Sums.{sum_to, all_below}
 use Rattle.plan.specs.Limits.{most_domains}
@@ -243,3 +244,31 @@ pub all_entries :
     → list_all test list ≡ all_below (λ index. test (get_or list index 0)) count
 all_entries test list count long =
     ap (list_all test) (sym (take_all count list (omega arith))) ∙ all_front test list count (omega arith)
+
+-- the first indices as a list, one by one
+index_at : (count index : ℕ) → index < count → get_or (range_with_len 0 count) index 0 ≡ index
+index_at count index below =
+    let itself : 0 + index ≡ index = omega arith in
+    get_or-range_with_len 0 count index 0 below ∙ itself
+
+-- a sum over them
+pub sum_range : (f : ℕ → ℕ) (count : ℕ) → sum_by f (range_with_len 0 count) ≡ sum_to f count
+sum_range f count =
+    let indices = range_with_len 0 count in
+    let long : length indices ≡ count = length-range_with_len 0 count in
+    ap (sum_by f) (sym (take_all count indices (omega arith)))
+    ∙ sum_front f indices count (omega arith)
+    ∙ sum_same _ f count (λ index below. ap f (index_at count index below))
+
+-- a test of each
+pub all_range : (test : ℕ → Bool) (count : ℕ) → list_all test (range_with_len 0 count) ≡ all_below test count
+unfolding all_below
+all_range test count =
+    all_entries test (range_with_len 0 count) count (length-range_with_len 0 count) ∙ same count (omega arith)
+  where
+    same : (passed : ℕ) → passed ≤ count
+        → all_below (λ index. test (get_or (range_with_len 0 count) index 0)) passed ≡ all_below test passed
+    same zero within = refl
+    same (suc passed) within =
+        ap₂ (λ (a b : Bool). a && b) (same passed (omega arith))
+        (ap test (index_at count passed (omega arith)))

@@ -28,14 +28,16 @@ pub enum Observation {
 }
 
 // Whose records are kept: every domain's, each in its part of the log, or one domain's only. Not an
-// Option: a None would have to stand for every domain.
+// Option: a None would have to stand for every domain. Nor is it engine's LentLog, which tells beside
+// the domain how many records its part has room for.
 #[derive(Clone, Copy)]
 pub enum Keep {
     Every,
     One(u64),
 }
 
-// A record's kind.
+// A record's kind, the number in a byte of the record that the definition record_kind names. No From:
+// of an observation two numbers are made, and a u8 does not say which.
 pub fn record_kind(seen: Observation) -> u8
     ensures { result ≡ record_kind seen }
 {
@@ -52,24 +54,25 @@ pub fn record_kind(seen: Observation) -> u8
     }
 }
 
-// A record's value.
+// A record's value, as the definition record_value names it.
 pub fn record_value(seen: Observation) -> u32
     ensures { result ≡ record_value seen }
 {
     match seen {
-        Observation::Hit1(line) => line as u32,
-        Observation::Hit2(line) => line as u32,
-        Observation::Miss(line) => line as u32,
-        Observation::Sent(recipient) => recipient as u32,
+        Observation::Hit1(line) => u32::from(line),
+        Observation::Hit2(line) => u32::from(line),
+        Observation::Miss(line) => u32::from(line),
+        Observation::Sent(recipient) => u32::from(recipient),
         Observation::Got(word) => word,
-        Observation::Empty(sender) => sender as u32,
-        Observation::Denied(other) => other as u32,
-        Observation::Ran(ticks) => ticks as u32,
-        Observation::Barred(line) => line as u32,
+        Observation::Empty(sender) => u32::from(sender),
+        Observation::Denied(other) => u32::from(other),
+        Observation::Ran(ticks) => u32::from(ticks),
+        Observation::Barred(line) => u32::from(line),
     }
 }
 
-// Writes a record's bytes, by its kind and value, from an index of the log on.
+// Writes a record's bytes, by its kind and value, from an index of the log on: the log is lent whole,
+// as the contract of store_record tells what becomes of all of it.
 fn write_record(log: &mut [u8], at: usize, kind: u8, value: u32, clock: u64)
     requires { at + record_size ≤ length log.old }
     ensures { (seen : Observation)

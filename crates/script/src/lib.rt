@@ -37,7 +37,8 @@ const LEAST_VALUE: u16 = LEAST_TICKS as u16;
 
 const MOST_VALUE: u16 = MOST_TICKS as u16;
 
-// The number made of a kind, another domain and a value.
+// The number made of a kind, another domain and a value. The kind is a number, for an enum of the
+// five beside Op would only be turned into these numbers again.
 fn pack(kind: u32, other: u8, value: u16) -> u32
     requires { kind ≤ 5 }
     ensures { result ≡ packed kind other value }
@@ -45,7 +46,8 @@ fn pack(kind: u32, other: u8, value: u16) -> u32
     kind * KIND_UNIT + u32::from(other) * OTHER_UNIT + u32::from(value)
 }
 
-// The number that a script store holds for an operation.
+// The number that a script store holds for an operation, as the definition stored_of names it: a From
+// would not say which of a u32's meanings this is.
 #[tactic(auto, unfolding(crate::specs::Stored::stored_of))]
 pub fn stored(op: Op) -> u32
     ensures { result ≡ stored_of op }
@@ -59,8 +61,8 @@ pub fn stored(op: Op) -> u32
     }
 }
 
-// The operation that three parts give, or none where they are outside an operation's
-// limits.
+// The operation that three parts give, or none where they are outside an operation's limits. No
+// TryFrom: the definition op_of takes three numbers, and there is nothing to say of those outside.
 fn op_of(kind: u32, other: u8, value: u16) -> Option<Op>
     ensures { result ≡ op_of kind other value }
 {
@@ -80,7 +82,8 @@ fn op_of(kind: u32, other: u8, value: u16) -> Option<Op>
     }
 }
 
-// What a stored number stands for: its three parts are taken apart.
+// What a stored number stands for: its three parts are taken apart. An Option, as the definition
+// decode_of has it, and no TryFrom: a number that is no op ends a script, and is no error.
 fn decode(number: u32) -> Option<Op>
     ensures { result ≡ decode_of number }
 {
@@ -89,7 +92,8 @@ fn decode(number: u32) -> Option<Op>
     op_of(number / KIND_UNIT, other as u8, value as u16)
 }
 
-// What stands at a position of a domain's script that has an entry in the store.
+// What stands at a position of a domain's script that has an entry in the store. The store is a flat
+// list that a caller lends, so that its length and the domain are asked for at each call.
 pub fn fetch(scripts: &[u32], domain: usize, position: u64) -> Option<Op>
     requires { (length scripts.now ≡ scripts_length)
         × (domain ≤ last_domain)

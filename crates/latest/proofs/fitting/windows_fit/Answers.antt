@@ -1,21 +1,19 @@
 -- `latest::fitting::windows_fit` meets its contract. Assumes nothing.
-use mathlib.Core.Path.{◌∙◌, refl, sym}
+use mathlib.Core.Path.{◌∙◌, ◌≡◌, refl}
 use native.Mathlib.Omega.{arith}
-use Rattle.plan.specs.Sums.{all_below}
-use Rattle.plan.proofs.Sums.{all_below_fails, all_below_more}
+use borrow.Author.Tests.{tests}
+use Rattle.std.proofs.Common.{rules}
+use Rattle.std.specs.List.{list_all, range_with_len}
+use Rattle.std.proofs.lemmas.Iterator.{YieldsList-from_range}
+use Rattle.std.proofs.lemmas.Iterator.Search.{all_from_yields_List}
+use Rattle.plan.proofs.Sums.{all_range}
+use Rattle.latest.specs.Answer.{window_fits}
 use Rattle.latest.proofs.fitting.windows_fit.Goals as goal
 
-pub loop-slot-init : goal.loop-slot-init
-unfolding all_below
-loop-slot-init c = refl
-
-pub returns-then-not-window_fits : goal.returns-then-not-window_fits
-returns-then-not-window_fits c =
-    let slot = c.loop-slot.slot in
-    all_below_fails _ _ slot (omega arith)
-    (sym (c.window_fits.ensures _ slot refl refl) ∙ c.if-not-window_fits.true)
-
-pub loop-slot-preserved : goal.loop-slot-preserved
-loop-slot-preserved c =
-    let loop = c.loop-slot in
-    all_below_more _ loop.slot loop.invariant (sym (c.window_fits.ensures _ loop.slot refl refl) ∙ c.if-not-window_fits.false)
+pub returns : goal.returns
+returns c =
+    let test = window_fits c.args.plan c.args.domain in
+    let windows = c.args.plan.windows in
+    let all : c.all.result ≡ list_all test (range_with_len 0 windows) =
+    all_from_yields_List test _ _ c.all.result c.all.ensures.ran (YieldsList-from_range 0 windows windows refl (omega arith)) (λ slot fits after call. search (rules, tests)) in
+    all ∙ all_range test windows

@@ -3,10 +3,6 @@ use native.Mathlib.Omega.{arith}
 use Rattle.latest.specs.Reach.{own_indices}
 use Rattle.latest.proofs.reach.own_indices.Goals as goal
 
-pub returns-then-held-lt-L1_COLOURS : goal.returns-then-held-lt-L1_COLOURS
-unfolding own_indices
-returns-then-held-lt-L1_COLOURS c = omega arith
-
 pub returns : goal.returns
 unfolding own_indices
 returns c = omega arith
