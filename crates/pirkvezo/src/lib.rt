@@ -1,5 +1,6 @@
 // The library for programs in other languages: every entry point over numbers and slices. Each
-// takes any input, and returns the refusal's number.
+// takes any input, and returns the refusal's number. C lends each table by itself: so each is a
+// parameter of its own, here and in what is called from here.
 #![tactic(auto)]
 
 pub mod answers;

@@ -8,6 +8,7 @@ use report::program::plan_lines;
 use std::io;
 
 fn main(rt: HostRuntime) -> io::Result<()> {
+    // no heap: text and out are fixed rooms, and how much of each is used stands beside
     let mut text = [0u8; TEXT_ROOM];
     let length = read_full(&mut rt.stdin(), &mut text)?;
     // all that is printed for any text has room here, so that every line of it is written

@@ -1,4 +1,5 @@
-// Numbers of two and of four bytes, little end first.
+// Numbers of two and of four bytes, little end first, each at an offset, as the definitions of the
+// same names have them.
 ghost use Rattle.std.specs.Prelude.{◌≡◌, ◌+◌, ◌<◌, ◌≤◌, length};
 ghost use Rattle.report.specs.Lines.{u16_at, u32_at};
 

@@ -4,7 +4,7 @@
 
 mod fields;
 pub mod limits;
-mod lines;
+pub mod lines;
 pub mod program;
 
 ghost use Rattle.std.specs.Prelude.{◌≡◌, true, ◌+◌, ◌*◌, ◌^◌, ◌/◌, ◌<◌, ◌≤◌, length};
@@ -22,7 +22,8 @@ use plan::Plan;
 use refusal::Code;
 use state::State;
 
-// Writes the lines of a domain's log.
+// Writes the lines of a domain's log. A range: the definition record_lines has each record by its
+// number, and chunks_exact would give a list for each instead.
 fn write_domain(out: &mut [u8], at: usize, domain: u32, log: &[u8]) -> usize
     requires { at + most_seen_line * (length log.now / record_size) < 2 ^ 64 }
     ensures { Wrote out.old at (domain_lines domain log.now)
@@ -35,7 +36,8 @@ fn write_domain(out: &mut [u8], at: usize, domain: u32, log: &[u8]) -> usize
     next
 }
 
-// Writes the lines of every declared domain's log.
+// Writes the lines of every declared domain's log. That plan and state are valid is asked here and
+// by write_run, since log_of asks it.
 fn write_domains(out: &mut [u8], plan: Plan, state: State, log: &[u8]) -> usize
     requires { (plan_valid plan ≡ true)
         × (state_valid plan (part_records plan (length log.now)) state ≡ true)

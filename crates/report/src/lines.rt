@@ -1,5 +1,6 @@
 // The lines, each written into a lent buffer from an offset on. Each function answers the offset
-// past what it wrote.
+// past what it wrote. Buffer and offset are two parameters, of which the definition Wrote speaks,
+// and each function asks for room to count by the longest that it writes itself.
 ghost use Rattle.std.specs.Prelude.{◌≡◌, ◌+◌, ◌*◌, ◌^◌, ◌<◌, ◌≤◌, length};
 ghost use Rattle.lists.specs.Ascii.{bytes_of};
 ghost use Rattle.records.specs.Records.{record_size};
@@ -31,8 +32,9 @@ pub fn write_end(out: &mut [u8], at: usize, state: State) -> usize
     write_pair(out, at, b"(end ", state.windows, state.clock)
 }
 
-// The word of a record's kind.
-fn kind_word(kind: u8) -> &'static [u8]
+// The word of a record's kind. No enum: the definition kind_word is of the byte that a log has for
+// it, and has a word for bytes that are no kind too.
+pub fn kind_word(kind: u8) -> &'static [u8]
     ensures { result.now ≡ bytes_of (kind_word kind) }
 {
     match kind {
@@ -60,7 +62,7 @@ fn write_kind_and_value(out: &mut [u8], at: usize, kind: u8, value: u64) -> usiz
     write_bytes(out, close, b"))\n")
 }
 
-// Writes the line of the record at an offset of a log.
+// Writes the line of the record at an offset of a log, as the definition seen_line names it.
 pub fn write_seen(out: &mut [u8], at: usize, domain: u64, log: &[u8], from: usize) -> usize
     requires { (at + most_seen_line < 2 ^ 64) × (from + record_size ≤ length log.now) }
     ensures { Wrote out.old at (seen_line domain log.now from)

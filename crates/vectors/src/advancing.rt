@@ -1,4 +1,4 @@
-// The calls that run the machine.
+// The calls that run the machine. They hand on each table by itself, as C lends it.
 ghost use Rattle.std.specs.Prelude.{◌≡◌, length};
 ghost use Rattle.pirkvezo.specs.Numbers.{plan_length, state_length};
 
@@ -48,7 +48,8 @@ fn advance_once(
     }
 }
 
-// A single step, by the engine's own entry point, or a run by the library's.
+// A single step, by the engine's own entry point, or a run by the library's. A match, since each
+// call is another function with other parameters.
 pub fn advance(
     call: Call,
     plan: &[u32],

@@ -1,4 +1,5 @@
-// The commands: what each line of the input says.
+// The commands: what each line of the input says. Each takes what it prints to, the example and its
+// fields by themselves: some take the example only to read it, and some print nothing.
 use crate::advancing::Call;
 use crate::calls::{
     ask_bound, ask_latest, flush, fresh, kept_call, make_frame, query_log, read, run, show_buffer,

@@ -17,6 +17,7 @@ use input::read_full;
 use std::io;
 
 fn main(rt: HostRuntime) -> io::Result<()> {
+    // no heap: a fixed room, and how many bytes of it are read
     let mut input = [0u8; 131_072];
     let length = read_full(&mut rt.stdin(), &mut input)?;
     obey_all(&rt, &input[..length])

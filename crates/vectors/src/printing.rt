@@ -3,6 +3,7 @@ ghost use Rattle.std.specs.Prelude.{◌≡◌, length};
 ghost use Rattle.records.specs.Records.{record_size};
 
 use pirkvezo::offsets::ANSWER_LENGTH;
+use report::lines::kind_word;
 use std::io;
 
 // The bytes of a record.
@@ -23,6 +24,7 @@ pub fn print_answer(rt: &impl Print, label: &[u8], answer: [u64; ANSWER_LENGTH])
     print_number(rt, answer[1])
 }
 
+// An ending, by the number that a call answers for it, which is all that C is told of it.
 pub fn print_ending(rt: &impl Print, ending: u64) -> io::Result<()> {
     match ending {
         0 => print(rt, b" stopped"),
@@ -30,29 +32,14 @@ pub fn print_ending(rt: &impl Print, ending: u64) -> io::Result<()> {
     }
 }
 
-// The word of a record's kind.
-fn print_kind(rt: &impl Print, kind: u8) -> io::Result<()> {
-    match kind {
-        1 => print(rt, b" hit1"),
-        2 => print(rt, b" hit2"),
-        3 => print(rt, b" miss"),
-        4 => print(rt, b" sent"),
-        5 => print(rt, b" got"),
-        6 => print(rt, b" empty"),
-        7 => print(rt, b" denied"),
-        8 => print(rt, b" ran"),
-        9 => print(rt, b" barred"),
-        _ => print(rt, b" none"),
-    }
-}
-
-// A record's kind, value and clock.
+// A record's kind, value and clock. The kind is the byte of the log.
 fn print_record(rt: &impl Print, seen: &[u8]) -> io::Result<()>
     requires { length seen.now ≡ record_size }
 {
     let value = u16::from_le_bytes([seen[2], seen[3]]);
     let clock = u32::from_le_bytes([seen[4], seen[5], seen[6], seen[7]]);
-    print_kind(rt, seen[0])?;
+    print(rt, b" ")?;
+    print(rt, kind_word(seen[0]))?;
     print_number(rt, u64::from(value))?;
     print_number(rt, u64::from(clock))
 }

@@ -1,4 +1,5 @@
-// The lines of a plan's text, each written behind the one before.
+// The lines of a plan's text, each written behind the one before. There is no heap: the text is a
+// fixed room, and how much of it is written goes along.
 use crate::example::Example;
 use crate::fields::{number, rest, word};
 
