@@ -2,14 +2,13 @@
 -- draft that passes is known to satisfy. Assumes nothing.
 use Rattle.std.specs.Prelude.{Ok, Err}
 use Prim.Native.Nat.{ℕ, zero, suc, ◌+◌, ◌-◌, ◌≤◌, ◌<◌}
-use native.Mathlib.Nat.{sub-zero}
 use native.Mathlib.Omega.{arith}
 use mathlib.Core.Bool.{Bool, true, false, cond}
 use mathlib.Core.List.{List, [], ◌∷◌}
 use mathlib.Core.Path.{◌≡◌, refl, sym, ap, ◌∙◌}
 use lib.Dec.{eqb, leb}
 use lib.ListN.{get_or}
-use borrow.Author.Tests.{eq-eqb, eqb-false, le-leb, leb-false, leb-true, lt-leb, ltb-false, ne_eqb}
+use borrow.Author.Tests.{eqb-false, le-leb, leb-false, leb-true, lt-leb, ltb-false, ne_eqb}
 use Rattle.plan.specs.declared.Plan.{Plan}
 use Rattle.plan.specs.Colours.{colours_at, colours_total, shares_total}
 use Rattle.plan.specs.Windows.{ticks_total}
@@ -18,6 +17,9 @@ use Rattle.refusal.proofs.Passed.{both_passed, not_refused, when_passed}
 use Rattle.refusal.specs.declared.Refusal.TheVariants.{WrongDomain}
 use Rattle.syntax.proofs.Choices.{same_or_not}
 use Rattle.reader.specs.declared.Draft.{Draft}
+use Rattle.std.specs.Prelude.{Option, Some, None, length, ltb, not}
+use Rattle.std.specs.List.{position_or_len, range_with_len}
+use Rattle.std.specs.Option.{unwrap_or}
 use Rattle.reader.specs.Final.{earlier_kept, final_verdict, first_colourless, first_of, lacking, may_verdict, mentions_from}
 use Rattle.reader.specs.Final.{shares_verdict, undeclared_mentions}
 use Rattle.refusal.specs.Verdict.{Verdict}
@@ -94,29 +96,50 @@ mentions_none named (suc left) domain index none from below =
 
 -- ---- the first domain without a colour
 
--- from a domain on
-unfoldable pub colourless_from : Plan → ℕ → ℕ
-colourless_from plan domain = first_colourless plan (plan.domains - domain) domain
+-- whether a domain is one
+abbrev pub is_colourless : Plan → ℕ → Bool
+is_colourless plan domain = eqb (colours_at plan domain) 0
 
-pub colourless_all : (plan : Plan) → colourless_from plan 0 ≡ first_colourless plan plan.domains 0
-unfolding colourless_from
-colourless_all plan = rw (sub-zero plan.domains)
+-- where it stands in the range of their numbers
+first_place : (plan : Plan) (left domain : ℕ)
+    → position_or_len (is_colourless plan) (range_with_len domain left) + domain ≡ first_colourless plan left domain
+unfolding first_colourless
+first_place plan zero domain = omega arith
+first_place plan (suc left) domain =
+    go (eqb (colours_at plan domain) 0) _ _ (first_place plan left (domain + 1))
+  where
+    go : (test : Bool) (later first : ℕ) → later + (domain + 1) ≡ first
+        → cond (not test) (1 + later) 0 + domain ≡ elim test [ true ↦ domain | false ↦ first ]
+    go true later first place = omega arith
+    go false later first place = omega arith
 
-module _ (plan : Plan) (domain : ℕ) where
-  left_over : domain < plan.domains → plan.domains - domain ≡ suc (plan.domains - (domain + 1))
-  left_over below = omega arith
+place_most : (plan : Plan) (left domain : ℕ) → position_or_len (is_colourless plan) (range_with_len domain left) ≤ left
+place_most plan zero domain = omega arith
+place_most plan (suc left) domain = go (eqb (colours_at plan domain) 0) _ (place_most plan left (domain + 1))
+  where
+    go : (test : Bool) (later : ℕ) → later ≤ left → cond (not test) (1 + later) 0 ≤ suc left
+    go true later few = omega arith
+    go false later few = omega arith
 
-  pub colourless_here : domain < plan.domains → colours_at plan domain ≡ 0 → colourless_from plan domain ≡ domain
-  unfolding colourless_from first_colourless
-  colourless_here below none = rw (left_over below, first_colourless, eq-eqb _ _ none)
+range_long : (first left : ℕ) → length (range_with_len first left) ≡ left
+range_long first zero = refl
+range_long first (suc left) = omega (arith, range_long (first + 1) left)
 
-  pub colourless_next : domain < plan.domains → (colours_at plan domain ≡ 0 → ⊥) → colourless_from plan (domain + 1) ≡ colourless_from plan domain
-  unfolding colourless_from first_colourless
-  colourless_next below some = rw (left_over below, first_colourless, ne_eqb _ _ some)
+pub colourless_position : (plan : Plan) (left : ℕ) {found : Option ℕ}
+    → (let at = position_or_len (is_colourless plan) (range_with_len 0 left) in
+    found ≡ cond (ltb at (length (range_with_len 0 left))) (Some at) None)
+    → unwrap_or found left ≡ first_colourless plan left 0
+colourless_position plan left is = rw is (go (ltb at (length (range_with_len 0 left))) refl)
+  where
+    at : ℕ
+    at = position_or_len (is_colourless plan) (range_with_len 0 left)
 
-  pub colourless_end : plan.domains ≤ domain → colourless_from plan domain ≡ domain
-  unfolding colourless_from first_colourless
-  colourless_end past = let none : plan.domains - domain ≡ 0 = omega arith in rw none
+    go : (below : Bool) → ltb at (length (range_with_len 0 left)) ≡ below
+        → unwrap_or (cond below (Some at) None) left ≡ first_colourless plan left 0
+    go true test = omega (arith, first_place plan left 0)
+    go false test =
+        let past = ltb-false _ _ test in
+        omega (arith, past, first_place plan left 0, place_most plan left 0, range_long 0 left)
 
 -- there is none: each gives one
 pub coloured_each : (plan : Plan) (left domain other : ℕ) → domain + left ≤ first_colourless plan left domain → domain ≤ other → other < domain + left

@@ -55,12 +55,9 @@ fn first_colourless(plan: Plan) -> usize
 {
     let shares = plan.shares;
     let domains = plan.domains as usize;
-    for domain in 0..domains {
-        if colours_of(shares[domain]) == 0 {
-            return domain;
-        }
-    }
-    domains
+    (0..domains)
+        .position(|domain| colours_of(shares[domain]) == 0)
+        .unwrap_or(domains)
 }
 
 // Whether the shares fit: all together, by the colours that they give, and each by itself.

@@ -1,4 +1,5 @@
-// The text, line by line, written into a buffer.
+// The text, line by line, written into a buffer. A loop for each kind of line: one that takes the
+// writer of a line as a closure would lend it the buffer, and each call be as long.
 ghost use Rattle.std.specs.Prelude.{true, ◌≡◌, ◌+◌, ◌^◌, ◌≤◌, ◌<◌, length};
 ghost use Rattle.plan.specs.Limits.{most_domains, most_windows};
 ghost use Rattle.plan.specs.Validity.{plan_valid};
@@ -25,6 +26,7 @@ fn write_domains(out: &mut [u8], at: usize, plan: Plan) -> usize
     let rights = plan.rights;
     let domains = plan.domains as usize;
     let mut next = at;
+    // A range, no zip: the line names the domain's number, and both arrays end at the count.
     for domain in 0..domains {
         next = write_domain(out, next, domain as u32, shares[domain], rights[domain]);
     }
@@ -42,6 +44,7 @@ fn write_windows(out: &mut [u8], at: usize, plan: Plan) -> usize
     let lengths = plan.lengths;
     let windows = plan.windows as usize;
     let mut next = at;
+    // A range, no zip: both arrays would have to be cut at the count first.
     for slot in 0..windows {
         next = write_window(out, next, owners[slot], lengths[slot]);
     }
