@@ -26,7 +26,7 @@ fn write_domains(out: &mut [u8], at: usize, plan: Plan) -> usize
     let rights = plan.rights;
     let domains = plan.domains as usize;
     let mut next = at;
-    // A range, no zip: the line names the domain's number, and both arrays end at the count.
+    // A range, no zip: the line has the number too, and both arrays would have to be cut at the count.
     for domain in 0..domains {
         next = write_domain(out, next, domain as u32, shares[domain], rights[domain]);
     }
@@ -44,7 +44,7 @@ fn write_windows(out: &mut [u8], at: usize, plan: Plan) -> usize
     let lengths = plan.lengths;
     let windows = plan.windows as usize;
     let mut next = at;
-    // A range, no zip: both arrays would have to be cut at the count first.
+    // A range, no zip: both arrays would have to be cut at the count.
     for slot in 0..windows {
         next = write_window(out, next, owners[slot], lengths[slot]);
     }
