@@ -17,7 +17,8 @@ use turns::lay_turns;
 use validity::is_valid;
 
 // The frame of `count` windows by the weights of eight domains: the domain of each window. Entries
-// behind the last window are 0.
+// behind the last window are 0. Count and weights stay two parameters throughout, as a caller in C
+// hands them and as the definitions take them.
 pub fn make_frame(
     count: u32,
     weights: [u32; DOMAIN_ENTRIES],

@@ -8,8 +8,8 @@ ghost use Rattle.frame.specs.Quotas.{total_weight, whole_part, window_count};
 
 use plan::limits::DOMAIN_ENTRIES;
 
-// Each domain's quota, as its whole part and its remainder: two arrays, for each is read on its own,
-// the wholes for their sum.
+// Each domain's quota, as its whole part and its remainder: two arrays, for each is read on its
+// own, the wholes for their sum.
 #[derive(Drop)]
 struct Quotas {
     wholes: [u32; DOMAIN_ENTRIES],
@@ -24,7 +24,7 @@ pub fn total_weight(weights: [u32; DOMAIN_ENTRIES]) -> u32
     weights.iter().sum()
 }
 
-// Every domain's quota of `count` windows.
+// Every domain's quota of `count` windows. By index, since two arrays are filled from a third.
 fn quotas_of(count: u32, weights: [u32; DOMAIN_ENTRIES]) -> Quotas
     requires { inputs_valid count weights ≡ true }
     ensures { (domain : ℕ) → domain < most_domains
@@ -71,7 +71,8 @@ fn ahead_of(remainders: [u32; DOMAIN_ENTRIES], domain: usize) -> u32
 }
 
 // The number of windows that each domain gets: its whole part, and one more where fewer domains are
-// ahead of it than windows are left over.
+// ahead of it than windows are left over. By index, since the order of domains is one of their
+// numbers.
 pub fn windows_of(count: u32, weights: [u32; DOMAIN_ENTRIES]) -> [u32; DOMAIN_ENTRIES]
     requires { inputs_valid count weights ≡ true }
     ensures { (domain : ℕ) → domain < most_domains

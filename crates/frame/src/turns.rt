@@ -7,8 +7,9 @@ ghost use Rattle.frame.specs.Turns.{first_turns, turn_windows, zero_filled};
 
 use plan::limits::{DOMAIN_ENTRIES, WINDOW_ENTRIES};
 
-// Lays a turn's windows from an index on, and answers the index behind the last: the frame has a fixed
-// length, so that the index is told beside it. The domains are counted, for their numbers are laid.
+// Lays a turn's windows from an index on, and answers the index behind the last: the frame has a
+// fixed length, so that the index is told beside it. The domains are counted, for their numbers are
+// laid.
 fn lay_turn(
     frame: &mut [u32; WINDOW_ENTRIES],
     first: usize,

@@ -14,8 +14,8 @@ fn weights_within(weights: [u32; DOMAIN_ENTRIES]) -> bool
     weights.iter().all(|weight| *weight <= MOST_WEIGHT)
 }
 
-// Whether the frame maker takes a number of windows and weights. Weights that are not all 0 are those
-// whose total is not 0.
+// Whether the frame maker takes a number of windows and weights. Weights that are not all 0 are
+// those whose total is not 0.
 pub fn is_valid(count: u32, weights: [u32; DOMAIN_ENTRIES]) -> bool
     ensures { result ≡ inputs_valid count weights }
 {

@@ -1,6 +1,6 @@
 // The latest that a domain can finish a window, and a script that finishes its first window then.
-// Each function takes a plan and a domain, in the order in which its definition does, and says what it
-// asks of them: some need a domain of the plan's eight, others one that fits.
+// Each function takes a plan and a domain, in the order in which its definition does, and says what
+// it asks of them: some need a domain of the plan's eight, others one that fits.
 #![tactic(auto)]
 
 mod figure;
@@ -36,8 +36,8 @@ pub struct LateScript {
     pub last: u32,
 }
 
-// The latest finish of a domain, in ticks after the window's end, and a script that reaches it, written
-// to a buffer for one script: 11, then 12, then 18. A refusal leaves the buffer.
+// The latest finish of a domain, in ticks after the window's end, and a script that reaches it,
+// written to a buffer for one script: 11, then 12, then 18. A refusal leaves the buffer.
 pub fn latest(plan: Plan, domain: u32, script: &mut [u32]) -> Result<u64, Refusal>
     ensures { latest_with result script.new
         ≡ latest_of plan domain script.old }

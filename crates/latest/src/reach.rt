@@ -22,8 +22,8 @@ const L1_COLOURS: u32 = (L1_LENGTH / SETS_PER_COLOUR) as u32;
 // The first of the kernel's L1 indices, counted in colours.
 const KERNEL_INDICES: u32 = KERNEL_COLOUR as u32 % L1_COLOURS;
 
-// Whether the run begins with a window of a domain: no switch comes before that one, so the kernel's
-// entry line is in neither cache at its start.
+// Whether the run begins with a window of a domain: no switch comes before that one, so the
+// kernel's entry line is in neither cache at its start.
 pub fn starts_run(plan: Plan, domain: u32) -> bool
     ensures { result ≡ starts_run plan domain }
 {

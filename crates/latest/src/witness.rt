@@ -87,8 +87,8 @@ fn opening_ticks(plan: Plan, domain: u32) -> u32
     FOUND_TICKS * ALL_MESSAGES + lines
 }
 
-// What the writes take for replacing a box's line, which the messages left dirty in L1. In the run's
-// first window they left none.
+// What the writes take for replacing a box's line, which the messages left dirty in L1. In the
+// run's first window they left none.
 fn replacing_ticks(plan: Plan, domain: u32) -> u32
     requires { Fitting plan domain }
     ensures { result ≡ replacing_ticks plan domain }

@@ -54,7 +54,8 @@ pub fn shares_total(plan: Plan) -> u32
     shares[..plan.domains as usize].iter().sum()
 }
 
-// The total of the colours that the declared domains' shares give.
+// The total of the colours that the declared domains' shares give. A for over the domains, as in
+// masks_of, which gives out the same colours in the same order.
 pub fn colours_total(plan: Plan) -> u32
     requires { SharesBounded plan }
     ensures { result ≡ colours_total plan }
@@ -69,7 +70,8 @@ pub fn colours_total(plan: Plan) -> u32
     colours
 }
 
-// The mask of each declared domain, and 0 for the others.
+// The mask of each declared domain, and 0 for the others. A for: each mask begins where the one
+// before it ended.
 pub fn masks_of(plan: Plan) -> [u16; DOMAIN_ENTRIES]
     requires { ColoursBounded plan }
     ensures { result ≡ masks_from plan most_domains 0 }

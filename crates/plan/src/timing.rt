@@ -9,7 +9,8 @@ ghost use Rattle.plan.specs.Limits.{most_length, most_pad, most_run, most_window
 
 use crate::Plan;
 
-// The ticks of the first declared windows with their pads, once through.
+// The ticks of the first declared windows with their pads, once through. A for over the slots, of
+// which the definition padded_length is.
 fn padded_lengths(plan: Plan, count: usize) -> u64
     requires { (count ≤ most_windows) × (plan.pad ≤ most_pad)
         × ((slot : ℕ) → slot < count → get_or plan.lengths slot 0 ≤ most_length) }
@@ -42,7 +43,8 @@ pub fn windows_total(plan: Plan) -> u64
     plan.run as u64 * plan.windows as u64
 }
 
-// The domain whose window it is.
+// The domain whose window it is. Not one function with window_length, of an array: it would need
+// the array beside the plan, and be as long.
 pub fn window_owner(plan: Plan, window: u64) -> u32
     requires { plan_valid plan ≡ true }
     ensures { result ≡ window_owner plan window }

@@ -15,7 +15,8 @@ use crate::limits::{
 use crate::sharing::{colours_of, colours_total, has_bit, masks_of, shares_total};
 use crate::timing::ticks_total;
 
-// Whether a number is within limits, both included.
+// Whether a number is within limits, both included. Not `contains` of a range, which is no shorter,
+// and has a way out before its second test.
 fn is_within(low: u32, high: u32, number: u32) -> bool
     ensures { result ≡ within low high number }
 {
@@ -88,7 +89,8 @@ fn window_valid(owner: u32, length: u32, domains: u32, declared: bool) -> bool
 }
 
 // Whether every entry for a window is valid. All are looked at, with no way out before, which the
-// compiler turns into few instructions.
+// compiler turns into few instructions. By the number of a slot: it tells whether the slot is
+// declared.
 fn windows_valid(plan: Plan) -> bool
     ensures { result ≡ all_below (window_valid plan) most_windows }
 {

@@ -28,16 +28,16 @@ pub enum Observation {
 }
 
 // Whose records are kept: every domain's, each in its part of the log, or one domain's only. Not an
-// Option: a None would have to stand for every domain. Nor is it engine's LentLog, which tells beside
-// the domain how many records its part has room for.
+// Option: a None would have to stand for every domain. Nor is it engine's LentLog, which tells
+// beside the domain how many records its part has room for.
 #[derive(Clone, Copy)]
 pub enum Keep {
     Every,
     One(u64),
 }
 
-// A record's kind, the number in a byte of the record that the definition record_kind names. No From:
-// of an observation two numbers are made, and a u8 does not say which.
+// A record's kind, the number in a byte of the record that the definition record_kind names. No
+// From: of an observation two numbers are made, and a u8 does not say which.
 pub fn record_kind(seen: Observation) -> u8
     ensures { result ≡ record_kind seen }
 {
@@ -71,8 +71,8 @@ pub fn record_value(seen: Observation) -> u32
     }
 }
 
-// Writes a record's bytes, by its kind and value, from an index of the log on: the log is lent whole,
-// as the contract of store_record tells what becomes of all of it.
+// Writes a record's bytes, by its kind and value, from an index of the log on: the log is lent
+// whole, as the contract of store_record tells what becomes of all of it.
 fn write_record(log: &mut [u8], at: usize, kind: u8, value: u32, clock: u64)
     requires { at + record_size ≤ length log.old }
     ensures { (seen : Observation)

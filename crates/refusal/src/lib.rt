@@ -71,8 +71,8 @@ impl From<Refusal> for Code {
     }
 }
 
-// The number and the companion of a call's own answer, that it did its work or its refusal. No From:
-// who converts a Result writes no less, and the definition code_of has this name.
+// The number and the companion of a call's own answer, that it did its work or its refusal. No
+// From: who converts a Result writes no less, and the definition code_of has this name.
 pub fn code_of(verdict: Result<(), Refusal>) -> Code
     ensures { result ≡ code_of verdict }
 {

@@ -11,8 +11,8 @@ ghost use Rattle.script.specs.ScriptEnd.{stored_ops};
 
 use limits::{LAST_DOMAIN, LEAST_TICKS, MOST_OPS, MOST_TICKS};
 
-// An operation with its numbers: the line of a read or a write; the recipient and the word of a send;
-// the sender of a receive; the ticks of a compute.
+// An operation with its numbers: the line of a read or a write; the recipient and the word of a
+// send; the sender of a receive; the ticks of a compute.
 #[derive(Clone, Copy)]
 pub enum Op {
     Read(u16),
@@ -22,8 +22,8 @@ pub enum Op {
     Compute(u8),
 }
 
-// What a kind and another domain count for in a stored number, and how many numbers there is room for
-// in the second part.
+// What a kind and another domain count for in a stored number, and how many numbers there is room
+// for in the second part.
 const KIND_UNIT: u32 = 1_048_576;
 
 const OTHER_UNIT: u32 = 65_536;
@@ -46,8 +46,8 @@ fn pack(kind: u32, other: u8, value: u16) -> u32
     kind * KIND_UNIT + u32::from(other) * OTHER_UNIT + u32::from(value)
 }
 
-// The number that a script store holds for an operation, as the definition stored_of names it: a From
-// would not say which of a u32's meanings this is.
+// The number that a script store holds for an operation, as the definition stored_of names it: a
+// From would not say which of a u32's meanings this is.
 #[tactic(auto, unfolding(crate::specs::Stored::stored_of))]
 pub fn stored(op: Op) -> u32
     ensures { result ≡ stored_of op }
@@ -92,8 +92,8 @@ fn decode(number: u32) -> Option<Op>
     op_of(number / KIND_UNIT, other as u8, value as u16)
 }
 
-// What stands at a position of a domain's script that has an entry in the store. The store is a flat
-// list that a caller lends, so that its length and the domain are asked for at each call.
+// What stands at a position of a domain's script that has an entry in the store. The store is a
+// flat list that a caller lends, so that its length and the domain are asked for at each call.
 pub fn fetch(scripts: &[u32], domain: usize, position: u64) -> Option<Op>
     requires { (length scripts.now ≡ scripts_length)
         × (domain ≤ last_domain)
