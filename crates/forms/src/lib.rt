@@ -1,6 +1,6 @@
 // The five forms of a line, past the word that opens each: what the form says, or the refusal with
-// its offset. The parameters of a function are those of the definition in specs/Forms that its contract
-// names, and so are two where a struct could hold them.
+// its offset. The parameters of a function are those of the definition in specs/Forms that its
+// contract names, and so are two where a struct could hold them.
 #![tactic(auto)]
 
 pub mod domains;

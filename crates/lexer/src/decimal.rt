@@ -1,6 +1,6 @@
 // Words and decimal numbers, written into a lent buffer from an offset on. What lies past the
-// buffer's end is left out: so a buffer and an offset are handed on, and no slice of the rest, and each
-// function asks that its own end stays below 2 ^ 64.
+// buffer's end is left out: so a buffer and an offset are handed on, and no slice of the rest, and
+// each function asks that its own end stays below 2 ^ 64.
 ghost use Rattle.std.specs.Prelude.{◌++◌, ◌≡◌, ◌+◌, ◌^◌, ◌<◌, length, set};
 ghost use Rattle.lexer.specs.Decimal.{decimal_of};
 ghost use Rattle.lexer.specs.Limits.{widest_digits};

@@ -111,8 +111,9 @@ impl<'a> Reader<'a> {
     }
 }
 
-// What a reader at `at` hands out next. Here and above a text and an offset are two parameters, not a
-// `Reader`: the definitions of tokens (specs/) have them so, and a refusal needs the offset by itself.
+// What a reader at `at` hands out next. Here and above a text and an offset are two parameters, not
+// a `Reader`: the definitions of tokens (specs/) have them so, and a refusal needs the offset by
+// itself.
 pub fn lookahead_at(text: &[u8], at: usize) -> Lookahead
     ensures { result ≡ lookahead_at text.now at }
 {

@@ -1,7 +1,7 @@
 // One line of a plan text: its opening bracket, the form that its word opens, its closing bracket
 // and its end; or the refusal with its offset. The beginning of a line is read first, so that an op
-// line, of which a long text has the most, is read without what the other lines carry. The parameters
-// of a function are those of the definition in specs/ that its contract names.
+// line, of which a long text has the most, is read without what the other lines carry. The
+// parameters of a function are those of the definition in specs/ that its contract names.
 #![tactic(auto)]
 
 ghost use Rattle.std.specs.Prelude.{List, ◌≡◌, ℕ, ◌+◌, ◌^◌, ◌<◌};
@@ -38,16 +38,16 @@ pub enum Head {
     Plain(PlainHead),
 }
 
-// The beginning of a line that opens no op. A refused one is among them, and no Err: `line_of` tells
-// its bracket, and what is named, as of any other line.
+// The beginning of a line that opens no op. A refused one is among them, and no Err: `line_of`
+// tells its bracket, and what is named, as of any other line.
 #[derive(Drop)]
 pub enum PlainHead {
     // a line without a token, and the offset of its end
     Blank(usize),
     // no form is opened: the offset of the line's first token, and the refusal
     Refused { bracket: usize, refusal: Refusal },
-    // the offset of the opening bracket, and that past the word. Not one case with a `FormWord`: that
-    // can be `Op` too, which opens no plain line.
+    // the offset of the opening bracket, and that past the word. Not one case with a `FormWord`:
+    // that can be `Op` too, which opens no plain line.
     Pad { bracket: usize, inside: usize },
     Run { bracket: usize, inside: usize },
     Domain { bracket: usize, inside: usize },

@@ -25,8 +25,8 @@ pub fn no_draft() -> Draft
     }
 }
 
-// What is held against a form other than an op: a second pad or run, or a 33rd window. A domain line
-// always fits: its number was the next one.
+// What is held against a form other than an op: a second pad or run, or a 33rd window. A domain
+// line always fits: its number was the next one.
 pub fn form_verdict(
     form: Form,
     bracket: usize,

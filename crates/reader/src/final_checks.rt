@@ -1,4 +1,5 @@
-// The checks of a whole text, once no line of it was refused; and the masks of a plan that passes them.
+// The checks of a whole text, once no line of it was refused; and the masks of a plan that passes
+// them.
 ghost use Rattle.std.specs.Prelude.{◌≡◌};
 ghost use Rattle.plan.specs.Bounds.{ColoursBounded, SharesBounded, TicksBounded};
 ghost use Rattle.reader.specs.Final.{earlier_kept, final_verdict, first_colourless};
@@ -19,8 +20,8 @@ fn is_lacking(plan: Plan) -> bool
     (plan.pad == 0) | (plan.domains == 0) | (plan.windows == 0) | (plan.run == 0)
 }
 
-// The earlier of two offsets, each plus one, or 0 for none: the definition of the name has numbers, no
-// `Option`.
+// The earlier of two offsets, each plus one, or 0 for none: the definition of the name has numbers,
+// no `Option`.
 fn earlier_kept(a: usize, b: usize) -> usize
     ensures { result ≡ earlier_kept a b }
 {

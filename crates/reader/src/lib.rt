@@ -1,5 +1,6 @@
-// The plan reader: from a text to a plan and the scripts, or a refusal with its offset. What functions
-// here ask of a plan or a length is a definition of the lower crates (`SharesBounded`), or one line.
+// The plan reader: from a text to a plan and the scripts, or a refusal with its offset. What
+// functions here ask of a plan or a length is a definition of the lower crates (`SharesBounded`),
+// or one line.
 #![tactic(auto)]
 
 mod drafting;
@@ -17,7 +18,8 @@ use script::limits::SCRIPTS_LENGTH;
 use walk::walk;
 
 // What the lines read so far have given, beside the script store. Its numbers, with 0 for none, and
-// arrays beside the store are those of the definition `no_draft` (specs/Draft): no heap, fixed memory.
+// arrays beside the store are those of the definition `no_draft` (specs/Draft): no heap, fixed
+// memory.
 #[derive(Clone, Copy)]
 pub struct Draft {
     // masks stay 0 until the whole text is read; a pad or a run of 0 stands for none yet
@@ -28,16 +30,16 @@ pub struct Draft {
     pub named: [usize; DOMAIN_ENTRIES],
 }
 
-// What lines come to: that they were taken up, and the draft with them; or the refusal, and beside it
-// the draft as it was before the refused line.
+// What lines come to: that they were taken up, and the draft with them; or the refusal, and beside
+// it the draft as it was before the refused line.
 #[derive(Clone, Copy)]
 pub struct DraftResult {
     pub verdict: Result<(), Refusal>,
     pub draft: Draft,
 }
 
-// A plan text is read: the plan, with its scripts in the store lent, or a refusal. The store is written
-// only once every check has passed.
+// A plan text is read: the plan, with its scripts in the store lent, or a refusal. The store is
+// written only once every check has passed.
 pub fn read_plan(text: &[u8], scripts: &mut [u32]) -> Result<Plan, Refusal>
     ensures { read_result result scripts.new ≡ read_of text.now scripts.old }
 {

@@ -1,7 +1,7 @@
 // The parser's parts: what a form asks for, taken token by token (brackets, words and numbers, an
-// op, a list of recipients), or the refusal with its offset. Beside what was taken stands the offset
-// to go on from. The parameters of a function, as a text and an offset, are those of the definition
-// in specs/ that its contract names, and so are two where a struct could hold them.
+// op, a list of recipients), or the refusal with its offset. Beside what was taken stands the
+// offset to go on from. The parameters of a function, as a text and an offset, are those of the
+// definition in specs/ that its contract names, and so are two where a struct could hold them.
 #![tactic(auto)]
 
 pub mod brackets;

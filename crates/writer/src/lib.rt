@@ -1,7 +1,7 @@
-// The plan writer: a plan and its scripts as a text in the single form, or a refusal. A buffer and an
-// offset are handed on, and no slice of the rest: what lies past the buffer's end is left out, and the
-// end that is answered may lie past it. What functions ask of it, of a plan and of the store are single
-// facts, each with other numbers.
+// The plan writer: a plan and its scripts as a text in the single form, or a refusal. A buffer and
+// an offset are handed on, and no slice of the rest: what lies past the buffer's end is left out,
+// and the end that is answered may lie past it. What functions ask of it, of a plan and of the
+// store are single facts, each with other numbers.
 #![tactic(auto)]
 
 mod lines;
@@ -19,9 +19,9 @@ use script::limits::SCRIPTS_LENGTH;
 use store::ops_alone;
 use text::write_text;
 
-// A plan and its scripts are written in the single form, or refused; how many bytes were written. The
-// text is made in a buffer of its own, of fixed length as there is no heap, so that the one lent is
-// written only once every check has passed.
+// A plan and its scripts are written in the single form, or refused; how many bytes were written.
+// The text is made in a buffer of its own, of fixed length as there is no heap, so that the one
+// lent is written only once every check has passed.
 pub fn write_plan(plan: Plan, scripts: &[u32], out: &mut [u8]) -> Result<usize, Refusal>
     ensures { write_result result out.new ≡ write_of plan scripts.now out.old }
 {

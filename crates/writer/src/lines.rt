@@ -1,5 +1,5 @@
-// The lines, each written into a buffer from an offset on. Each function answers the offset past what
-// it wrote. A line other than the first is written with the LF before it.
+// The lines, each written into a buffer from an offset on. Each function answers the offset past
+// what it wrote. A line other than the first is written with the LF before it.
 ghost use Rattle.std.specs.Prelude.{cond, [], ◌++◌, ◌+◌, ◌^◌, ◌<◌, length};
 ghost use Rattle.lists.specs.Ascii.{bytes_of};
 ghost use Rattle.plan.specs.Colours.{has_bit};

@@ -26,7 +26,8 @@ fn write_domains(out: &mut [u8], at: usize, plan: Plan) -> usize
     let rights = plan.rights;
     let domains = plan.domains as usize;
     let mut next = at;
-    // A range, no zip: the line has the number too, and both arrays would have to be cut at the count.
+    // A range, no zip: the line has the number too, and both arrays would have to be cut at the
+    // count.
     for domain in 0..domains {
         next = write_domain(out, next, domain as u32, shares[domain], rights[domain]);
     }
