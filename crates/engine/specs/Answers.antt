@@ -6,7 +6,6 @@ use Rattle.machine.specs.View.{world_with}
 use Rattle.engine.specs.declared.Answer.{Answer}
 use Rattle.engine.specs.declared.Ending.{Ending}
 use Rattle.engine.specs.declared.Ending.TheVariants.{Stopped}
-use Rattle.engine.specs.declared.Progress.{Progress}
 use Rattle.state.specs.declared.State.{State}
 use Rattle.engine.specs.FreshStart.{FreshOutcome}
 use Rattle.engine.specs.Running.{RunOutcome}
@@ -17,18 +16,11 @@ use Rattle.refusal.specs.Verdict.{Verdict}
 abbrev pub answered : Verdict → ℕ → Ending → World → RunOutcome
 answered verdict steps ending world = record { verdict = verdict; steps = steps; ending = ending; world = world }
 
--- a run's answer, with the tables that are left beside it; a refused run leaves the state as it was
-abbrev pub run_with : Result Progress Refusal → State → List ℕ → List ℕ → List ℕ → RunOutcome
-run_with (Ok progress) state cache boxes log =
-    answered (Ok tt) progress.steps progress.ending (world_with progress.state cache boxes log)
-run_with (Err refusal) state cache boxes log =
-    answered (Err refusal) 0 Stopped (world_with state cache boxes log)
-
--- a single step's answer, with the state that is left beside it
-abbrev pub step_with : Result Answer Refusal → State → List ℕ → List ℕ → List ℕ → RunOutcome
-step_with (Ok answer) state cache boxes log =
+-- a run's answer, with the state and the tables that are left beside it
+abbrev pub run_with : Result Answer Refusal → State → List ℕ → List ℕ → List ℕ → RunOutcome
+run_with (Ok answer) state cache boxes log =
     answered (Ok tt) answer.steps answer.ending (world_with state cache boxes log)
-step_with (Err refusal) state cache boxes log =
+run_with (Err refusal) state cache boxes log =
     answered (Err refusal) 0 Stopped (world_with state cache boxes log)
 
 -- a fresh start's answer, with the tables that are left beside it; a refused one leaves the state

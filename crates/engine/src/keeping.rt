@@ -5,7 +5,7 @@ ghost use Rattle.engine.specs.Answers.{run_with};
 ghost use Rattle.engine.specs.Keeping.{kept_call_of};
 
 use crate::running::run_lent;
-use crate::{LentLog, Progress};
+use crate::{Answer, LentLog};
 use plan::Plan;
 use refusal::Refusal;
 use state::State;
@@ -15,17 +15,17 @@ use state::State;
 pub fn run_kept(
     plan: Plan,
     scripts: &[u32],
-    state: State,
+    state: &mut State,
     cache: &mut [u16],
     boxes: &mut [u32],
     kept: &mut [u8],
     domain: u32,
     part: u64,
     limit: u64,
-) -> Result<Progress, Refusal>
-    ensures { run_with result state cache.new boxes.new kept.new
+) -> Result<Answer, Refusal>
+    ensures { run_with result state.new cache.new boxes.new kept.new
         ≡ kept_call_of plan scripts.now domain part
-        (world_with state cache.old boxes.old kept.old) limit }
+        (world_with state.old cache.old boxes.old kept.old) limit }
 {
     run_lent(
         LentLog::Part(domain, part),

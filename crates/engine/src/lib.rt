@@ -8,8 +8,6 @@ pub mod log_query;
 pub mod running;
 pub mod starting;
 
-use state::State;
-
 // How a run came to its end: the limit was reached first, or the run is over.
 #[derive(Drop)]
 pub enum Ending {
@@ -27,17 +25,7 @@ pub enum LentLog {
     Part(u32, u64),
 }
 
-// What a run that was not refused answers, beside the cache table, the boxes and the log.
-#[derive(Drop)]
-pub struct Progress {
-    // the number of steps done
-    pub steps: u64,
-    pub ending: Ending,
-    pub state: State,
-}
-
-// What a single step that was not refused answers, beside the state, the cache table, the boxes and
-// the log. A struct of its own: one generic over the state would hold `()` for it here.
+// What a run that was not refused answers, beside the state, the cache table, the boxes and the log.
 #[derive(Drop)]
 pub struct Answer {
     // the number of steps done

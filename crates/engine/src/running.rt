@@ -8,7 +8,7 @@ ghost use Rattle.engine.specs.Running.{ending_of, run_call_of};
 ghost use Rattle.engine.specs.Answers.{run_with};
 
 use crate::checks::{check_run, quota_of};
-use crate::{Ending, LentLog, Progress};
+use crate::{Answer, Ending, LentLog};
 use machine::stepping::run_steps;
 use plan::Plan;
 use plan::timing::windows_total;
@@ -40,32 +40,31 @@ impl From<LentLog> for Keep {
     }
 }
 
-// Running with a limit, by the log that is lent. All runs go through here, so that there is one
+// Running with a limit, by the log that is lent; the state is rewritten where it lies. All runs go through here, so that there is one
 // copy of the machine, and checks and steps stand in one function, where the tables' lengths are
 // known.
 pub fn run_lent(
     lent: LentLog,
     plan: Plan,
     scripts: &[u32],
-    state: State,
+    state: &mut State,
     cache: &mut [u16],
     boxes: &mut [u32],
     log: &mut [u8],
     limit: u64,
-) -> Result<Progress, Refusal>
-    ensures { run_with result state cache.new boxes.new log.new
+) -> Result<Answer, Refusal>
+    ensures { run_with result state.new cache.new boxes.new log.new
         ≡ lent_call_of lent plan scripts.now
-        (world_with state cache.old boxes.old log.old) limit }
+        (world_with state.old cache.old boxes.old log.old) limit }
 {
-    check_run(lent, plan, scripts, state, cache, boxes, log)?;
+    check_run(lent, plan, scripts, *state, cache, boxes, log)?;
     let keep = Keep::from(lent);
     let quota = quota_of(lent, plan, log.len());
-    let advance = run_steps(plan, scripts, keep, quota, limit, state, cache, boxes, log);
-    let last = advance.state;
-    Ok(Progress {
+    let advance = run_steps(plan, scripts, keep, quota, limit, *state, cache, boxes, log);
+    *state = advance.state;
+    Ok(Answer {
         steps: advance.steps,
-        ending: ending_of(plan, last),
-        state: last,
+        ending: ending_of(plan, advance.state),
     })
 }
 
@@ -73,15 +72,15 @@ pub fn run_lent(
 pub fn run(
     plan: Plan,
     scripts: &[u32],
-    state: State,
+    state: &mut State,
     cache: &mut [u16],
     boxes: &mut [u32],
     log: &mut [u8],
     limit: u64,
-) -> Result<Progress, Refusal>
-    ensures { run_with result state cache.new boxes.new log.new
+) -> Result<Answer, Refusal>
+    ensures { run_with result state.new cache.new boxes.new log.new
         ≡ run_call_of plan scripts.now
-        (world_with state cache.old boxes.old log.old) limit }
+        (world_with state.old cache.old boxes.old log.old) limit }
 {
     run_lent(
         LentLog::Whole,

@@ -35,17 +35,15 @@ pub fn run_numbers(
         return refuse_length(answer);
     }
     let handed = load_plan(plan);
-    let before = load_state(state);
-    match run_lent(lent, handed, scripts, before, cache, boxes, log, limit) {
-        Ok(progress) => {
-            let ended = ending_number(progress.ending);
-            store_state(state, progress.state);
-            put_answer(answer, Ok(()), progress.steps, ended)
+    let mut held = load_state(state);
+    let ran = run_lent(lent, handed, scripts, &mut held, cache, boxes, log, limit);
+    store_state(state, held);
+    match ran {
+        Ok(done) => {
+            let ended = ending_number(done.ending);
+            put_answer(answer, Ok(()), done.steps, ended)
         }
-        Err(refusal) => {
-            store_state(state, before);
-            refuse(answer, refusal)
-        }
+        Err(refusal) => refuse(answer, refusal),
     }
 }
 

@@ -31,16 +31,12 @@ fn advance_once(
     requires { (length plan.now ≡ plan_length) × (length state.old ≡ state_length) }
 {
     let lent = load_plan(plan);
-    let before = load_state(state);
-    match step(lent, scripts, before, cache, boxes, log) {
-        Ok(progress) => {
-            store_state(state, progress.state);
-            put_answer(
-                answer,
-                Ok(()),
-                progress.steps,
-                ending_number(progress.ending),
-            );
+    let mut held = load_state(state);
+    let ran = step(lent, scripts, &mut held, cache, boxes, log);
+    store_state(state, held);
+    match ran {
+        Ok(done) => {
+            put_answer(answer, Ok(()), done.steps, ending_number(done.ending));
         }
         Err(refusal) => {
             refuse(answer, refusal);

@@ -16,7 +16,7 @@ run_steps-advance-requires c =
     let ok = call_accepted _ _ _ _ (sym c.check_run.ensures ∙ c.in_ok-check_run.was) in
     let quota = c.quota_of-quota.ensures in (
       ok.tables.possible,
-      ap (λ (n : ℕ). state_valid args.plan n args.state) quota ∙ ok.state_is,
+      ap (λ (n : ℕ). state_valid args.plan n args.state.now) quota ∙ ok.state_is,
       ok.tables.scripts_long,
       ok.tables.cache_long,
       ok.tables.boxes_long,

@@ -2,7 +2,7 @@
 use mathlib.Core.Path.{ap, refl, sym, ◌∙◌}
 use Rattle.std.specs.Prelude.{Result}
 use Rattle.engine.specs.Answers.{run_with}
-use Rattle.engine.specs.declared.Progress.{Progress}
+use Rattle.engine.specs.declared.Answer.{Answer}
 use Rattle.refusal.specs.declared.Refusal.{Refusal}
 use Rattle.engine.specs.LentLog.{lent_call_of}
 use Rattle.pirkvezo.proofs.Judged.{lent_alike}
@@ -22,8 +22,8 @@ load_plan-handed-requires c =
     let start = c.args in
     (lengths start.plan.now start.state.now start.answer.now (sym c.all_fit.ensures ∙ c.if-not-all_fit.false)).plan_is
 
-pub load_state-before-requires : goal.load_state-before-requires
-load_state-before-requires c =
+pub load_state-held-requires : goal.load_state-held-requires
+load_state-held-requires c =
     let start = c.args in
     (lengths start.plan.now start.state.now start.answer.now (sym c.all_fit.ensures ∙ c.if-not-all_fit.false)).state_is
 
@@ -32,22 +32,17 @@ store_state-requires c =
     let start = c.args in
     (lengths start.plan.now start.state.now start.answer.now (sym c.all_fit.ensures ∙ c.if-not-all_fit.false)).state_is
 
-pub store_state-requires-in-Err : goal.store_state-requires-in-Err
-store_state-requires-in-Err c =
-    let start = c.args in
-    (lengths start.plan.now start.state.now start.answer.now (sym c.all_fit.ensures ∙ c.if-not-all_fit.false)).state_is
-
 pub returns-in-Ok : goal.returns-in-Ok
 returns-in-Ok c =
     let start = c.args in
-    let ran = c.run_lent in
+    let ran = c.run_lent-ran in
     run_fit (λ handed world. lent_call_of start.lent handed start.scripts.now world start.limit)
     start.plan.now start.state.now start.cache.now start.boxes.now start.log.now
     start.answer.now _ _ (λ world. lent_alike start.lent start.scripts.now world start.limit) _ _ _ _ _ _ _ _ _ _ _
     (sym c.all_fit.ensures ∙ c.if-not-all_fit.false)
     c.load_plan-handed.ensures
-    c.load_state-before.ensures
-    (ap (λ (progress : Result Progress Refusal). run_with progress c.load_state-before.result ran.new.cache ran.new.boxes ran.new.log)
+    c.load_state-held.ensures
+    (ap (λ (done : Result Answer Refusal). run_with done ran.new.state ran.new.cache ran.new.boxes ran.new.log)
     (sym c.in-Ok.is) ∙ ran.ensures)
     c.ending_number-ended.ensures
     c.store_state.ensures
@@ -56,15 +51,15 @@ returns-in-Ok c =
 pub returns-in-Err : goal.returns-in-Err
 returns-in-Err c =
     let start = c.args in
-    let ran = c.run_lent in
+    let ran = c.run_lent-ran in
     run_fit (λ handed world. lent_call_of start.lent handed start.scripts.now world start.limit)
     start.plan.now start.state.now start.cache.now start.boxes.now start.log.now
     start.answer.now _ _ (λ world. lent_alike start.lent start.scripts.now world start.limit) _ _ _ _ _ _ _ _ _ _ _
     (sym c.all_fit.ensures ∙ c.if-not-all_fit.false)
     c.load_plan-handed.ensures
-    c.load_state-before.ensures
-    (ap (λ (progress : Result Progress Refusal). run_with progress c.load_state-before.result ran.new.cache ran.new.boxes ran.new.log)
+    c.load_state-held.ensures
+    (ap (λ (done : Result Answer Refusal). run_with done ran.new.state ran.new.cache ran.new.boxes ran.new.log)
     (sym c.in-Err.is) ∙ ran.ensures)
     refl
-    c.store_state-in-Err.ensures
+    c.store_state.ensures
     (told c.refuse.ensures)
