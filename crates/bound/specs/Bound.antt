@@ -1,7 +1,7 @@
 -- Document 02, E3: how many steps a run from a fresh start can take at most, and what is answered to
 -- one who asks (`step_bound`). A step is an op or a switch, and each kind has its own part of the
 -- bound. Assumes nothing.
-use Rattle.std.specs.Prelude.{ℕ, ◌+◌, List, eqb, length, Ok, Err}
+use Rattle.std.specs.Prelude.{ℕ, ◌+◌, List, eqb, length, Ok, Err, Result}
 use Rattle.plan.specs.declared.Plan.{Plan}
 use Rattle.plan.specs.Limits.{most_domains}
 use Rattle.plan.specs.Sums.{sum_to}
@@ -13,7 +13,6 @@ use Rattle.refusal.specs.Checks.{unless}
 use Rattle.refusal.specs.declared.Refusal.TheVariants.{ImpossiblePlan, WrongLength}
 use Rattle.refusal.specs.Verdict.{Verdict}
 use Rattle.refusal.specs.declared.Refusal.{Refusal}
-use Rattle.std.specs.Prelude.{Result}
 
 -- the ops: those stored in all scripts, of undeclared domains too
 unfoldable pub ops_stored : List ℕ → ℕ

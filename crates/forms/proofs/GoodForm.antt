@@ -18,14 +18,13 @@ use Rattle.syntax.proofs.GoodList.{GoodList, GoodPassed, Recorded, list_good}
 use Rattle.syntax.proofs.PastOp.{then_op_lem}
 use Rattle.syntax.specs.declared.RecipientList.{RecipientList}
 use Rattle.syntax.specs.Recipients.{recipients_at}
-use Rattle.syntax.specs.Tokens.{then}
+use Rattle.syntax.specs.Tokens.{then, numeral_with}
 use Rattle.lexer.proofs.Reached.{cond_holds}
 use Rattle.forms.specs.declared.Form.{Form}
 use Rattle.forms.specs.declared.Form.TheVariants.{Blank, Pad, Run, Domain, Window, Op as Script}
 use Rattle.forms.specs.declared.DomainParse.{DomainParse}
 use Rattle.forms.specs.Forms.{declared_domain, domain_form, listed_domain, may_form, next_domain, op_form, pad_form, refused_domain, run_form, window_form}
 use Rattle.syntax.specs.declared.Numeral.{Numeral}
-use Rattle.syntax.specs.Tokens.{numeral_with}
 
 -- with `declared` domains above and `named` noted there; `marked` is noted once the form is read, and it reaches from `at` to `end`
 abbrev pub GoodForm : ℕ → List ℕ → List ℕ → ℕ → ℕ → Result Form Refusal → Type 0

@@ -12,12 +12,11 @@ use Rattle.syntax.specs.declared.RecipientList.{RecipientList}
 use Rattle.syntax.specs.Brackets.{bracketed_number, bracketed_op, pass_head}
 use Rattle.syntax.specs.Ops.{then_op}
 use Rattle.syntax.specs.Recipients.{recipients_at}
-use Rattle.syntax.specs.Tokens.{take_number, then, then_number}
+use Rattle.syntax.specs.Tokens.{take_number, then, then_number, numeral_with}
 use Rattle.forms.specs.declared.Form.{Form}
 use Rattle.forms.specs.declared.Form.TheVariants.{Pad, Run, Domain, Window, Op as Script}
 use Rattle.forms.specs.declared.DomainParse.{DomainParse}
 use Rattle.syntax.specs.declared.Numeral.{Numeral}
-use Rattle.syntax.specs.Tokens.{numeral_with}
 
 -- going on from a form, or handing the refusal on
 abbrev pub then_form : {A : Type 0} → Result (Form × ℕ) Refusal → (Refusal → A) → (Form → ℕ → A) → A

@@ -1,5 +1,5 @@
 -- Document 02, E1: what the frame maker (`make_frame`) answers. Assumes nothing.
-use Rattle.std.specs.Prelude.{ℕ, Bool, true, false, not, ◌&&◌, List, eqb, leb, replicate, Ok, Err}
+use Rattle.std.specs.Prelude.{ℕ, Bool, true, false, not, ◌&&◌, List, eqb, leb, replicate, Ok, Err, Result}
 use Rattle.plan.specs.Limits.{least_windows, most_domains, most_windows}
 use Rattle.plan.specs.Sums.{all_below}
 use Rattle.plan.specs.Validity.{within}
@@ -9,7 +9,6 @@ use Rattle.frame.specs.Quotas.{entry_of, window_count}
 use Rattle.frame.specs.Turns.{first_turns, zero_filled}
 use Rattle.refusal.specs.Verdict.{Verdict}
 use Rattle.refusal.specs.declared.Refusal.{Refusal}
-use Rattle.std.specs.Prelude.{Result}
 
 -- every weight is within its limit; the least, 0, is the least number there is
 unfoldable pub weights_within : List ℕ → Bool

@@ -1,6 +1,6 @@
 -- Document 02, E6: what is answered to one who asks for the latest finish of a domain (`latest`),
 -- and what is left in the buffer that it lent. Assumes nothing.
-use Rattle.std.specs.Prelude.{ℕ, Bool, true, cond, ◌&&◌, List, eqb, ltb, get_or, length, Ok, Err}
+use Rattle.std.specs.Prelude.{ℕ, Bool, true, cond, ◌&&◌, List, eqb, ltb, get_or, length, Ok, Err, Result}
 use Rattle.plan.specs.declared.Plan.{Plan}
 use Rattle.plan.specs.Sums.{all_below}
 use Rattle.plan.specs.Validity.{plan_valid, within}
@@ -14,7 +14,6 @@ use Rattle.latest.specs.Reach.{first_window, owns_window}
 use Rattle.latest.specs.Script.{latest_script}
 use Rattle.refusal.specs.Verdict.{Verdict}
 use Rattle.refusal.specs.declared.Refusal.{Refusal}
-use Rattle.std.specs.Prelude.{Result}
 
 -- a declared window is another domain's, or within the limits
 unfoldable pub window_fits : Plan → ℕ → ℕ → Bool

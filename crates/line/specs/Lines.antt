@@ -1,6 +1,6 @@
 -- Document 01, "The plan text": one form a line; lines without a token allowed. `named` is as in
 -- the domain form of crate forms. Assumes nothing.
-use Rattle.std.specs.Prelude.{ℕ, ◌+◌, cond, List, [], ◌∷◌, eqb, Result}
+use Rattle.std.specs.Prelude.{ℕ, ◌+◌, cond, List, [], ◌∷◌, eqb, Result, Ok, Err}
 use Rattle.forms.specs.declared.DomainParse.{DomainParse}
 use Rattle.forms.specs.declared.Form.{Form}
 use Rattle.forms.specs.declared.Form.TheVariants.{Blank}
@@ -11,8 +11,6 @@ use Rattle.syntax.specs.Tokens.{due, pass_close, pass_line_end, then}
 use Rattle.lexer.specs.declared.Token.{Token}
 use Rattle.lexer.specs.Tokens.{line_end_kind, open_kind, token_at, token_kind, token_start}
 use Rattle.line.specs.declared.Line.{Line}
-use Rattle.std.specs.Prelude.{Ok}
-use Rattle.std.specs.Prelude.{Err}
 
 -- a refused line; on refusal its end is unspecified, and 0 stands there
 abbrev pub refused_line : ℕ → List ℕ → Refusal → Line

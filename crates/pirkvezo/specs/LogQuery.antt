@@ -1,6 +1,6 @@
 -- `pirkvezo_log`: document 01's log query and its status query ("What a domain sees", "The plan
 -- text"), in numbers: what it returns and leaves, for every input. Assumes nothing.
-use Rattle.std.specs.Prelude.{ℕ, true, false, List, length, Ok, Err}
+use Rattle.std.specs.Prelude.{ℕ, true, false, List, length, Ok, Err, Result}
 use Rattle.plan.specs.declared.Plan.{Plan}
 use Rattle.records.specs.Records.{part_records, record_index}
 use Rattle.state.specs.declared.State.{State}
@@ -10,7 +10,6 @@ use Rattle.pirkvezo.specs.Answers.{all_fit, answer_of, verdict_number, wrong_len
 use Rattle.pirkvezo.specs.Numbers.{plan_of, state_of}
 use Rattle.refusal.specs.Verdict.{Verdict}
 use Rattle.refusal.specs.declared.Refusal.{Refusal}
-use Rattle.std.specs.Prelude.{Result}
 
 -- the number returned, and the answer after the call
 pub record LogCall : Type 0 where

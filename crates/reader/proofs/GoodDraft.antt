@@ -31,9 +31,7 @@ use Rattle.reader.specs.declared.Draft.{Draft}
 use Rattle.reader.specs.declared.DraftResult.{DraftResult}
 use Rattle.reader.specs.Draft.{DraftOutcome, no_draft, take_domain, take_form, take_line, take_op, take_pad, take_run, take_window}
 use Rattle.refusal.specs.declared.Refusal.{Refusal}
-use Rattle.std.specs.Prelude.{Ok}
-use Rattle.std.specs.Prelude.{Err}
-use Rattle.std.specs.Prelude.{Result}
+use Rattle.std.specs.Prelude.{Ok, Err, Result}
 
 -- ---- domains
 

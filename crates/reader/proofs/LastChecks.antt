@@ -1,6 +1,6 @@
 -- Laws of the checks after the last line: the first undeclared recipient, the first domain without a colour, and what a
 -- draft that passes is known to satisfy. Assumes nothing.
-use Rattle.std.specs.Prelude.{Ok, Err}
+use Rattle.std.specs.Prelude.{Ok, Err, Option, Some, None, length, ltb, not}
 use Prim.Native.Nat.{ℕ, zero, suc, ◌+◌, ◌-◌, ◌≤◌, ◌<◌}
 use native.Mathlib.Omega.{arith}
 use mathlib.Core.Bool.{Bool, true, false, cond}
@@ -17,7 +17,6 @@ use Rattle.refusal.proofs.Passed.{both_passed, not_refused, when_passed}
 use Rattle.refusal.specs.declared.Refusal.TheVariants.{WrongDomain}
 use Rattle.syntax.proofs.Choices.{same_or_not}
 use Rattle.reader.specs.declared.Draft.{Draft}
-use Rattle.std.specs.Prelude.{Option, Some, None, length, ltb, not}
 use Rattle.std.specs.List.{position_or_len, range_with_len}
 use Rattle.std.specs.Option.{unwrap_or}
 use Rattle.reader.specs.Final.{earlier_kept, final_verdict, first_colourless, first_of, lacking, may_verdict, mentions_from}

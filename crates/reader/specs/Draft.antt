@@ -1,6 +1,6 @@
 -- Document 01, "The plan text": what a good line adds to the plan and the scripts; at a line's end 5 and
 -- 10. A refused line adds nothing. Assumes nothing.
-use Rattle.std.specs.Prelude.{ℕ, ◌+◌, ◌*◌, cond, List, eqb, leb, get_or, replicate, set, Ok, Err}
+use Rattle.std.specs.Prelude.{ℕ, ◌+◌, ◌*◌, cond, List, eqb, leb, get_or, replicate, set, Ok, Err, Result}
 use Rattle.forms.specs.declared.DomainLine.{DomainLine}
 use Rattle.forms.specs.declared.Form.{Form}
 use Rattle.forms.specs.declared.Form.TheVariants.{Blank, Pad, Run, Domain, Window, Op}
@@ -18,7 +18,6 @@ use Rattle.script.specs.Stored.{stored_of}
 use Rattle.reader.specs.declared.Draft.{Draft}
 use Rattle.reader.specs.declared.DraftResult.{DraftResult}
 use Rattle.refusal.specs.Verdict.{Verdict}
-use Rattle.std.specs.Prelude.{Result}
 
 -- before the first line
 unfoldable pub no_draft : Draft

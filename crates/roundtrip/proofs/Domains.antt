@@ -20,7 +20,7 @@ use Rattle.plan.specs.Limits.{least_share, most_domains, most_share}
 use Rattle.plan.specs.Rights.{rights_at}
 use Rattle.refusal.specs.declared.Refusal.TheVariants.{WrongDomain}
 use Rattle.script.specs.Limits.{last_domain}
-use Rattle.syntax.specs.Tokens.{same_bytes}
+use Rattle.syntax.specs.Tokens.{same_bytes, numeral_with}
 use Rattle.lexer.specs.Bytes.{ends_run}
 use Rattle.lexer.specs.Decimal.{decimal_of}
 use Rattle.lexer.specs.Scan.{all_bytes}
@@ -30,7 +30,6 @@ use Rattle.writer.specs.Lines.{domain_line, recipients_of, spaced}
 use Rattle.roundtrip.proofs.Due.{Takes, bracketed_takes, head_goes, number_takes, then_goes, then_takes}
 use Rattle.roundtrip.proofs.Lines.{Reads, closed_reads, line_reads, selected}
 use Rattle.roundtrip.proofs.Recipients.{Quiet, recipients_list, spaced_ends}
-use Rattle.syntax.specs.Tokens.{numeral_with}
 
 abbrev form : ℕ → ℕ → Form
 form share rights = Domain (record { share = share; rights = rights })

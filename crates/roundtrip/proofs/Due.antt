@@ -13,7 +13,7 @@ use Rattle.lists.specs.Ascii.{bytes_of}
 use Rattle.lists.specs.Part.{part}
 use Rattle.refusal.specs.declared.Refusal.{Refusal}
 use Rattle.syntax.specs.Brackets.{bracketed_number, pass_head}
-use Rattle.syntax.specs.Tokens.{is_word, pass_close, pass_line_end, pass_open, pass_word, same_bytes, take_number, then, then_number}
+use Rattle.syntax.specs.Tokens.{is_word, pass_close, pass_line_end, pass_open, pass_word, same_bytes, take_number, then, then_number, numeral_with}
 use Rattle.lexer.specs.Bytes.{ends_run, is_letter}
 use Rattle.lexer.specs.Decimal.{decimal_of}
 use Rattle.lexer.specs.Scan.{all_bytes}
@@ -21,7 +21,6 @@ use Rattle.lexer.proofs.Scanned.{close_token, end_token, feed_token, left_next, 
 use Rattle.lexer.proofs.Spelled.{number_token, word_token}
 use Rattle.writer.specs.Canonical.{followed}
 use Rattle.syntax.specs.declared.Numeral.{Numeral}
-use Rattle.syntax.specs.Tokens.{numeral_with}
 
 -- what was due was there, and this is left past it
 pub record Goes (text rest : List ℕ) (passed : Result ℕ Refusal) : Type 0 where

@@ -15,7 +15,7 @@ use Rattle.plan.specs.declared.Plan.{Plan}
 use Rattle.plan.specs.Limits.{least_length, least_pad, least_run, most_domains, most_length, most_pad, most_run}
 use Rattle.refusal.specs.declared.Refusal.TheVariants.{WrongDomain}
 use Rattle.script.specs.Limits.{last_domain}
-use Rattle.syntax.specs.Tokens.{same_bytes}
+use Rattle.syntax.specs.Tokens.{same_bytes, numeral_with}
 use Rattle.lexer.specs.Bytes.{ends_run}
 use Rattle.lexer.specs.Decimal.{decimal_of}
 use Rattle.lexer.specs.Scan.{all_bytes}
@@ -24,7 +24,6 @@ use Rattle.writer.specs.Canonical.{followed}
 use Rattle.writer.specs.Lines.{pad_line, run_line, window_line}
 use Rattle.roundtrip.proofs.Due.{Takes, bracketed_takes, number_takes, then_takes}
 use Rattle.roundtrip.proofs.Lines.{Reads, Within, closed_reads, line_reads, selected}
-use Rattle.syntax.specs.Tokens.{numeral_with}
 
 -- ---- what stands within the brackets, past the word
 

@@ -1,6 +1,6 @@
 -- Reading the lines of the ops, after those of the plan: the store so far is the scripts' up to where they are read, with zeros
 -- elsewhere. Assumes nothing.
-use Rattle.std.specs.Prelude.{Option, Some, None}
+use Rattle.std.specs.Prelude.{Option, Some, None, Ok}
 use Prim.Native.Nat.{ℕ, zero, suc, ◌+◌, ◌-◌, ◌*◌, ◌≤◌, ◌<◌}
 use native.Mathlib.Omega.{arith}
 use mathlib.Core.Bool.{true}
@@ -29,7 +29,6 @@ use Rattle.roundtrip.proofs.Alone.{past_parts, past_script}
 use Rattle.roundtrip.proofs.Filled.{filled_all, filled_more, filled_none, filled_through, first_entries}
 use Rattle.roundtrip.proofs.Ops.{op_reads}
 use Rattle.roundtrip.proofs.Walk.{Gathered, Stands, before_ops, draft_of, next_line}
-use Rattle.std.specs.Prelude.{Ok}
 
 -- ---- the numbers of ops so far
 

@@ -15,7 +15,7 @@ use Rattle.refusal.specs.declared.Refusal.{Refusal}
 use Rattle.refusal.specs.declared.Refusal.TheVariants.{BrokenShape, NumberOutOfLimits}
 use Rattle.syntax.specs.Brackets.{bracketed_number, pass_head}
 use Rattle.syntax.specs.Keywords.{Keyword, follows, one_of}
-use Rattle.syntax.specs.Tokens.{due, is_word, pass_close, pass_line_end, pass_open, pass_word, take_number, then, then_number}
+use Rattle.syntax.specs.Tokens.{due, is_word, pass_close, pass_line_end, pass_open, pass_word, take_number, then, then_number, numeral_with}
 use Rattle.syntax.proofs.Choices.{choice_holds, same_or_not}
 use Rattle.syntax.proofs.Words.{same_lengths}
 use Rattle.lexer.specs.Decimal.{decimal_of}
@@ -24,7 +24,6 @@ use Rattle.lexer.proofs.Reached.{cond_holds, token_bounds}
 use Rattle.shortest.proofs.Runs.{RunOver}
 use Rattle.shortest.proofs.Tokens.{bracket_long, token_spans}
 use Rattle.syntax.specs.declared.Numeral.{Numeral}
-use Rattle.syntax.specs.Tokens.{numeral_with}
 
 -- ---- by the next token
 

@@ -14,7 +14,7 @@ use Rattle.refusal.specs.declared.Refusal.TheVariants.{WrongDomain}
 use Rattle.script.specs.Limits.{last_domain}
 use Rattle.syntax.specs.declared.RecipientList.{RecipientList}
 use Rattle.syntax.specs.Recipients.{recipients_at}
-use Rattle.syntax.specs.Tokens.{then}
+use Rattle.syntax.specs.Tokens.{then, numeral_with}
 use Rattle.forms.specs.declared.DomainParse.{DomainParse}
 use Rattle.forms.specs.declared.Form.{Form}
 use Rattle.forms.specs.declared.Form.TheVariants.{Blank, Pad, Run, Domain, Window, Op as Script}
@@ -27,7 +27,6 @@ use Rattle.shortest.proofs.Due.{Spaced, Takes, by_taken, then_bracketed, then_he
 use Rattle.shortest.proofs.Ops.{then_op_lem}
 use Rattle.shortest.proofs.Recipients.{CoversList, CoversPassed, list_covers}
 use Rattle.shortest.proofs.Runs.{RunOver}
-use Rattle.syntax.specs.Tokens.{numeral_with}
 
 -- a line's form in its canonical spelling, and nothing of a refused line
 abbrev pub spelled_line : ℕ → Result Form Refusal → List ℕ

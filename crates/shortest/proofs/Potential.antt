@@ -30,11 +30,9 @@ use Rattle.writer.specs.Lines.{domain_text, op_line, pad_text, run_text, window_
 use Rattle.shortest.specs.Spelled.{spelled}
 use Rattle.shortest.proofs.Store.{Room, Stored, counts_with, count_here, count_other, fetch_here, fetch_other, store_with, stored_declared, stored_more}
 use Rattle.shortest.proofs.Within.{OpFits}
-use Rattle.std.specs.Prelude.{Ok}
-use Rattle.std.specs.Prelude.{Err}
+use Rattle.std.specs.Prelude.{Ok, Err, Result}
 use Rattle.shortest.proofs.Forms.{spelled_line}
 use Rattle.refusal.specs.declared.Refusal.{Refusal}
-use Rattle.std.specs.Prelude.{Result}
 
 -- ---- sums
 

@@ -1,6 +1,6 @@
 -- The walk over the lines of a text: the canonical lines of what was read never have more bytes than the lines that gave it. Assumes
 -- nothing.
-use Rattle.std.specs.Prelude.{Ok, Err}
+use Rattle.std.specs.Prelude.{Ok, Err, Result}
 use Prim.Native.Nat.{ℕ, zero, suc, ◌+◌, ◌≤◌, ◌<◌}
 use native.Mathlib.Omega.{arith}
 use mathlib.Core.Bool.{Bool, true, false}
@@ -30,7 +30,6 @@ use Rattle.shortest.proofs.Within.{line_within}
 use Rattle.refusal.specs.Verdict.{Verdict}
 use Rattle.shortest.proofs.Forms.{spelled_line}
 use Rattle.refusal.specs.declared.Refusal.{Refusal}
-use Rattle.std.specs.Prelude.{Result}
 
 -- a draft and its store, with this many bytes at most in the canonical lines of both
 pub record Holds (draft : Draft) (store : List ℕ) (bytes : ℕ) : Type 0 where

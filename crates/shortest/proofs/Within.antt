@@ -18,11 +18,10 @@ use Rattle.script.specs.declared.Op.TheVariants.{Read, Write, Send, Receive, Com
 use Rattle.script.specs.Limits.{OpWithinLimits, last_domain, least_ticks, most_number, most_ticks, most_word}
 use Rattle.syntax.specs.Brackets.{bracketed_op}
 use Rattle.syntax.specs.Ops.{number_op, op_at, op_keywords, send_op, then_op}
-use Rattle.syntax.specs.Tokens.{then_number}
+use Rattle.syntax.specs.Tokens.{then_number, numeral_with}
 use Rattle.syntax.proofs.Advance.{then_close, then_line_end, then_number_lem, then_open}
 use Rattle.syntax.proofs.ByKeyword.{one_of_holds}
 use Rattle.syntax.specs.declared.Numeral.{Numeral}
-use Rattle.syntax.specs.Tokens.{numeral_with}
 
 -- ---- an op
 

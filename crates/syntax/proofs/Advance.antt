@@ -16,8 +16,7 @@ use Rattle.lexer.specs.declared.Token.{Token}
 use Rattle.lexer.specs.declared.Token.TheVariants.{LineEnd, Open, Close, Word, Number, LongNumber, Other}
 use Rattle.lexer.specs.Tokens.{close_kind, line_end_kind, open_kind, token_at, token_end, token_kind, token_start, word_kind}
 use Rattle.syntax.specs.Brackets.{bracketed_number, pass_head}
-use Rattle.syntax.specs.Tokens.{due, is_word, number_within, pass_close, pass_line_end, pass_open, pass_word, take_number, then, then_number}
-use Rattle.syntax.specs.Tokens.{numeral_with}
+use Rattle.syntax.specs.Tokens.{due, is_word, number_within, pass_close, pass_line_end, pass_open, pass_word, take_number, then, then_number, numeral_with}
 use Rattle.syntax.specs.declared.Numeral.{Numeral}
 
 -- ---- a bracket, a word, a line's end

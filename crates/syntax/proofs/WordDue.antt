@@ -13,8 +13,7 @@ use Rattle.lexer.specs.declared.Token.TheVariants.{Other}
 use Rattle.lexer.specs.Tokens.{token_at, token_kind, token_start, word_kind}
 use Rattle.refusal.specs.declared.Refusal.{Refusal}
 use Rattle.refusal.specs.declared.Refusal.TheVariants.{BrokenShape}
-use Rattle.syntax.specs.Tokens.{due, word_at}
-use Rattle.syntax.specs.Tokens.{span_with}
+use Rattle.syntax.specs.Tokens.{due, word_at, span_with}
 use Rattle.syntax.specs.declared.Span.{Span}
 
 -- a word that was found is the token

@@ -2,11 +2,10 @@
 -- on is past the closing bracket. Assumes nothing.
 use Rattle.std.specs.Prelude.{ℕ, List, Result, Ok, Err}
 use Rattle.syntax.specs.Ops.{op_at, then_op}
-use Rattle.syntax.specs.Tokens.{pass_close, pass_open, pass_word, take_number, then, then_number}
+use Rattle.syntax.specs.Tokens.{pass_close, pass_open, pass_word, take_number, then, then_number, numeral_with}
 use Rattle.syntax.specs.declared.Numeral.{Numeral}
 use Rattle.script.specs.declared.Op.{Op}
 use Rattle.refusal.specs.declared.Refusal.{Refusal}
-use Rattle.syntax.specs.Tokens.{numeral_with}
 
 -- an opening bracket and this word, as in `(may`
 unfoldable pub pass_head : List ℕ → List ℕ → ℕ → Result ℕ Refusal

@@ -1,6 +1,6 @@
 -- Document 02, E4: what is answered to one who asks for the canonical text (`write_plan`), and the buffer
 -- that is left. 11, then 12, then 17. Assumes nothing.
-use Rattle.std.specs.Prelude.{ℕ, Bool, ◌&&◌, List, ◌++◌, eqb, leb, ltb, drop, length, Ok, Err}
+use Rattle.std.specs.Prelude.{ℕ, Bool, ◌&&◌, List, ◌++◌, eqb, leb, ltb, drop, length, Ok, Err, Result}
 use Rattle.plan.specs.declared.Plan.{Plan}
 use Rattle.plan.specs.Limits.{most_text_bytes}
 use Rattle.plan.specs.Validity.{plan_valid}
@@ -11,7 +11,6 @@ use Rattle.writer.specs.Canonical.{canonical_text}
 use Rattle.writer.specs.Scripts.{ops_alone}
 use Rattle.refusal.specs.Verdict.{Verdict}
 use Rattle.refusal.specs.declared.Refusal.{Refusal}
-use Rattle.std.specs.Prelude.{Result}
 
 -- 12 refuses every other plan and scripts: the plan is valid, the store holds its ops alone, and the text is
 -- no longer than one that is read. That these are the pairs that an accepted text gives is proved in crate

@@ -19,7 +19,8 @@ sum-requires-clause-fits c =
     let rule : ℕ → ℕ = λ other. cond (is_ahead (entry_of c.args.remainders) other c.args.domain) 1 0 in
     let fits = count_most (λ other. is_ahead (entry_of c.args.remainders) other c.args.domain) most_domains in
     fits_by_from_yields_list rule (range_with_len 0 most_domains) c.map.result _
-    (YieldsList-from_map _ rule (YieldsList-at c.map.ensures.source (YieldsList-from_range 0 most_domains most_domains refl refl)) c.map.ensures.closure (λ other number after call. search (rules, number_of)))
+    (YieldsList-from_map _ rule (YieldsList-at c.map.ensures.source (YieldsList-from_range 0 most_domains most_domains refl refl))
+    c.map.ensures.closure (λ other number after call. search (rules, number_of)))
     (rw (sum_range rule most_domains) (omega arith))
 
 pub returns : goal.returns
@@ -27,5 +28,6 @@ unfolding rank count_below
 returns c =
     let rule : ℕ → ℕ = λ other. cond (is_ahead (entry_of c.args.remainders) other c.args.domain) 1 0 in
     sum_by_from_yields_List rule (range_with_len 0 most_domains) c.map.result _ c.sum.ensures.ran
-    (YieldsList-from_map _ rule (YieldsList-at c.map.ensures.source (YieldsList-from_range 0 most_domains most_domains refl refl)) c.map.ensures.closure (λ other number after call. search (rules, number_of)))
+    (YieldsList-from_map _ rule (YieldsList-at c.map.ensures.source (YieldsList-from_range 0 most_domains most_domains refl refl))
+    c.map.ensures.closure (λ other number after call. search (rules, number_of)))
     ∙ sum_range rule most_domains
