@@ -1,13 +1,7 @@
 -- `write_back` meets its contract: a line that is put out is used as any other. Assumes nothing.
 use mathlib.Core.Path.{refl}
-use borrow.Author.Rules.{rules}
 use Rattle.cache.specs.Access.{written_back}
 use Rattle.cache.proofs.write_back.Goals as goal
-
-pub use_line-requires : goal.use_line-requires
-use_line-requires c =
-    let small = c.requires.1 _ c.in-Some.is in
-    search (rules, small)
 
 pub returns-in-None : goal.returns-in-None
 unfolding written_back

@@ -8,11 +8,6 @@ returns-then-not-owns_line c =
     λ plan boxes handed.
     touch_barred _ _ _ _ _ boxes (sym (c.owns_line.ensures.1 plan handed) ∙ c.if-not-owns_line.true)
 
-pub access-accessed-requires : goal.access-accessed-requires
-access-accessed-requires c =
-    let owns = c.if-not-owns_line.false in
-    (c.requires.1, c.owns_line.ensures.0 owns)
-
 pub returns : goal.returns
 returns c =
     let test = c in

@@ -1,14 +1,7 @@
 -- `records::place_of` meets its contract. Assumes nothing.
-use native.Mathlib.Omega.{arith}
 use borrow.Author.Tests.{eq-eqb, ne_eqb}
 use Rattle.records.specs.Records.{only_of}
 use Rattle.records.proofs.place_of.Goals as goal
-
-pub overflow_mul-result : goal.overflow_mul-result
-overflow_mul-result c = omega (arith, rw c.in-Every.is at c.requires)
-
-pub returns-in-Every : goal.returns-in-Every
-returns-in-Every c = simp c.in-Every.is
 
 pub returns-then-domain-named : goal.returns-then-domain-named
 unfolding only_of

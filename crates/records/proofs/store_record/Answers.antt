@@ -1,20 +1,9 @@
 -- `records::store_record` meets its contract. Assumes nothing.
 use mathlib.Core.Path.{refl}
-use native.Mathlib.Omega.{arith}
 use Rattle.records.specs.Records.{stored_at}
-use Rattle.records.proofs.Places.{from_ends}
 use Rattle.records.proofs.store_record.Goals as goal
 
 -- the record has its room in the log
-pub overflow_add-at : goal.overflow_add-at
-overflow_add-at c = omega (arith, from_ends _ _ _ _ c.in-Some.is c.requires)
-
-pub overflow_mul-at : goal.overflow_mul-at
-overflow_mul-at c = omega (arith, from_ends _ _ _ _ c.in-Some.is c.requires)
-
-pub write_record-requires : goal.write_record-requires
-write_record-requires c = omega (arith, from_ends _ _ _ _ c.in-Some.is c.requires)
-
 pub returns-in-Some : goal.returns-in-Some
 unfolding stored_at
 returns-in-Some c =

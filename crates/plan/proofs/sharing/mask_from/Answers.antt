@@ -1,11 +1,6 @@
 -- `plan::sharing::mask_from` meets its contract. Assumes nothing.
-use native.Mathlib.Omega.{arith}
-use lib.Pow.{pow_pos}
-use Rattle.plan.proofs.Bits.{mask_fits, mask_shifted, one_shifted}
+use Rattle.plan.proofs.Bits.{mask_fits, mask_shifted}
 use Rattle.plan.proofs.sharing.mask_from.Goals as goal
-
-pub overflow_sub-ones : goal.overflow_sub-ones
-overflow_sub-ones c = rw (one_shifted c.args.count (omega arith)) (pow_pos c.args.count)
 
 pub overflow_cast-result : goal.overflow_cast-result
 overflow_cast-result c = record { fits = rw (mask_shifted c.args.first c.args.count c.requires) (mask_fits c.args.first c.args.count c.requires) }

@@ -7,9 +7,6 @@ use Rattle.plan.specs.Windows.{ticks_total}
 use Rattle.plan.proofs.Windows.{padded_most}
 use Rattle.plan.proofs.timing.ticks_total.Goals as goal
 
-pub padded_lengths-frame-requires : goal.padded_lengths-frame-requires
-padded_lengths-frame-requires c = (c.requires.1, c.requires.2, λ slot below. c.requires.3 slot (omega arith))
-
 pub overflow_mul-result : goal.overflow_mul-result
 overflow_mul-result c =
     let start = c in

@@ -2,17 +2,12 @@
 use mathlib.Core.Path.{◌∙◌, refl, sym}
 use native.Mathlib.Omega.{arith}
 use Rattle.plan.specs.Validity.{declared_valid}
-use Rattle.plan.specs.Limits.{least_share, most_share}
 use Rattle.plan.proofs.Bits.{one_shifted}
-use Rattle.plan.proofs.ValidPlans.{limits}
 use Rattle.plan.proofs.validity.declared_valid.Goals as goal
 
 pub returns-then-not-is_within : goal.returns-then-not-is_within
 unfolding declared_valid
 returns-then-not-is_within c = let outside = sym c.is_within.ensures ∙ c.if-not-is_within.true in rw outside refl
-
-pub colours_of-colours-requires : goal.colours_of-colours-requires
-colours_of-colours-requires c = (limits least_share most_share _ (sym c.is_within.ensures ∙ c.if-not-is_within.false)).1
 
 pub returns : goal.returns
 unfolding declared_valid
