@@ -1,4 +1,5 @@
-// The entry points of a run: each looks at what it was lent, refuses or does its work, and answers every input.
+// The entry points of a run: each looks at what it was lent, refuses or does its work, and answers
+// every input.
 #![tactic(auto)]
 
 pub mod checks;
@@ -16,16 +17,17 @@ pub enum Ending {
 }
 
 // The log that a run is lent: a whole one, which is divided among the declared domains, or one
-// domain's part, with the domain and how many records a part holds. Not an Option: a None would have
-// to stand for the whole log. Nor one type with `Keep`: `run_keeping` takes the quota beside a Keep,
-// which holds for every domain.
+// domain's part, with the domain and how many records a part holds. Not an Option: a None would
+// have to stand for the whole log. Nor one type with `Keep`: `run_keeping` takes the quota beside a
+// Keep, which holds for every domain.
 #[derive(Clone, Copy)]
 pub enum LentLog {
     Whole,
     Part(u32, u64),
 }
 
-// What a run that was not refused answers, beside the state, the cache table, the boxes and the log.
+// What a run that was not refused answers, beside the state, the cache table, the boxes and the
+// log.
 #[derive(Drop)]
 pub struct Answer {
     // the number of steps done

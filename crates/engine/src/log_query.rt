@@ -9,6 +9,7 @@ use refusal::Refusal;
 use state::State;
 
 // One domain's records so far: the part of the lent log itself, empty where the query is refused.
+// No Result: document 01 has a status query beside it, which is the next function.
 pub fn log_of(plan: Plan, state: State, log: &[u8], domain: u32) -> &[u8]
     ensures { (result.now ≡ log_query_of plan state log.now domain)
         × (result.ref_ptr.0 ≡ log.entry.ref_ptr.0)

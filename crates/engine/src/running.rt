@@ -40,9 +40,9 @@ impl From<LentLog> for Keep {
     }
 }
 
-// Running with a limit, by the log that is lent; the state is rewritten where it lies. All runs go through here, so that there is one
-// copy of the machine, and checks and steps stand in one function, where the tables' lengths are
-// known.
+// Running with a limit, by the log that is lent; the state is rewritten where it lies. All runs go
+// through here, so that there is one copy of the machine, and checks and steps stand in one
+// function, where the tables' lengths are known.
 pub fn run_lent(
     lent: LentLog,
     plan: Plan,

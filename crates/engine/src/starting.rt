@@ -9,8 +9,8 @@ use plan::Plan;
 use refusal::Refusal;
 use state::{State, fresh_state};
 
-// A fresh start, and the state that it leaves, or a refusal that changes nothing, whatever the state
-// was.
+// A fresh start, and the state that it leaves, or a refusal that changes nothing, whatever the
+// state was.
 pub fn fresh_start(plan: Plan, cache: &mut [u16], boxes: &mut [u32]) -> Result<State, Refusal>
     ensures { (state : State)
         → fresh_with result state cache.new boxes.new

@@ -1,5 +1,5 @@
 // The number of a domain: one that is declared, or the one that is due next. Two functions that
-// differ in a test: with the test as a closure each would be as long as it is.
+// differ in a test: one with the test as a closure, with its contract, would save no line.
 ghost use Rattle.std.specs.Prelude.{◌≡◌};
 ghost use Rattle.forms.specs.Forms.{declared_domain, next_domain};
 

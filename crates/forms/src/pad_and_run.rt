@@ -1,5 +1,5 @@
-// The pad and run forms: one number each. Two functions of two lines: one for both would take the
-// two limits and the form as parameters, and each call be as long.
+// The pad and run forms: one number each. Two functions of two lines, as their definitions are two:
+// one for both, as number_op of syntax, would need a contract over any form made.
 ghost use Rattle.std.specs.Prelude.{◌≡◌};
 ghost use Rattle.forms.specs.Forms.{pad_form, run_form};
 

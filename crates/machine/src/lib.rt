@@ -22,7 +22,8 @@ pub struct Turn {
     pub records: u64,
 }
 
-// What the ops of one window answer, or these and its switch, beside the cache table, the boxes and the log.
+// What the ops of one window answer, or these and its switch, beside the cache table, the boxes and
+// the log.
 #[derive(Clone, Copy)]
 pub struct WindowProgress {
     // the number of steps done

@@ -28,7 +28,8 @@ use script::{Op, fetch};
 use state::State;
 
 // The switch: the clock raised to the window's end if lower, both flushes, the touch of the return
-// path, which the run's last switch empties again, and the pad. Answers the clock at the next window's start.
+// path, which the run's last switch empties again, and the pad. Answers the clock at the next
+// window's start.
 fn switch(cache: &mut [u16], clock: u64, end: u64, pad: u64, last: bool) -> u64
     requires { (length cache.old ≡ table_length) × (clock ≤ end + (dearest_op - 1)) × (end ≤ clock_bound) × (pad ≤ most_pad) }
     ensures { (result ≡ padded_clock end pad (touched_clock clock end cache.old))

@@ -1,5 +1,6 @@
 // The five ops: what each costs, shows and changes. An op is handed the rights and the masks of a
-// plan, and no more of it.
+// plan, and no more of it: as two, since a read or a write needs the masks alone, and a message the
+// rights.
 #![tactic(auto)]
 
 pub mod limits;
@@ -164,8 +165,8 @@ fn box_observation(sender: u8, number: u32) -> Observation
     }
 }
 
-// A receive from a sender. It stands apart from `send`: the sender's right is asked, and not the
-// running domain's, and the box is read before it is emptied, only where that right is there.
+// A receive from a sender. It stands apart from `send`: one function for both would be handed what
+// is done with the box and what is seen, both where the right is there and where not.
 fn receive(
     rights: &[u32; DOMAIN_ENTRIES],
     receiver: usize,

@@ -54,7 +54,7 @@ pub fn all_fit(plan: &[u32], state: &[u64], answer: &[u64]) -> bool
 }
 
 // 1 for ended, 0 for stopped: C's number for an ending. No `From`: only engine, the crate of its
-// type, could have it, and what C is told is said here alone.
+// type, could have it, and no function there answers numbers for C.
 pub fn ending_number(ending: Ending) -> u64
     ensures { result ≡ ending_number ending }
 {

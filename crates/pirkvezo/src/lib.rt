@@ -1,6 +1,6 @@
 // The library for programs in other languages: every entry point over numbers and slices. Each
 // takes any input, and returns the refusal's number. C lends each table by itself: so each is a
-// parameter of its own, here and in what is called from here.
+// parameter of its own.
 #![tactic(auto)]
 
 pub mod answers;
@@ -17,8 +17,8 @@ pub mod starting;
 pub mod states;
 pub mod writing;
 
-// Where a domain's log lies: the offset of its first byte within the lent log, and how many bytes it
-// has.
+// Where a domain's log lies: the offset of its first byte within the lent log, and how many bytes
+// it has.
 #[derive(Clone, Copy)]
 pub struct LogPart {
     pub offset: u64,

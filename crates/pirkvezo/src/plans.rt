@@ -1,6 +1,5 @@
-// A plan as numbers, each list of them at its offset. C lends slices of any length, and plan_fits
-// or all_fit has told theirs before: so the functions here ask for slices of plan_length numbers,
-// and take no array of them, for which a length would be tested again.
+// A plan as numbers, each list of them at its offset. The functions here ask for slices of
+// plan_length numbers, since the definitions plan_fits and all_fit test the lengths together.
 ghost use Rattle.std.specs.Prelude.{◌≡◌, true, ◌+◌, length};
 ghost use Rattle.plan.specs.Limits.{most_domains};
 ghost use Rattle.pirkvezo.specs.Numbers.{handed_plan, masks_fit, masks_offset, numbers_from};

@@ -1,4 +1,5 @@
-// A state as numbers, each list of them at its offset.
+// A state as numbers, each list of them at its offset. The functions here ask for slices of
+// state_length numbers, since the definition all_fit tests the lengths together.
 ghost use Rattle.std.specs.Prelude.{◌≡◌, length};
 ghost use Rattle.pirkvezo.specs.Numbers.{state_length, state_numbers, state_of};
 

@@ -6,8 +6,8 @@ use crate::answers::{plan_fits, put_answer, refuse, refuse_length};
 use crate::plans::load_plan;
 use writer::write_plan;
 
-// Writes the canonical text of a plan and a script store to the start of a buffer, and the number of
-// its bytes as the answer's third number. A refusal leaves the buffer.
+// Writes the canonical text of a plan and a script store to the start of a buffer, and the number
+// of its bytes as the answer's third number. A refusal leaves the buffer.
 #[unsafe(no_mangle)]
 pub extern "C" fn pirkvezo_write_plan(
     plan: &[u32],

@@ -129,8 +129,8 @@ pub extern "C" fn pirkvezo_step_bound(plan: &[u32], scripts: &[u32], answer: &mu
     bounding::pirkvezo_step_bound(plan, scripts, answer)
 }
 
-// Writes the canonical text of a plan and a script store to the start of a buffer, and the number of
-// its bytes as the answer's third number. A refusal leaves the buffer.
+// Writes the canonical text of a plan and a script store to the start of a buffer, and the number
+// of its bytes as the answer's third number. A refusal leaves the buffer.
 #[unsafe(no_mangle)]
 pub extern "C" fn pirkvezo_write_plan(
     plan: &[u32],

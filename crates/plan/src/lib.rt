@@ -14,7 +14,9 @@ use limits::{DOMAIN_ENTRIES, WINDOW_ENTRIES};
 // A plan as it was read: its numbers, and the colours that its shares give. There is no heap: the
 // arrays have a fixed length, and beside them stands how much of each is used; plan_valid asks for
 // zeros behind it. No invariant holds of a plan, since a caller may lend any numbers: a function
-// that needs one within limits, or a valid one, asks for it.
+// that needs one within limits, or a valid one, asks for it. Nor is there a type for a valid one:
+// theorems take a Plan and plan_valid of it. The arrays stand beside one another, since ops is lent
+// two of them whole, as rights and as masks.
 #[derive(Clone, Copy)]
 pub struct Plan {
     // ticks from a window's end to the next window's start

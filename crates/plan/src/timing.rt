@@ -1,4 +1,5 @@
-// Windows: whose they are, how long, when they start, and the run's total.
+// Windows: whose they are, how long, when they start, and the run's total. Functions take a plan
+// and a window, as the definitions window_owner, window_length and window_start do.
 ghost use Rattle.std.specs.Prelude.{◌≡◌, true, ℕ, ◌≤◌, ◌<◌, get_or};
 ghost use Rattle.plan.specs.Bounds.{TicksBounded};
 ghost use Rattle.plan.specs.Validity.{plan_valid};

@@ -15,8 +15,8 @@ use crate::limits::{
 use crate::sharing::{colours_of, colours_total, has_bit, masks_of, shares_total};
 use crate::timing::ticks_total;
 
-// Whether a number is within limits, both included. Not `contains` of a range, which is no shorter,
-// and has a way out before its second test.
+// Whether a number is within limits, both included. Not `contains` of a range, which has a way out
+// before its second test: here both are made.
 fn is_within(low: u32, high: u32, number: u32) -> bool
     ensures { result ≡ within low high number }
 {

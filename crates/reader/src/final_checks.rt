@@ -49,7 +49,8 @@ fn may_verdict(named: [usize; DOMAIN_ENTRIES], declared: u32) -> Result<(), Refu
     Err(Refusal::WrongDomain(found - 1))
 }
 
-// The lowest domain whose share gives no colour, or the number of domains.
+// The lowest domain whose share gives no colour; the number of domains where each gives one, and no
+// Option: so the definition first_colourless answers.
 fn first_colourless(plan: Plan) -> usize
     requires { SharesBounded plan }
     ensures { result ≡ first_colourless plan plan.domains 0 }

@@ -31,7 +31,8 @@ pub struct Draft {
 }
 
 // What lines come to: that they were taken up, and the draft with them; or the refusal, and beside
-// it the draft as it was before the refused line.
+// it the draft as it was before the refused line. No Result of a draft: the definition walk_from
+// tells the draft beside a refusal too.
 #[derive(Clone, Copy)]
 pub struct DraftResult {
     pub verdict: Result<(), Refusal>,

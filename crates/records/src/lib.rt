@@ -72,8 +72,8 @@ pub fn record_value(seen: Observation) -> u32
 }
 
 // Writes a record's bytes, by its kind and value, from an index of the log on: the log is lent
-// whole, as the contract of store_record tells what becomes of all of it. Not by to_le_bytes: of its
-// twelve bytes six are left out, and the other six would have to be named.
+// whole, as the contract of store_record tells what becomes of all of it. Byte by byte, as the
+// definition record_bytes: for to_le_bytes value and clock would first be cut, and then copied.
 fn write_record(log: &mut [u8], at: usize, kind: u8, value: u32, clock: u64)
     requires { at + record_size ≤ length log.old }
     ensures { (seen : Observation)

@@ -36,8 +36,8 @@ fn write_domain(out: &mut [u8], at: usize, domain: u32, log: &[u8]) -> usize
     next
 }
 
-// Writes the lines of every declared domain's log. That plan and state are valid is asked here and
-// by write_run, since log_of asks it.
+// Writes the lines of every declared domain's log. What is asked here and by write_run, a valid
+// plan and state and the log's length, keeps the end of the lines below 2 ^ 64.
 fn write_domains(out: &mut [u8], plan: Plan, state: State, log: &[u8]) -> usize
     requires { (plan_valid plan ≡ true)
         × (state_valid plan (part_records plan (length log.now)) state ≡ true)

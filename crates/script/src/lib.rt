@@ -92,8 +92,8 @@ fn decode(number: u32) -> Option<Op>
     op_of(number / KIND_UNIT, other as u8, value as u16)
 }
 
-// What stands at a position of a domain's script that has an entry in the store. The store is a
-// flat list that a caller lends, so that its length and the domain are asked for at each call.
+// What stands at a position of a domain's script that has an entry in the store. The store is flat,
+// as the definition fetch_of has it, so the domain is asked for each time.
 pub fn fetch(scripts: &[u32], domain: usize, position: u64) -> Option<Op>
     requires { (length scripts.now ≡ scripts_length)
         × (domain ≤ last_domain)

@@ -16,7 +16,8 @@ pub struct State {
     // windows completed
     pub windows: u64,
     pub clock: u64,
-    // each domain's position in its script
+    // each domain's position in its script; two arrays, as the definitions name each, and pirkvezo
+    // copies each whole from and to numbers
     pub positions: [u64; DOMAIN_ENTRIES],
     // each domain's number of records
     pub records: [u64; DOMAIN_ENTRIES],

@@ -1,4 +1,5 @@
-// State validity (14).
+// State validity (14). Parameters are those of the definitions state_valid and domain_counts_valid,
+// in their order.
 ghost use Rattle.std.specs.Prelude.{◌≡◌, true, ◌<◌};
 ghost use Rattle.plan.specs.Limits.{most_domains};
 ghost use Rattle.plan.specs.Validity.{plan_valid};

@@ -26,7 +26,8 @@ use script::limits::MOST_WORD;
 // divides the number of sets, so that no block reaches past the last.
 const SETS_PER_BLOCK: usize = 8;
 
-// An L1 number without its dirty mark. No `saturating_sub`: a number below the mark stays as it is.
+// An L1 number without its dirty mark, which the definition `unmarked` takes off. No
+// `saturating_sub`: a number below the mark stays as it is.
 fn without_mark(entry: u16) -> u16
     ensures { result ≡ unmarked entry }
 {
@@ -120,8 +121,8 @@ fn set_valid(cache: &[u16], set: usize) -> bool
 
 // Whether the sets of a block are valid: `count` sets from `first` on. Most blocks hold no line:
 // that is seen at once, before the sets are walked. All numbers are looked at, with no way out
-// before the last, so that the compiler can look at several at once. The walk is no `all`: its proof
-// did not close, since `count` is no number that all_below computes with.
+// before the last, so that the compiler can look at several at once. The walk is no `all`: tried,
+// and the proof for the sets from `first` on did not close.
 fn block_valid(cache: &[u16], first: usize, count: usize) -> bool
     requires { (length cache.now ≡ table_length) × (first + count ≤ set_count) }
     ensures { result ≡ all_below (λ k. set_valid cache.now (first + k)) count }
@@ -142,8 +143,8 @@ fn block_valid(cache: &[u16], first: usize, count: usize) -> bool
     true
 }
 
-// Whether every set is valid, block by block. A `for`: its proof goes by whole blocks, while an `all`
-// would tell of their first sets alone.
+// Whether every set is valid, block by block. A `for`: its proof goes by whole blocks, while an
+// `all` would tell of their first sets alone.
 fn sets_valid(cache: &[u16]) -> bool
     requires { length cache.now ≡ table_length }
     ensures { result ≡ all_below (set_valid cache.now) set_count }

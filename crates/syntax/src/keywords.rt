@@ -1,7 +1,7 @@
 // A word that is one of five. How many letters it has is looked at first: at most two of the five
 // are as long. Not a match on byte strings: of its last arm a proof is told nothing that it can
-// use. Two functions for each step, and no generic one: each would be handed its five words with
-// what they stand for, in as many lines as it has now.
+// use. Two functions for each step, and no generic one over a list of five words: that one would
+// look at each word in turn, and not at the lengths first.
 ghost use Rattle.std.specs.Prelude.{◌≡◌, ◌≤◌, length, Err};
 ghost use Rattle.syntax.specs.Keywords.{follows, form_words, keyword_at, op_words};
 

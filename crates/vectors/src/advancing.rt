@@ -1,4 +1,5 @@
-// The calls that run the machine. They hand on each table by itself, as C lends it.
+// The calls that run the machine. They hand on each table by itself, as C lends it. A plan's and a
+// state's length are asked for, since load_plan and load_state ask for them.
 ghost use Rattle.std.specs.Prelude.{◌≡◌, length};
 ghost use Rattle.pirkvezo.specs.Numbers.{plan_length, state_length};
 
@@ -44,8 +45,8 @@ fn advance_once(
     }
 }
 
-// A single step, by the engine's own entry point, or a run by the library's. A match, since each
-// call is another function with other parameters.
+// A single step, by the engine's own entry point, or a run by the library's. A match, and no
+// closure: each of the three would name the seven tables that are lent.
 pub fn advance(
     call: Call,
     plan: &[u32],

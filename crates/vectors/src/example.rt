@@ -1,7 +1,8 @@
 // The example at hand: its tables, and how much of each a call is lent.
 use pirkvezo::offsets::{PLAN_LENGTH, STATE_LENGTH};
 
-// Each table is one number longer than it has to be, so that a wrong length can be lent too.
+// Each table whose length is told beside it has room for a wrong length: one number more than it
+// has to have; a log may have any length.
 pub const TEXT_ROOM: usize = 32_769;
 
 pub const SCRIPTS_ROOM: usize = 2_049;

@@ -75,7 +75,7 @@ pub fn lend(example: &mut Example, fields: &[u8]) {
     }
 }
 
-// Sets a number of a list; past its end nothing.
+// Sets a number of a list; past its end nothing. Not the `store` of lexer, which is of bytes alone.
 fn put<T: Copy>(list: &mut [T], index: usize, number: T) {
     if index < list.len() {
         list[index] = number;

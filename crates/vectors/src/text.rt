@@ -1,5 +1,6 @@
 // The lines of a plan's text, each written behind the one before. There is no heap: the text is a
-// fixed room, and how much of it is written goes along.
+// fixed room of the example, and how much of it is written is a field beside it, as of each table
+// there; so they go along as two.
 use crate::example::Example;
 use crate::fields::{number, rest, word};
 

@@ -1,7 +1,7 @@
 // The plan writer: a plan and its scripts as a text in the single form, or a refusal. A buffer and
 // an offset are handed on, and no slice of the rest: what lies past the buffer's end is left out,
-// and the end that is answered may lie past it. What functions ask of it, of a plan and of the
-// store are single facts, each with other numbers.
+// and the end that is answered may lie past it. What functions ask of it and of a plan are single
+// facts, each with other numbers.
 #![tactic(auto)]
 
 mod lines;

@@ -35,7 +35,7 @@ fn write_recipient(out: &mut [u8], at: usize, rights: u32, domain: u32) -> usize
     write_numbered(out, at, b" ", domain as u64)
 }
 
-// Writes the recipients of a domain.
+// Writes the recipients of a domain, by a loop of its own, as each kind of line has in `text`.
 fn write_recipients(out: &mut [u8], at: usize, rights: u32) -> usize
     requires { at + length (spaced (recipients_of rights)) + 1 + widest_digits < 2 ^ 64 }
     ensures { Wrote out.old at (spaced (recipients_of rights)) out.new result }
@@ -71,7 +71,8 @@ pub fn write_window(out: &mut [u8], at: usize, owner: u32, ticks: u32) -> usize
     write_bytes(out, long, b"))")
 }
 
-// Writes the line of the run.
+// Writes the line of the run. Not one function with write_pad: it would be handed the word and the
+// number, and write no less.
 pub fn write_run(out: &mut [u8], at: usize, times: u32) -> usize
     requires { at + length (bytes_of "\n" ++ run_text times) + widest_digits < 2 ^ 64 }
     ensures { Wrote out.old at (bytes_of "\n" ++ run_text times)

@@ -1,5 +1,5 @@
 // Whether a script store holds its ops alone: a 0 at every index that no op of a declared domain
-// stands at.
+// stands at. The parameters of a function are those of the definition written_ops, in its order.
 ghost use Rattle.std.specs.Prelude.{◌≡◌, ◌≤◌, ◌<◌, length};
 ghost use Rattle.plan.specs.Limits.{most_domains};
 ghost use Rattle.plan.specs.Sums.{all_below};

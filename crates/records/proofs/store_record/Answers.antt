@@ -3,7 +3,6 @@ use mathlib.Core.Path.{refl}
 use Rattle.records.specs.Records.{stored_at}
 use Rattle.records.proofs.store_record.Goals as goal
 
--- the record has its room in the log
 pub returns-in-Some : goal.returns-in-Some
 unfolding stored_at
 returns-in-Some c =

@@ -3,7 +3,6 @@ use mathlib.Core.Path.{refl}
 use Rattle.cache.specs.Flush.{line_emptied}
 use Rattle.cache.proofs.flush.empty_line.Goals as goal
 
--- the second store is within the table still
 pub returns : goal.returns
 unfolding line_emptied
 returns c = refl
