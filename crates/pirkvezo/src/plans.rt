@@ -12,18 +12,12 @@ use crate::offsets::{
 use plan::limits::{DOMAIN_ENTRIES, WINDOW_ENTRIES};
 use plan::{Plan, no_plan};
 
-// Whether the lent colour masks have at most 16 bits. By index, as the definition masks_fit has it:
-// with `iter().all(..)` over the part of the masks the search for a proof gave up.
+// Whether the lent colour masks have at most 16 bits.
 fn masks_fit(numbers: &[u32]) -> bool
     requires { length numbers.now ≡ plan_length }
     ensures { result ≡ masks_fit numbers.now }
 {
-    for domain in 0..DOMAIN_ENTRIES {
-        if MOST_MASK < numbers[MASKS_OFFSET + domain] {
-            return false;
-        }
-    }
-    true
+    (0..DOMAIN_ENTRIES).all(|domain| numbers[MASKS_OFFSET + domain] <= MOST_MASK)
 }
 
 // The eight colour masks, where they fit. By index: what masks_fit says of each index is what lets

@@ -10,8 +10,7 @@ ghost use Rattle.plan.specs.Limits.{most_length, most_pad, most_run, most_window
 
 use crate::Plan;
 
-// The ticks of the first declared windows with their pads, once through. A for over the slots, of
-// which the definition padded_length is.
+// The ticks of the first declared windows with their pads, once through.
 fn padded_lengths(plan: Plan, count: usize) -> u64
     requires { (count ≤ most_windows) × (plan.pad ≤ most_pad)
         × ((slot : ℕ) → slot < count → get_or plan.lengths slot 0 ≤ most_length) }
@@ -19,12 +18,8 @@ fn padded_lengths(plan: Plan, count: usize) -> u64
 {
     // The lengths alone: an index into the plan copies all of it, 5 ns for each call in a step.
     let lengths = plan.lengths;
-    let pad = plan.pad as u64;
-    let mut total: u64 = 0;
-    for i in 0..count {
-        total += lengths[i] as u64 + pad;
-    }
-    total
+    let pad = u64::from(plan.pad);
+    (0..count).map(|slot| u64::from(lengths[slot]) + pad).sum()
 }
 
 // The run's total of ticks.

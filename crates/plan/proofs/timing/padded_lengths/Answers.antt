@@ -1,24 +1,34 @@
 -- `plan::timing::padded_lengths` meets its contract. Assumes nothing.
-use mathlib.Core.Path.{refl}
+use mathlib.Core.Path.{◌∙◌, refl}
 use Prim.Native.Nat.{◌*◌, ◌+◌, ◌≤◌, ℕ}
 use native.Mathlib.Omega.{arith}
 use lib.ListN.{get_or}
+use Rattle.std.proofs.Common.{rules}
+use Rattle.std.specs.List.{range_with_len}
+use Rattle.std.proofs.lemmas.Iterator.{YieldsList-from_map, YieldsList-from_range}
+use Rattle.std.proofs.lemmas.Iterator.Consumers.{YieldsList-at, fits_by_from_yields_list, sum_by_from_yields_List}
 use Rattle.plan.specs.Sums.{sum_to}
-use Rattle.plan.proofs.Sums.{sum_more, sum_most}
+use Rattle.plan.proofs.Sums.{sum_most, sum_range}
 use Rattle.plan.proofs.timing.padded_lengths.Goals as goal
 
-pub loop-i-init : goal.loop-i-init
-unfolding sum_to
-loop-i-init c = refl
-
-pub overflow_add-total-in-loop-i : goal.overflow_add-total-in-loop-i
-overflow_add-total-in-loop-i c =
+pub sum-requires-clause-fits : goal.sum-requires-clause-fits
+sum-requires-clause-fits c =
     let start = c in
-    let loop = c.loop-i in
+    let count = c.args.count in
     let rule : ℕ → ℕ = λ slot. get_or start.args.plan.lengths slot 0 + start.args.plan.pad in
-    let most : sum_to rule loop.i ≤ 2_000_000 * loop.i =
-    sum_most rule 2_000_000 loop.i (λ slot below. omega (arith, start.requires.2 slot (omega arith), start.requires)) in
-    omega (arith, start.requires.2 loop.i (omega arith), start.requires, loop.invariant)
+    let most : sum_to rule count ≤ 2_000_000 * count =
+    sum_most rule 2_000_000 count (λ slot below. omega (arith, start.requires.2 slot below, start.requires)) in
+    fits_by_from_yields_list rule (range_with_len 0 count) c.map.result _
+    (YieldsList-from_map _ rule (YieldsList-at c.map.ensures.source (YieldsList-from_range 0 count count refl (omega arith)))
+    c.map.ensures.closure (λ slot ticks after call. search rules))
+    (rw (sum_range rule count) (omega (arith, start.requires)))
 
-pub loop-i-preserved : goal.loop-i-preserved
-loop-i-preserved c = sum_more _ _ c.loop-i.i c.loop-i.invariant
+pub returns : goal.returns
+returns c =
+    let start = c in
+    let count = c.args.count in
+    let rule : ℕ → ℕ = λ slot. get_or start.args.plan.lengths slot 0 + start.args.plan.pad in
+    sum_by_from_yields_List rule (range_with_len 0 count) c.map.result _ c.sum.ensures.ran
+    (YieldsList-from_map _ rule (YieldsList-at c.map.ensures.source (YieldsList-from_range 0 count count refl (omega arith)))
+    c.map.ensures.closure (λ slot ticks after call. search rules))
+    ∙ sum_range rule count
