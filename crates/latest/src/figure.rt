@@ -50,7 +50,8 @@ fn box_indices(plan: Plan, domain: u32) -> u32
     if !has_box(plan, domain) {
         return 0;
     }
-    u32::from(!meets_kernel(plan, domain))
+    let met = meets_kernel(plan, domain);
+    u32::from(!met)
 }
 
 // How many boxes' lines their set can hold at once.

@@ -35,7 +35,8 @@ pub fn lowest_colour(plan: Plan, domain: u32) -> u32
     requires { domain < most_domains }
     ensures { result ≡ lowest_colour plan domain }
 {
-    lowest_bit(plan.masks[domain as usize] as u32, DOMAIN_COLOURS)
+    let masks = plan.masks;
+    lowest_bit(masks[domain as usize] as u32, DOMAIN_COLOURS)
 }
 
 // The lowest domain that a domain may send to; `MOST_DOMAINS` where there is none.
@@ -43,7 +44,8 @@ pub fn lowest_recipient(plan: Plan, domain: u32) -> u32
     requires { domain < most_domains }
     ensures { result ≡ lowest_recipient plan domain }
 {
-    lowest_bit(plan.rights[domain as usize], MOST_DOMAINS)
+    let rights = plan.rights;
+    lowest_bit(rights[domain as usize], MOST_DOMAINS)
 }
 
 // Whether there is a box that a domain may fill or empty.
@@ -63,8 +65,9 @@ fn boxes_with(plan: Plan, domain: u32, other: u32) -> u32
     ensures { result
         ≡ cond (may_send plan domain other) 1 0 + cond (may_send plan other domain) 1 0 }
 {
-    let filled = u32::from(has_bit(plan.rights[domain as usize], other));
-    let emptied = u32::from(has_bit(plan.rights[other as usize], domain));
+    let rights = plan.rights;
+    let filled = u32::from(has_bit(rights[domain as usize], other));
+    let emptied = u32::from(has_bit(rights[other as usize], domain));
     filled + emptied
 }
 

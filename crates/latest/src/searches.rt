@@ -39,9 +39,10 @@ pub fn lowest_sender(plan: Plan, domain: u32) -> u32
     requires { domain < most_domains }
     ensures { result ≡ lowest_sender plan domain }
 {
+    let rights = plan.rights;
     lowest_below(
         MOST_DOMAINS,
-        |sender| has_bit(plan.rights[sender as usize], domain),
+        |sender| has_bit(rights[sender as usize], domain),
     )
 }
 
@@ -50,5 +51,6 @@ pub fn first_window(plan: Plan, domain: u32) -> u32
     requires { plan.windows ≤ most_windows }
     ensures { result ≡ first_window plan domain }
 {
-    lowest_below(plan.windows, |slot| plan.owners[slot as usize] == domain)
+    let owners = plan.owners;
+    lowest_below(plan.windows, |slot| owners[slot as usize] == domain)
 }

@@ -122,9 +122,10 @@ fn waiting_ticks(plan: Plan, domain: u32) -> u32
     requires { Fitting plan domain }
     ensures { result ≡ waiting_ticks plan domain }
 {
+    let lengths = plan.lengths;
     let first = first_window(plan, domain);
     let written = written_ticks(plan, domain);
-    plan.lengths[first as usize] - 1 - written
+    lengths[first as usize] - 1 - written
 }
 
 // The last op in the run's first window: a message that fills or empties a box; without a box the

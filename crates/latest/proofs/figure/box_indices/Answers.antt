@@ -16,5 +16,5 @@ pub returns : goal.returns
 unfolding box_indices
 returns c =
     c.from.ensures
-    ∙ number_of_not c.meets_kernel.result
-    ∙ simp (← c.has_box.ensures, c.if-not-has_box.false, ← c.meets_kernel.ensures)
+    ∙ number_of_not c.meets_kernel-met.result
+    ∙ simp (← c.has_box.ensures, c.if-not-has_box.false, ← c.meets_kernel-met.ensures)

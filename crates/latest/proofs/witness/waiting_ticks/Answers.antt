@@ -9,8 +9,8 @@ use Rattle.latest.proofs.witness.waiting_ticks.Goals as goal
 pub first_window-first-requires : goal.first_window-first-requires
 first_window-first-requires c = (counts _ c.requires.0).windows_most
 
-pub bounds-plan-first : goal.bounds-plan-first
-bounds-plan-first c = rw c.first_window-first.ensures (first_window_lem _ _ c.requires).below
+pub bounds-lengths-first : goal.bounds-lengths-first
+bounds-lengths-first c = rw c.first_window-first.ensures (first_window_lem _ _ c.requires).below
 
 pub overflow_sub-result : goal.overflow_sub-result
 overflow_sub-result c =
