@@ -1,5 +1,5 @@
 -- Counting the numbers of a part that pass a test, one after the other from its front. Assumes nothing.
-use Prim.Native.Nat.{ℕ, suc, ◌+◌, ◌<◌}
+use Prim.Native.Nat.{ℕ, suc, ◌+◌, ◌-◌, ◌<◌}
 use mathlib.Core.Path.{◌≡◌, refl, ap, ◌∙◌}
 use mathlib.Core.Bool.{Bool, cond}
 use mathlib.Core.List.{List, [], ◌∷◌, ◌++◌}
@@ -44,3 +44,12 @@ module _ (test : ℕ → Bool) where
       → count + one ≡ count_where test (part at (walked + 1) table)
   count_more at walked count one table within so_far is =
       rw (add-one walked, part_last at walked table within, count_last, so_far, is)
+
+  -- a part that is lent by the index behind its last number
+  pub count_lent :
+      (at left : ℕ) (table : List ℕ)
+      → count_where test (take (at + left - at) (drop at table)) ≡ count_where test (part at left table)
+  unfolding part
+  count_lent at left table =
+      let many : at + left - at ≡ left = omega arith in
+      ap (λ (count : ℕ). count_where test (take count (drop at table))) many

@@ -1,7 +1,8 @@
 // The two flushes of a switch: the kernel's sets, and L1. Each counts what it empties, since that
 // is what its ticks depend on. And a line that is emptied without cost.
-ghost use Rattle.std.specs.Prelude.{◌≡◌, length, ltb};
-ghost use Rattle.cache.specs.Lines.{table_length};
+ghost use Rattle.std.specs.Prelude.{◌≡◌, ◌+◌, ◌≤◌, length, ltb};
+ghost use Rattle.lists.specs.Part.{part};
+ghost use Rattle.cache.specs.Lines.{is_dirty, is_valid, kernel_entries, l1_length, table_length};
 ghost use Rattle.cache.specs.Flush.{count_where, kernel_flushed, kernel_flush_ticks, l1_flushed};
 ghost use Rattle.cache.specs.Flush.{l1_flush_ticks, line_emptied};
 
@@ -21,6 +22,22 @@ fn count_over(mark: u16, numbers: &[u16]) -> u64
     over
 }
 
+// The dirty lines among `left` numbers from an index on.
+fn count_dirty(numbers: &[u16], at: usize, left: usize) -> u64
+    requires { (length numbers.now ≡ l1_length) × (at + left ≤ l1_length) }
+    ensures { result ≡ count_where is_dirty (part at left numbers.now) }
+{
+    count_over(DIRTY_MARK, &numbers[at..at + left])
+}
+
+// The valid lines among `left` numbers from an index on.
+fn count_valid(numbers: &[u16], at: usize, left: usize) -> u64
+    requires { (length numbers.now ≡ kernel_entries) × (at + left ≤ kernel_entries) }
+    ensures { result ≡ count_where is_valid (part at left numbers.now) }
+{
+    count_over(0, &numbers[at..at + left])
+}
+
 // Empties the kernel's sets, the last of the table, and answers the ticks that it takes. They end
 // where the table does: with a constant for their number the compiler would join the flush's own
 // ticks with the count of the first, and count the others piece by piece, which takes longer.
@@ -31,7 +48,7 @@ pub fn flush_kernel(table: &mut [u16]) -> u64
 {
     let from = KERNEL_INDEX;
     let to = table.len();
-    let valid = count_over(0, &table[from..to]);
+    let valid = count_valid(&table[from..to], 0, to - from);
     table[from..to].fill(0);
     FLUSH_TICKS + valid
 }
@@ -43,7 +60,7 @@ pub fn flush_l1(table: &mut [u16]) -> u64
     ensures { (result ≡ l1_flush_ticks table.old)
         × (table.new ≡ l1_flushed table.old) }
 {
-    let dirty = count_over(DIRTY_MARK, &table[..L1_LENGTH]);
+    let dirty = count_dirty(&table[..L1_LENGTH], 0, L1_LENGTH);
     table[..L1_LENGTH].fill(0);
     FLUSH_TICKS + DIRTY_LINE_TICKS * dirty
 }

@@ -19,7 +19,6 @@ use Rattle.machine.specs.Steps.{run_by, steps}
 use Rattle.machine.specs.View.{world_with}
 use Rattle.reachable.proofs.Ending.{ends}
 use Rattle.reachable.proofs.Reached.{boxes_length_lem, cache_length, log_length_lem, state_is_valid, tables_are_valid}
-use Rattle.engine.specs.Answers.{fresh_with}
 use Rattle.engine.specs.declared.Ending.TheVariants.{Ended}
 use Rattle.engine.specs.Checks.{fresh_verdict, run_verdict}
 use Rattle.machine.specs.Fresh.{fresh_world, reached_world}
@@ -30,12 +29,12 @@ use Rattle.refusal.specs.Verdict.{Verdict}
 
 -- a fresh start under a possible plan, on tables of the right lengths, gives the world from which runs start
 pub started_fresh :
-    (plan : Plan) (old fresh : State) (cache boxes log : List ℕ)
+    (plan : Plan) (old fresh : State) (verdict : Verdict) (cache boxes log : List ℕ)
     → plan_valid plan ≡ true
-    → fresh_with (Ok fresh) old cache boxes ≡ fresh_start_of plan old empty_table empty_boxes
+    → record { verdict = verdict; state = fresh; cache = cache; boxes = boxes } ≡ fresh_start_of plan old empty_table empty_boxes
     → world_with fresh cache boxes log ≡ fresh_world log
 unfolding fresh_start_of fresh_world fresh_verdict
-started_fresh plan old fresh cache boxes log possible did =
+started_fresh plan old fresh verdict cache boxes log possible did =
     let accepted : fresh_verdict plan empty_table empty_boxes ≡ Ok tt = rw possible refl in
     let started = did ∙ ap (λ (v : Verdict). fresh_from v old empty_table empty_boxes) accepted in
     ap (λ (f : FreshOutcome). world_with f.state f.cache f.boxes log) started

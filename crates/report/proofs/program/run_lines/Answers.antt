@@ -64,7 +64,7 @@ world_is plan scripts fresh cache boxes ran last lastCache lastBoxes log possibl
     sym (left_is ran last lastCache lastBoxes log)
     ∙ ap (λ (r : RunOutcome). r.world) did
     ∙ ap (λ (w : World). (run_call_of plan scripts w largest_limit).world)
-    (started_fresh plan fresh fresh cache boxes lent_log possible (started fresh))
+    (started_fresh plan fresh fresh (Ok tt) cache boxes lent_log possible (started fresh))
 
 -- and its state is valid
 left_by :
