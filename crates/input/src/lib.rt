@@ -1,15 +1,24 @@
 // Reading input into an array, as the programs do.
 #![tactic(auto)]
 
-ghost use Rattle.std.specs.Prelude.{◌≤◌, length, IfOk};
+ghost use Rattle.std.specs.Io.KnownBytes.{Consumes};
+ghost use Rattle.std.specs.IoError.{error_kind};
+ghost use Rattle.std.specs.Prelude.{◌≡◌, ◌≢◌, ◌≤◌, ℕ, length, take, IfErr, IfOk, OnErr};
 
 use std::io;
 use std::io::{ErrorKind, Read};
 
 // Reads until the buffer is full or the input ends, and answers how many bytes there are. A read
-// that a signal interrupts is made again.
+// that a signal interrupts is made again. On an error the buffer begins with what was read before.
+// No clause says that a buffer left short met the input's end: the loop's turns can run out too.
 pub fn read_full<R: Read>(reader: &mut R, buffer: &mut [u8]) -> io::Result<usize>
-    ensures { IfOk result (λ count. count ≤ length buffer.new) }
+    ensures within { IfOk result (λ count. count ≤ length buffer.new) }
+    ensures length { length buffer.new ≡ length buffer.old }
+    ensures bytes { IfOk result (λ count. Consumes (R.remaining reader.old) (R.remaining reader.new)
+        (take count buffer.new)) }
+    ensures none_lost { OnErr result ((count : ℕ) × (count ≤ length buffer.new)
+        × Consumes (R.remaining reader.old) (R.remaining reader.new) (take count buffer.new)) }
+    ensures retried { IfErr result (λ error. error_kind error ≢ ErrorKind.Interrupted) }
 {
     let mut count: usize = 0;
     for _ in 0..u64::MAX {

@@ -13,7 +13,7 @@ use pirkvezo::states::{load_state, store_state};
 // A call that runs the machine: a single step; a run with a limit; a run that keeps one domain's
 // log, with the domain, how many records a part holds, and the limit.
 #[derive(Clone, Copy)]
-pub enum Call {
+pub(crate) enum Call {
     Step,
     Run(u64),
     Kept(u32, u64, u64),
@@ -47,7 +47,7 @@ fn advance_once(
 
 // A single step, by the engine's own entry point, or a run by the library's. A match, and no
 // closure: each of the three would name the seven tables that are lent.
-pub fn advance(
+pub(crate) fn advance(
     call: Call,
     plan: &[u32],
     scripts: &[u32],

@@ -40,7 +40,7 @@ fn part(bytes: &[u8], offset: usize, count: usize) -> &[u8] {
 }
 
 // read LABEL: read the text. The next example's text begins anew.
-pub fn read(rt: &impl Print, example: &mut Example, fields: &[u8]) -> io::Result<()> {
+pub(crate) fn read(rt: &impl Print, example: &mut Example, fields: &[u8]) -> io::Result<()> {
     let mut answer = [0u64; ANSWER_LENGTH];
     pirkvezo_read_plan(
         lent(&example.text, example.text_length),
@@ -54,7 +54,7 @@ pub fn read(rt: &impl Print, example: &mut Example, fields: &[u8]) -> io::Result
 }
 
 // fresh LABEL: a fresh start.
-pub fn fresh(rt: &impl Print, example: &mut Example, fields: &[u8]) -> io::Result<()> {
+pub(crate) fn fresh(rt: &impl Print, example: &mut Example, fields: &[u8]) -> io::Result<()> {
     let mut answer = [0u64; ANSWER_LENGTH];
     pirkvezo_fresh_start(
         &example.plan,
@@ -70,7 +70,12 @@ pub fn fresh(rt: &impl Print, example: &mut Example, fields: &[u8]) -> io::Resul
 // run LABEL N: run with limit N. step LABEL: a single step. kept LABEL D PART N: run with limit N,
 // keeping the log of domain D, where a part holds PART records. Prints number, companion, steps,
 // ending, windows completed and clock.
-pub fn run(rt: &impl Print, example: &mut Example, call: Call, fields: &[u8]) -> io::Result<()> {
+pub(crate) fn run(
+    rt: &impl Print,
+    example: &mut Example,
+    call: Call,
+    fields: &[u8],
+) -> io::Result<()> {
     let mut answer = [0u64; ANSWER_LENGTH];
     advance(
         call,
@@ -91,7 +96,7 @@ pub fn run(rt: &impl Print, example: &mut Example, call: Call, fields: &[u8]) ->
 }
 
 // The call of a line `kept LABEL D PART N`.
-pub fn kept_call(fields: &[u8]) -> Call {
+pub(crate) fn kept_call(fields: &[u8]) -> Call {
     let numbers = rest(fields);
     let domain = word32(numbers);
     let part = number(rest(numbers));
@@ -110,14 +115,14 @@ fn print_flushes(rt: &impl Print, cache: &mut [u16]) -> io::Result<()> {
 
 // flush LABEL: the two flushes of a switch. Prints their ticks, which no run shows: they are within
 // every pad.
-pub fn flush(rt: &impl Print, example: &mut Example, fields: &[u8]) -> io::Result<()> {
+pub(crate) fn flush(rt: &impl Print, example: &mut Example, fields: &[u8]) -> io::Result<()> {
     print(rt, word(fields))?;
     print_flushes(rt, lent_mut(&mut example.cache, example.cache_length))?;
     print(rt, b"\n")
 }
 
 // log LABEL D: the status query for the log of domain D, then the records of the log query.
-pub fn query_log(rt: &impl Print, example: &Example, fields: &[u8]) -> io::Result<()> {
+pub(crate) fn query_log(rt: &impl Print, example: &Example, fields: &[u8]) -> io::Result<()> {
     let mut answer = [0u64; ANSWER_LENGTH];
     pirkvezo_log(
         &example.plan,
@@ -135,7 +140,7 @@ pub fn query_log(rt: &impl Print, example: &Example, fields: &[u8]) -> io::Resul
 }
 
 // buffer LABEL COUNT: the first records of the log, as a run leaves them that keeps one domain's.
-pub fn show_buffer(rt: &impl Print, example: &Example, fields: &[u8]) -> io::Result<()> {
+pub(crate) fn show_buffer(rt: &impl Print, example: &Example, fields: &[u8]) -> io::Result<()> {
     let count = small(rest(fields)).min(LOG_ROOM / RECORD_SIZE);
     print(rt, word(fields))?;
     print_records(rt, lent(&example.log, RECORD_SIZE * count))?;
@@ -154,7 +159,7 @@ fn weights(fields: &[u8]) -> [u32; DOMAIN_ENTRIES] {
 }
 
 // frame LABEL N WEIGHT..: a frame of N windows by up to eight weights.
-pub fn make_frame(rt: &impl Print, example: &mut Example, fields: &[u8]) -> io::Result<()> {
+pub(crate) fn make_frame(rt: &impl Print, example: &mut Example, fields: &[u8]) -> io::Result<()> {
     let mut answer = [0u64; ANSWER_LENGTH];
     pirkvezo_frame(
         word32(rest(fields)),
@@ -167,7 +172,7 @@ pub fn make_frame(rt: &impl Print, example: &mut Example, fields: &[u8]) -> io::
 }
 
 // bound LABEL: how many steps a run from a fresh start can take. Prints the answer's four numbers.
-pub fn ask_bound(rt: &impl Print, example: &Example, fields: &[u8]) -> io::Result<()> {
+pub(crate) fn ask_bound(rt: &impl Print, example: &Example, fields: &[u8]) -> io::Result<()> {
     let mut answer = [0u64; ANSWER_LENGTH];
     pirkvezo_step_bound(
         &example.plan,
@@ -182,7 +187,7 @@ pub fn ask_bound(rt: &impl Print, example: &Example, fields: &[u8]) -> io::Resul
 
 // latest LABEL D FIRST COUNT: the latest that domain D can finish, with COUNT numbers of the
 // scripts, from index FIRST on, as the buffer for its script. Prints the answer's four numbers.
-pub fn ask_latest(rt: &impl Print, example: &mut Example, fields: &[u8]) -> io::Result<()> {
+pub(crate) fn ask_latest(rt: &impl Print, example: &mut Example, fields: &[u8]) -> io::Result<()> {
     let mut answer = [0u64; ANSWER_LENGTH];
     let buffer = rest(rest(fields));
     let first = small(buffer).min(SCRIPTS_ROOM);
@@ -206,7 +211,7 @@ fn untouched(bytes: &[u8]) -> usize {
 
 // write LABEL ROOM: the canonical text, in a buffer of ROOM bytes. Prints the answer's four numbers
 // and how many bytes past the text are untouched; where it is accepted, then the text in [ ].
-pub fn write_plan(rt: &impl Print, example: &Example, fields: &[u8]) -> io::Result<()> {
+pub(crate) fn write_plan(rt: &impl Print, example: &Example, fields: &[u8]) -> io::Result<()> {
     let mut room = [FILLER; OUT_ROOM];
     let out = lent_mut(&mut room, number(rest(fields)) as usize);
     let mut answer = [0u64; ANSWER_LENGTH];

@@ -37,7 +37,7 @@ fn obey(rt: &impl Print, example: &mut Example, line: &[u8]) -> io::Result<()> {
 }
 
 // Does what every line of the input says, in order.
-pub fn obey_all(rt: &impl Print, input: &[u8]) -> io::Result<()> {
+pub(crate) fn obey_all(rt: &impl Print, input: &[u8]) -> io::Result<()> {
     let mut example = first_example();
     for line in input.split(|byte| *byte == b'\n') {
         obey(rt, &mut example, line)?;

@@ -3,20 +3,20 @@ use pirkvezo::offsets::{PLAN_LENGTH, STATE_LENGTH};
 
 // Each table whose length is told beside it has room for a wrong length: one number more than it
 // has to have; a log may have any length.
-pub const TEXT_ROOM: usize = 32_769;
+pub(crate) const TEXT_ROOM: usize = 32_769;
 
-pub const SCRIPTS_ROOM: usize = 2_049;
+pub(crate) const SCRIPTS_ROOM: usize = 2_049;
 
-pub const CACHE_ROOM: usize = 273;
+pub(crate) const CACHE_ROOM: usize = 273;
 
-pub const BOXES_ROOM: usize = 65;
+pub(crate) const BOXES_ROOM: usize = 65;
 
-pub const LOG_ROOM: usize = 4_096;
+pub(crate) const LOG_ROOM: usize = 4_096;
 
-pub const FRAME_ROOM: usize = 33;
+pub(crate) const FRAME_ROOM: usize = 33;
 
 #[derive(Drop)]
-pub struct Example {
+pub(crate) struct Example {
     pub text: [u8; TEXT_ROOM],
     pub text_length: usize,
     pub plan: [u32; PLAN_LENGTH],
@@ -34,7 +34,7 @@ pub struct Example {
 }
 
 // The example before the first command.
-pub fn first_example() -> Example {
+pub(crate) fn first_example() -> Example {
     Example {
         text: [0u8; TEXT_ROOM],
         text_length: 0,

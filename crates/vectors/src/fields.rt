@@ -13,18 +13,18 @@ fn find_space(line: &[u8]) -> usize
 }
 
 // The first word of a line.
-pub fn word(line: &[u8]) -> &[u8] {
+pub(crate) fn word(line: &[u8]) -> &[u8] {
     &line[..find_space(line)]
 }
 
 // The fields behind the first word.
-pub fn rest(line: &[u8]) -> &[u8] {
+pub(crate) fn rest(line: &[u8]) -> &[u8] {
     let next = find_space(line) + 1;
     &line[next.min(line.len())..]
 }
 
 // The number that the first field is. A word, as `largest`, is the largest number; nothing is 0.
-pub fn number(fields: &[u8]) -> u64 {
+pub(crate) fn number(fields: &[u8]) -> u64 {
     let Lookahead::Run(first) = lookahead_at(fields, 0) else {
         return 0;
     };
@@ -46,13 +46,13 @@ fn named_number(name: &[u8]) -> u64 {
 }
 
 // The same, small enough to count on from.
-pub fn small(fields: &[u8]) -> usize
+pub(crate) fn small(fields: &[u8]) -> usize
     ensures { result < 65_536 }
 {
     (number(fields) % 65_536) as usize
 }
 
 // The same, as wide as a number of a plan.
-pub fn word32(fields: &[u8]) -> u32 {
+pub(crate) fn word32(fields: &[u8]) -> u32 {
     (number(fields) % 4_294_967_296) as u32
 }

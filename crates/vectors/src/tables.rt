@@ -60,7 +60,7 @@ fn area_of(name: &[u8]) -> Area
 
 // lend TABLE N: a call is lent N numbers or bytes of that table. A log that is lent has no record
 // yet: every byte is 238.
-pub fn lend(example: &mut Example, fields: &[u8]) {
+pub(crate) fn lend(example: &mut Example, fields: &[u8]) {
     let length = number(rest(fields)) as usize;
     match area_of(word(fields)).table {
         Table::Scripts => example.scripts_length = length,
@@ -83,7 +83,7 @@ fn put<T: Copy>(list: &mut [T], index: usize, number: T) {
 }
 
 // set AREA INDEX N: a number of a table. What is no other table is the plan.
-pub fn set(example: &mut Example, fields: &[u8]) {
+pub(crate) fn set(example: &mut Example, fields: &[u8]) {
     let area = area_of(word(fields));
     let index = area.first + small(rest(fields));
     let last = rest(rest(fields));
@@ -121,7 +121,7 @@ fn number_at(example: &Example, table: Table, index: usize) -> u64 {
 }
 
 // show LABEL AREA FIRST COUNT: numbers of a table, or bytes of the log.
-pub fn show(rt: &impl Print, example: &Example, fields: &[u8]) -> io::Result<()> {
+pub(crate) fn show(rt: &impl Print, example: &Example, fields: &[u8]) -> io::Result<()> {
     let named = rest(fields);
     let area = area_of(word(named));
     let first = area.first + small(rest(named));
@@ -134,7 +134,7 @@ pub fn show(rt: &impl Print, example: &Example, fields: &[u8]) -> io::Result<()>
 }
 
 // window LABEL N: the owner and the length of window N.
-pub fn show_window(rt: &impl Print, example: &Example, fields: &[u8]) -> io::Result<()> {
+pub(crate) fn show_window(rt: &impl Print, example: &Example, fields: &[u8]) -> io::Result<()> {
     let window = small(rest(fields));
     print(rt, word(fields))?;
     print_number(rt, entry(&example.plan, OWNERS_OFFSET + window))?;

@@ -42,6 +42,6 @@ fn write_line(text: &mut [u8], written: usize, line: &[u8]) -> usize {
     }
 }
 
-pub fn write(example: &mut Example, line: &[u8]) {
+pub(crate) fn write(example: &mut Example, line: &[u8]) {
     example.text_length = write_line(&mut example.text, example.text_length, line);
 }
