@@ -349,7 +349,9 @@ mod tests {
             Faulty::LogOneShort,
         ];
         for fault in faults {
-            assert!(agrees(&fault, 50).is_err(), "{fault:?} was not found out");
+            // It ends at the first difference. A short pad is the rarest to show: once in some
+            // hundreds of tests fifty cases had none.
+            assert!(agrees(&fault, 2000).is_err(), "{fault:?} was not found out");
         }
     }
 }
