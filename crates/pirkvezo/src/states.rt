@@ -1,26 +1,36 @@
 // A state as numbers, each list of them at its offset. The functions here ask for slices of
 // state_length numbers, since the definition all_fit tests the lengths together.
-ghost use Rattle.std.specs.Prelude.{◌≡◌, length};
-ghost use Rattle.pirkvezo.specs.Numbers.{state_length, state_numbers, state_of};
+ghost use Rattle.std.specs.Prelude.{◌≡◌, ◌+◌, ◌≤◌, length};
+ghost use Rattle.plan.specs.Limits.{most_domains};
+ghost use Rattle.pirkvezo.specs.Numbers.{numbers_from, state_length, state_numbers, state_of};
 
 use crate::offsets::{CLOCK_OFFSET, COMPLETED_OFFSET, POSITIONS_OFFSET, RECORDS_OFFSET};
 use plan::limits::DOMAIN_ENTRIES;
 use state::State;
+
+// Eight numbers from an offset on. By index: with a copy of the slice a step takes up to a tenth
+// longer.
+fn take_counts(numbers: &[u64], first: usize) -> [u64; DOMAIN_ENTRIES]
+    requires { first + most_domains ≤ length numbers.now }
+    ensures { result ≡ numbers_from numbers.now first most_domains }
+{
+    let mut taken = [0u64; DOMAIN_ENTRIES];
+    for i in 0..DOMAIN_ENTRIES {
+        taken[i] = numbers[first + i];
+    }
+    taken
+}
 
 // The state that lent numbers stand for.
 pub fn load_state(numbers: &[u64]) -> State
     requires { length numbers.now ≡ state_length }
     ensures { result ≡ state_of numbers.now }
 {
-    let mut positions = [0u64; DOMAIN_ENTRIES];
-    let mut records = [0u64; DOMAIN_ENTRIES];
-    positions.copy_from_slice(&numbers[POSITIONS_OFFSET..POSITIONS_OFFSET + DOMAIN_ENTRIES]);
-    records.copy_from_slice(&numbers[RECORDS_OFFSET..RECORDS_OFFSET + DOMAIN_ENTRIES]);
     State {
         windows: numbers[COMPLETED_OFFSET],
         clock: numbers[CLOCK_OFFSET],
-        positions,
-        records,
+        positions: take_counts(numbers, POSITIONS_OFFSET),
+        records: take_counts(numbers, RECORDS_OFFSET),
     }
 }
 
