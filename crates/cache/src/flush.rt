@@ -1,6 +1,6 @@
 // The two flushes of a switch: the kernel's sets, and L1. Each counts what it empties, since that
 // is what its ticks depend on. And a line that is emptied without cost.
-ghost use Rattle.std.specs.Prelude.{◌≡◌, ◌+◌, ◌≤◌, length, ltb};
+ghost use Rattle.std.specs.Prelude.{◌≡◌, ◌+◌, ◌≤◌, length};
 ghost use Rattle.lists.specs.Part.{part};
 ghost use Rattle.cache.specs.Lines.{is_dirty, is_valid, kernel_entries, l1_length, table_length};
 ghost use Rattle.cache.specs.Flush.{count_where, kernel_flushed, kernel_flush_ticks, l1_flushed};
@@ -10,24 +10,17 @@ use crate::limits::{
     DIRTY_LINE_TICKS, DIRTY_MARK, FLUSH_TICKS, KERNEL_INDEX, L1_LENGTH, SET_COUNT, WAYS_PER_SET,
 };
 
-// How many numbers are over a mark: over the dirty mark those of dirty lines, and over 0 those of
-// valid ones.
-fn count_over(mark: u16, numbers: &[u16]) -> u64
-    ensures { result ≡ count_where (ltb mark) numbers.now }
-{
-    let mut over = 0;
-    for &number in numbers {
-        over += u64::from(mark < number);
-    }
-    over
-}
-
-// The dirty lines among `left` numbers from an index on.
+// The dirty lines among `left` numbers from an index on, as its contract has them. A loop of its
+// own, as `count_valid` has one: the paper speaks of two counts, and each has its contract.
 fn count_dirty(numbers: &[u16], at: usize, left: usize) -> u64
     requires { (length numbers.now ≡ l1_length) × (at + left ≤ l1_length) }
     ensures { result ≡ count_where is_dirty (part at left numbers.now) }
 {
-    count_over(DIRTY_MARK, &numbers[at..at + left])
+    let mut dirty = 0;
+    for &number in &numbers[at..at + left] {
+        dirty += u64::from(DIRTY_MARK < number);
+    }
+    dirty
 }
 
 // The valid lines among `left` numbers from an index on.
@@ -35,7 +28,11 @@ fn count_valid(numbers: &[u16], at: usize, left: usize) -> u64
     requires { (length numbers.now ≡ kernel_entries) × (at + left ≤ kernel_entries) }
     ensures { result ≡ count_where is_valid (part at left numbers.now) }
 {
-    count_over(0, &numbers[at..at + left])
+    let mut valid = 0;
+    for &number in &numbers[at..at + left] {
+        valid += u64::from(0 < number);
+    }
+    valid
 }
 
 // Empties the kernel's sets, the last of the table, and answers the ticks that it takes. They end

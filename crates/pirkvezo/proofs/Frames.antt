@@ -2,13 +2,14 @@
 use Rattle.std.specs.Prelude.{Ok, Err}
 use mathlib.Core.Path.{◌≡◌, refl, sym, ap, subst, ◌∙◌}
 use mathlib.Core.Bool.{Bool, true, false, and-eq-true_iff}
-use mathlib.Core.List.{List}
+use mathlib.Core.List.{List, [], ◌++◌, append-nil}
 use mathlib.Core.Logic.{◌⊎◌, inl, inr}
-use Prim.Native.Nat.{ℕ}
+use Prim.Native.Nat.{ℕ, ◌≤◌}
 use native.Mathlib.Omega.{arith}
 use lib.Dec.{eqb}
-use lib.ListN.{length, replicate}
+use lib.ListN.{drop, length, replicate, length-drop}
 use borrow.Author.Tests.{eqb-true}
+use Rattle.std.proofs.lemmas.List.{nil_from_length}
 use Rattle.frame.specs.Frame.{FrameAnswer}
 use Rattle.frame.specs.Frame.{frame_answer_of, frame_of, inputs_valid}
 use Rattle.frame.specs.Theorems.{FrameByWeights}
@@ -35,6 +36,12 @@ frame_lengths weights frame answer fit =
     let first = (and-eq-true_iff (eqb (length weights) most_domains) _).0 fit in
     let second = (and-eq-true_iff (eqb (length frame) most_windows) _).0 first.1 in
     record { weights_are = eqb-true _ _ first.0; frame_is = eqb-true _ _ second.0; answer_is = eqb-true _ _ second.1 }
+
+-- a list that is rewritten from its front is all rewritten where no number stands behind
+pub written_whole : (old written : List ℕ) (count : ℕ) → length old ≤ count → written ++ drop count old ≡ written
+written_whole old written count whole =
+    let none : drop count old ≡ [] = nil_from_length (drop count old) (simp length-drop (omega arith)) in
+    rw none (append-nil written)
 
 module _ (count : ℕ) (weights frame answer : List ℕ) (number : ℕ) (written : List ℕ) where
   pub frame_unfit :

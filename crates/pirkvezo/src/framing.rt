@@ -28,7 +28,7 @@ pub extern "C" fn pirkvezo_frame(
     handed.copy_from_slice(weights);
     match make_frame(count, handed) {
         Ok(windows) => {
-            frame.copy_from_slice(&windows);
+            frame[..WINDOW_ENTRIES].copy_from_slice(&windows[..WINDOW_ENTRIES]);
             put_answer(answer, Ok(()), 0, 0)
         }
         Err(refusal) => {

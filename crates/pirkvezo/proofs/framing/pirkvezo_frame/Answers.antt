@@ -3,12 +3,13 @@ use native.Mathlib.Omega.{arith}
 use Prim.Native.Nat.{ℕ}
 use mathlib.Core.Path.{◌≡◌, ap, sym, ◌∙◌}
 use Rattle.std.specs.Prelude.{Ok, Err}
-use lib.ListN.{length, replicate}
+use lib.ListN.{length, replicate, length-take}
+use lib.Seq.{length-take-le}
 use Rattle.plan.specs.Limits.{most_windows}
 use Rattle.frame.specs.Frame.{FrameAnswer, frame_answer}
 use Rattle.frame.proofs.Making.{made_entries}
 use Rattle.pirkvezo.proofs.Calls.{told}
-use Rattle.pirkvezo.proofs.Frames.{frame_fit, frame_lengths, frame_unfit}
+use Rattle.pirkvezo.proofs.Frames.{frame_fit, frame_lengths, frame_unfit, written_whole}
 use Rattle.pirkvezo.proofs.framing.pirkvezo_frame.Goals as goal
 
 pub returns-then-not-weights-frame : goal.returns-then-not-weights-frame
@@ -23,6 +24,12 @@ copy_from_slice-requires c =
     let long = frame_lengths start.weights.now start.frame.now start.answer.now c.if-not-weights-frame.false in
     omega (arith, long.weights_are)
 
+pub slice_bounds-copy_from_slice-end-in-Ok-2 : goal.slice_bounds-copy_from_slice-end-in-Ok-2
+slice_bounds-copy_from_slice-end-in-Ok-2 c =
+    let start = c.args in
+    let long = frame_lengths start.weights.now start.frame.now start.answer.now c.if-not-weights-frame.false in
+    sym (length-take-le _ start.frame.now (omega (arith, long.frame_is)))
+
 pub copy_from_slice-requires-in-Ok : goal.copy_from_slice-requires-in-Ok
 copy_from_slice-requires-in-Ok c =
     let start = c.args in
@@ -30,16 +37,17 @@ copy_from_slice-requires-in-Ok c =
     let made = ap frame_answer (sym c.in-Ok.is) ∙ c.make_frame.ensures in
     let full : length c.in-Ok.windows ≡ most_windows =
     ap (λ (frame_made : FrameAnswer). length frame_made.frame) made ∙ made_entries _ _ in
-    omega (arith, full, long.frame_is)
+    simp length-take (omega (arith, full, long.frame_is))
 
 pub returns-in-Ok : goal.returns-in-Ok
 returns-in-Ok c =
     let start = c.args in
+    let long = frame_lengths start.weights.now start.frame.now start.answer.now c.if-not-weights-frame.false in
     frame_fit start.count start.weights.now start.frame.now start.answer.now _ _ _ _ (frame_answer (Ok c.in-Ok.windows))
     c.if-not-weights-frame.false
     c.copy_from_slice.ensures.after
     (ap frame_answer (sym c.in-Ok.is) ∙ c.make_frame.ensures)
-    c.copy_from_slice-in-Ok.ensures.after
+    (written_whole start.frame.now _ most_windows (omega (arith, long.frame_is)) ∙ c.copy_from_slice-in-Ok.ensures.after)
     (told c.put_answer.ensures)
 
 pub returns-in-Err : goal.returns-in-Err

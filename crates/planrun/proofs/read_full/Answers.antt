@@ -1,12 +1,12 @@
--- `input::read_full` meets its contract: each read adds what it took. Assumes nothing.
+-- `planrun::read_full` meets its contract: each read adds what it took. Assumes nothing.
 use Rattle.std.proofs.Common.{◌≡◌, ◌+◌, ◌-◌, ◌≤◌, ◌∙◌, ◌++◌, List, Option, ap, arith, le_refl, length, length-take-le, rules, subst, sym, take, ℕ}
 use borrow.Rule.Slice.PartMut.{post_of, put_mid}
 use lib.Seq.{take-append-add, take-append-le}
 use Rattle.std.specs.Io.KnownBytes.{Consumes, Keeps}
 use Rattle.std.proofs.KnownBytes.{Consumes-kept, Consumes-trans}
 use Rattle.std.proofs.lemmas.Slice.{take-put_mid_below}
-use Rattle.input.proofs.read_full.Goals.{in-Ok, in-Err+else-ne}
-use Rattle.input.proofs.read_full.Goals as goal
+use Rattle.planrun.proofs.read_full.Goals.{in-Ok, in-Err+else-ne}
+use Rattle.planrun.proofs.read_full.Goals as goal
 
 module _ (count room : ℕ) (old read : List ℕ) (within : count ≤ length old) where
   -- what a read puts into the rest of a buffer stands right behind what was read before
