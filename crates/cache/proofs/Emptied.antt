@@ -10,7 +10,7 @@ use Rattle.lists.specs.Part.{part, splice}
 use Rattle.cache.specs.Flush.{count_where}
 
 -- `count` numbers from the index `first` on are emptied, and the others stay
-emptied_part :
+pub emptied_part :
     (first count : ℕ) (fresh table : List ℕ)
     → first + count ≤ length table
     → fresh ≡ replicate (length (take count (drop first table))) 0

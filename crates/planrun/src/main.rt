@@ -14,8 +14,9 @@ use std::io::{ErrorKind, Read};
 // Reads until the buffer is full or the input ends, and answers how many bytes there are. A read
 // that a signal interrupts is made again. On an error the buffer begins with what was read before.
 // No clause says that a buffer left short met the input's end: the loop's turns can run out too.
-// `vectors` has the same loop. Shared it would be public, and a public function has an equation for
-// each buffer that it is lent: `read` tells nothing of what stands behind the bytes that it counts.
+// `vectors` and the library `input` have the same loop. Here it is private: every public function but
+// that of `input` has an equation for each buffer that it is lent, and `read` tells nothing of what
+// stands behind the bytes that it counts.
 fn read_full<R: Read>(reader: &mut R, buffer: &mut [u8]) -> io::Result<usize>
     ensures within { IfOk result (λ count. count ≤ length buffer.new) }
     ensures length { length buffer.new ≡ length buffer.old }
