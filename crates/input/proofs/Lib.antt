@@ -1,0 +1,2 @@
+-- The laws of reading that other crates cite.
+pub mod Reading
